@@ -1,0 +1,93 @@
+-- The walk over the fields of a body. The idea: at the loop's head the span and the rules of all fields are those found so far, completed by the
+-- fields of the bits that are left, from the place reached on (`Walking`); a turn takes the first of these (`walking-turn`).
+use mathlib.Core.Path.{_≡_, refl, sym, ap, _∙_}
+use mathlib.Core.Bool.{Bool, true, false}
+use mathlib.Core.List.{List, [], _∷_}
+use Prim.Native.Nat.{ℕ, suc, _+_, _*_, _%_, _^_, _≤_, _<_}
+use native.Mathlib.Omega.{arith}
+use lib.ListN.{length, drop}
+use lib.Seq.{drop-drop}
+use Rattle.words.specs.Tests.{both}
+use Rattle.words.specs.SetBits.{bitsOf}
+use Rattle.words.proofs.Cases.{both-assoc}
+use Rattle.words.proofs.SetBitLaws.{bits-trim, bits-few, bits-mod}
+use Rattle.fields.specs.Sizes.{wordsOf}
+use Rattle.fields.specs.Rules.{ruleOf}
+use Rattle.fields.specs.Layout.{spanOf, obeyed, carried, indicatorOf, bodyWords}
+
+pub record Walking (bits : ℕ) (body : List ℕ) (n rest end : ℕ) (kept : Bool) (i : ℕ) : Type 0 where
+  pub fits : rest < 2 ^ 32
+  pub few : n ≤ 32
+  pub left : i + length (bitsOf 32 rest) ≡ n
+  pub near : end ≤ 1 + i * 2 ^ 33
+  pub span : end + spanOf (bitsOf 32 rest) (drop end body) ≡ 1 + spanOf (bitsOf 31 bits) (drop 1 body)
+  pub rules : both kept (obeyed (bitsOf 32 rest) (drop end body)) ≡ obeyed (bitsOf 31 bits) (drop 1 body)
+
+-- ---- one field more
+
+span-cons : (b w at : ℕ) (bs body : List ℕ) → w ≡ wordsOf b (drop at body) → spanOf (b ∷ bs) (drop at body) ≡ w + spanOf bs (drop (at + w) body)
+unfolding spanOf
+span-cons b w at bs body e = rw (← e, drop-drop)
+
+rules-cons : (b w at : ℕ) (bs body : List ℕ) → w ≡ wordsOf b (drop at body)
+    → obeyed (b ∷ bs) (drop at body) ≡ both (ruleOf b (drop at body)) (obeyed bs (drop (at + w) body))
+unfolding obeyed
+rules-cons b w at bs body e = rw (← e, drop-drop)
+
+-- ---- the loop: its start, a turn, its end
+
+pub walking-start : (bits n : ℕ) (body : List ℕ) → bits < 2 ^ 31 → n ≡ length (bitsOf 31 bits) → Walking bits body n bits 1 true 0
+walking-start bits n body h e =
+    let same : bitsOf 32 bits ≡ bitsOf 31 bits = bits-trim 31 32 bits (omega arith) h in
+    record {
+      fits = omega arith;
+      few = omega (arith, bits-few 31 bits);
+      left = omega (arith, ap length same);
+      near = omega arith;
+      span = rw same;
+      rules = rw same;
+    }
+
+pub walking-turn : {bits n rest end i : ℕ} {body : List ℕ} {kept : Bool} → Walking bits body n rest end kept i
+    → (b rest′ w : ℕ) (kept′ ok : Bool) → bitsOf 32 rest ≡ b ∷ bitsOf 32 rest′ → rest′ < rest
+    → w ≡ wordsOf b (drop end body) → w ≤ 2 ^ 33 → ok ≡ ruleOf b (drop end body) → kept′ ≡ both kept ok
+    → Walking bits body n rest′ (end + w) kept′ (i + 1)
+walking-turn {bits} {n} {rest} {end} {i} {body} {kept} p b rest′ w kept′ ok cut less size small rule all =
+    let more : List ℕ = bitsOf 32 rest′ in
+    let spans : spanOf (bitsOf 32 rest) (drop end body) ≡ w + spanOf more (drop (end + w) body) =
+    ap (λ (l : List ℕ). spanOf l (drop end body)) cut ∙ span-cons b w end more body size in
+    let obeys : obeyed (bitsOf 32 rest) (drop end body) ≡ both ok (obeyed more (drop (end + w) body)) =
+    ap (λ (l : List ℕ). obeyed l (drop end body)) cut ∙ rw rule (rules-cons b w end more body size) in
+    record {
+      fits = omega (arith, p .fits);
+      few = p .few;
+      left = omega (arith, p .left, ap length cut);
+      near = omega (arith, p .near);
+      span = omega (arith, p .span, spans);
+      rules = rw all (both-assoc kept ok (obeyed more (drop (end + w) body)) ∙ ap (both kept) (sym obeys) ∙ p .rules);
+    }
+
+both-true : (t : Bool) → t ≡ both t true
+both-true true = refl
+both-true false = refl
+
+none-left : (l : List ℕ) → length l ≤ 0 → l ≡ []
+none-left [] h = refl
+none-left (b ∷ l) h = absurd (omega arith)
+
+pub walking-end : {bits n rest end i : ℕ} {body : List ℕ} {kept : Bool} → Walking bits body n rest end kept i → n ≤ i
+    → (end ≡ 1 + spanOf (bitsOf 31 bits) (drop 1 body)) × (kept ≡ obeyed (bitsOf 31 bits) (drop 1 body))
+unfolding spanOf obeyed
+walking-end {bits} {n} {rest} {end} {i} {body} {kept} p h =
+    let e : bitsOf 32 rest ≡ [] = none-left (bitsOf 32 rest) (omega (arith, p .left)) in
+    (omega (arith, rw e at (p .span)), both-true kept ∙ rw e at (p .rules))
+
+-- ---- the walk over all fields of a body, whose indicator is w
+
+pub walked-words : (w end : ℕ) (body : List ℕ) → w ≡ indicatorOf body → end ≡ 1 + spanOf (bitsOf 31 (w % 2 ^ 31)) (drop 1 body) → bodyWords body ≡ end
+unfolding bodyWords
+walked-words w end body e h = rw (h, bits-mod 31 w, e)
+
+pub walked-rules : (w : ℕ) (kept : Bool) (body : List ℕ) → w ≡ indicatorOf body → kept ≡ obeyed (bitsOf 31 (w % 2 ^ 31)) (drop 1 body)
+    → obeyed (carried (indicatorOf body)) (drop 1 body) ≡ kept
+walked-rules w kept body e h = rw (h, bits-mod 31 w, e)

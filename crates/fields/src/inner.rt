@@ -1,0 +1,15 @@
+// What the crates above use of the fields: the next field, sizes, rules and the walk over a body.
+mod carried;
+mod format;
+mod layout;
+mod rules;
+mod sizes;
+
+pub use carried::Next;
+pub use carried::next_field;
+pub use format::format_ok;
+pub use layout::Walked;
+pub use layout::walk;
+pub use rules::rule_at;
+pub use sizes::size_of;
+pub use sizes::words_at;

@@ -1,0 +1,82 @@
+// How many words the field of each indicator bit takes.
+ghost use mathlib.Core.Path.{_≡_};
+ghost use mathlib.Core.List.{[], _∷_};
+ghost use Prim.Native.Nat.{_^_, _≤_, _<_};
+ghost use lib.ListN.{drop};
+ghost use Rattle.fields.specs.Sizes.{sizeOf, asciiWords, listWords, wordsOf};
+
+// Document 01, "Words for each bit": the fields of fixed size by their bit, 0 where a bit has none.
+const SIZES: [usize; 32] = [
+    0,
+    0,
+    0,
+    0,
+    0,
+    0,
+    0,
+    0,
+    0,
+    0,
+    1,
+    13,
+    13,
+    11,
+    11,
+    2,
+    1,
+    2,
+    1,
+    1,
+    2,
+    2,
+    1,
+    1,
+    1,
+    2,
+    2,
+    2,
+    2,
+    2,
+    1,
+    0,
+];
+
+// The words of a field of fixed size.
+pub fn size_of(bit: u32) -> usize
+    requires { ⌜ bit < 32 ⌝ }
+    ensures { λ r. ⌜ (r ≡ sizeOf bit) × (r ≤ 13) ⌝ }
+{
+    SIZES[bit as usize]
+}
+
+// The words of field 9 at a place of a body.
+fn ascii_words(body: &[u32], at: usize) -> usize
+    requires { ⌜ at < 2 ^ 40 ⌝ }
+    ensures { λ r. ⌜ (r ≡ asciiWords (drop at (now (body .entry)))) × (r ≤ 2 ^ 33) ⌝ }
+{
+    2 + words::inner::word_at(body, at + 1) as usize
+}
+
+// The words of field 8, by its two first words.
+fn list_words(a: u32, b: u32) -> u32
+    ensures { λ r. ⌜ (r ≡ listWords (a ∷ b ∷ [])) × (r ≤ 2 ^ 18) ⌝ }
+{
+    2 + a / 0x1_0000 % 512 + a % 512 + b / 0x1_0000 % 0x1_0000 + b % 0x8000 * (1 + b / 0x8000 % 2)
+}
+
+// The words of the field of a bit that stands at a place of a body.
+pub fn words_at(bit: u32, body: &[u32], at: usize) -> usize
+    requires { ⌜ (bit < 32) × (at < 2 ^ 40) ⌝ }
+    ensures { λ r. ⌜ (r ≡ wordsOf bit (drop at (now (body .entry)))) × (r ≤ 2 ^ 33) ⌝ }
+{
+    if bit == 9 {
+        return ascii_words(body, at);
+    }
+    if bit == 8 {
+        return list_words(
+            words::inner::word_at(body, at),
+            words::inner::word_at(body, at + 1),
+        ) as usize;
+    }
+    size_of(bit)
+}

@@ -1,0 +1,54 @@
+-- Definitions that go by tests: the rule set for `search`, case splits, and what an accepted answer says of the tests before it.
+use mathlib.Core.Path.{_≡_, refl}
+use mathlib.Core.Bool.{Bool, true, false}
+use mathlib.Core.Logic.{_⊎_, inl, inr, ⊎-elim}
+use Prim.Native.Nat.{ℕ, zero, suc, _≤_, _<_, zero-le, suc-le-suc}
+use native.Mathlib.Omega.{arith}
+use borrow.Author.Needs.{needs}
+use borrow.Author.Tests.{lt-ltb, le-ltb, le-leb, lt-leb, eq-eqb, ne-eqb}
+use Rattle.words.specs.Tests.{pick, both}
+use Rattle.words.specs.Outcome.{Outcome, refused, accepted}
+
+-- for `search`: `search cases` closes most returns of a function that goes by tests on numbers
+pub ruleset cases = (needs, eq-eqb, ne-eqb, lt-ltb, le-ltb, le-leb, lt-leb)
+
+-- ---- splits
+pub le-or-lt : (a b : ℕ) → (a ≤ b) ⊎ (b < a)
+le-or-lt zero b = inl zero-le
+le-or-lt (suc a) zero = inr (suc-le-suc zero-le)
+le-or-lt (suc a) (suc b) = ⊎-elim (λ p. inl (suc-le-suc p)) (λ q. inr (suc-le-suc q)) (le-or-lt a b)
+
+pub true-or-false : (t : Bool) → (t ≡ true) ⊎ (t ≡ false)
+true-or-false true = inl refl
+true-or-false false = inr refl
+
+pub true-is-false : true ≡ false → ⊥
+true-is-false e = let z : _≡_ {A = ℕ} 0 1 = cc in omega arith
+
+-- ---- tests joined
+pub both-left : (a b : Bool) → both a b ≡ true → a ≡ true
+both-left true b e = refl
+both-left false b e = e
+
+pub both-right : (a b : Bool) → both a b ≡ true → b ≡ true
+both-right true b e = e
+both-right false b e = absurd (true-is-false (cc))
+
+pub both-no : (a : Bool) → both a false ≡ false
+both-no true = refl
+both-no false = refl
+
+pub both-assoc : (a b c : Bool) → both (both a b) c ≡ both a (both b c)
+both-assoc true b c = refl
+both-assoc false b c = refl
+
+-- ---- chains of refusals
+module _ {A : Type 0} where
+  -- one test of a chain was passed
+  pub passed : (t : Bool) (n : ℕ) (o : Outcome A) (a : A) → pick t (refused n) o ≡ accepted a → (t ≡ false) × (o ≡ accepted a)
+  passed true n o a e = let z : _≡_ {A = ℕ} 0 1 = cc in absurd (omega arith)
+  passed false n o a e = (refl, e)
+
+  -- an accepted answer has one value
+  pub accepted-same : {a b : A} → accepted a ≡ accepted b → a ≡ b
+  accepted-same e = cc

@@ -1,0 +1,18 @@
+-- The laws that the crates above cite, each beside its kin.
+
+-- what `search` is handed for a definition that goes by tests; chains of refusals; tests joined
+pub mod Cases
+-- two answers that meet one promise are equal
+pub mod Once
+-- a word and its fields
+pub mod WordLaws
+-- set bits, leading zeros, counts of ones
+pub mod SetBitLaws
+-- parts of lists
+pub mod PartLaws
+-- runs of writes
+pub mod LaidLaws
+-- a copy of words
+mod CopyLaws
+-- a test at every number below a bound
+pub mod AllLaws

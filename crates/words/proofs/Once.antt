@@ -1,0 +1,13 @@
+-- Two answers that meet one promise are equal. The idea: `paper` has a left inverse, `back`, so an answer is what `back` makes of the promise.
+use mathlib.Core.Path.{_≡_, sym, ap, _∙_}
+use Rattle.words.specs.Outcome.{Outcome, Done, Meets}
+
+pub once {ℓ ℓ′} : {A : Type ℓ} {B : Type ℓ′} (paper : A → B) (back : B → A) → ((a : A) → back (paper a) ≡ a)
+    → {want : B} {a b : A} → paper a ≡ want → paper b ≡ want → a ≡ b
+once paper back left {want} {a} {b} p q = sym (left a) ∙ ap back (p ∙ sym q) ∙ left b
+
+-- and the buffer that the call was lent
+pub meets-once : {A B L : Type 0} (paper : A → Outcome B) (back : Outcome B → A) → ((a : A) → back (paper a) ≡ a)
+    → {want : Outcome (Done B L)} {before after after′ : L} {r s : A} → Meets paper want before r after → Meets paper want before s after′
+    → (r ≡ s) × (after ≡ after′)
+meets-once paper back left p q = (once paper back left (p .answer) (q .answer), p .buffer ∙ sym (q .buffer))

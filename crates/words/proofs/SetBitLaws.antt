@@ -1,0 +1,155 @@
+-- The set bits of a number. The idea: the list begins with the number's highest set bit, which `leading_zeros` names, and goes on as the list of
+-- the number without it; so a loop that takes the highest bit off walks the list. Stated over any width.
+use mathlib.Core.Path.{_≡_, refl, sym, ap, _∙_, subst}
+use mathlib.Core.Bool.{Bool, true, false}
+use mathlib.Core.Logic.{⊎-elim}
+use mathlib.Core.List.{List, [], _∷_, _++_}
+use Prim.Native.Nat.{ℕ, zero, suc, _+_, _-_, _*_, _/_, _%_, _^_, _≤_, _<_, zero-le}
+use native.Mathlib.Nat.{pow-suc, le-of-lt, lt-of-lt-of-le, div-eq-of-lt, div-eq-of-lt-le, add-mul-div-right, add-mul-mod-self-right, mul-assoc, mul-comm, mod-lt, mod-eq-of-lt, eq-zero-or-pos, mod-one, one-mul, lt-of-le-of-lt, le-of-suc-le-suc, add-comm}
+use native.Mathlib.Numerals.{one-add}
+use native.Mathlib.Decide.{le-ind}
+use native.Mathlib.Omega.{arith}
+use borrow.Author.Tests.{lt-ltb, le-ltb}
+use lib.Dec.{eqb, ltb}
+use lib.Pow as Pow
+use lib.Pow.{pow-mono, pow-pos, mod-pow-add}
+use lib.ListN.{length}
+use lib.Count.{ones, ones-cat, leadingZeros, leading-top}
+use Rattle.words.specs.Tests.{pick}
+use Rattle.words.specs.Word.{has}
+use Rattle.words.specs.SetBits.{bitsOf, above}
+
+nil-cons : {x : ℕ} {xs : List ℕ} → [] ≡ x ∷ xs → ⊥
+nil-cons e = let z : _≡_ {A = ℕ} 0 1 = cc in omega arith
+
+-- ---- bits that are not there
+has-above : (n k : ℕ) → n < 2 ^ k → has n k ≡ false
+has-above n k h = rw (div-eq-of-lt h)
+
+-- a number below 2 ^ j has no set bit from j up
+pub bits-trim : (j k n : ℕ) → j ≤ k → n < 2 ^ j → bitsOf k n ≡ bitsOf j n
+unfolding bitsOf
+bits-trim j k n le h = le-ind (λ (m : ℕ). bitsOf m n ≡ bitsOf j n) refl (λ m q e. rw (has-above n m (lt-of-lt-of-le h (pow-mono q))) e) k le
+
+pub bits-none : (k n : ℕ) → n ≤ 0 → bitsOf k n ≡ []
+unfolding bitsOf
+bits-none k n h = bits-trim 0 k n zero-le (omega arith)
+
+-- a number with a bit set is not 0
+pub bits-some : (k n : ℕ) → 0 < length (bitsOf k n) → 0 < n
+bits-some k n h = ⊎-elim (λ (e : n ≡ 0). absurd (omega (arith, ap length (bits-none k n (omega arith))))) (λ p. p) (eq-zero-or-pos n)
+
+-- the bits below i do not see what stands from i up
+pub bits-low : (i a m : ℕ) → bitsOf i (m + a * 2 ^ i) ≡ bitsOf i m
+unfolding bitsOf
+bits-low zero a m = refl
+bits-low (suc i) a m =
+    let e : a * 2 ^ suc i ≡ (a * 2) * 2 ^ i = rw (pow-suc, mul-comm (2 ^ i) 2, mul-assoc) in
+    rw (e, add-mul-div-right m (a * 2) (pow-pos i), add-mul-mod-self-right, bits-low i (a * 2) m)
+
+pub bits-mod : (k n : ℕ) → bitsOf k (n % 2 ^ k) ≡ bitsOf k n
+bits-mod k n = sym (bits-low k (n / 2 ^ k) (n % 2 ^ k)) ∙ ap (bitsOf k) (add-comm (n % 2 ^ k) (n / 2 ^ k * 2 ^ k) ∙ Pow.split n k)
+
+-- ---- the highest bit
+pub bits-top : (k j n : ℕ) → j < k → 2 ^ j ≤ n → n < 2 ^ suc j → bitsOf k n ≡ j ∷ bitsOf k (n - 2 ^ j)
+unfolding bitsOf
+bits-top k j n lt ge h =
+    let one : n / 2 ^ j ≡ 1 = div-eq-of-lt-le (2 ^ j) (omega arith) (omega (arith, rw pow-suc at h)) in
+    let less : n - 2 ^ j < 2 ^ j = omega (arith, rw pow-suc at h) in
+    let same : bitsOf j n ≡ bitsOf j (n - 2 ^ j) = ap (bitsOf j) (omega arith) ∙ bits-low j 1 (n - 2 ^ j) in
+    rw (bits-trim (suc j) k n lt h, one, same, bits-trim j k (n - 2 ^ j) (le-of-lt lt) less)
+
+-- what a program computes of a word n of k + 1 bits that is not 0: the place of its highest set bit, and the power of 2 there as a shift of 1
+module _ (k n : ℕ) (p : 0 < n) (h : n < 2 ^ suc k) where
+  abbrev place : ℕ
+  place = k - leadingZeros (suc k) n
+
+  abbrev shifted : ℕ
+  shifted = (1 * 2 ^ place) % 2 ^ suc k
+
+  pub leading-small : leadingZeros (suc k) n ≤ k
+  leading-small = let t = leading-top (suc k) n p h in omega (arith, t .1)
+
+  place-top : place ≡ leading-top (suc k) n p h .0
+  place-top = omega (arith, leading-top (suc k) n p h .1)
+
+  shift-top : shifted ≡ 2 ^ (leading-top (suc k) n p h .0)
+  shift-top = let t = leading-top (suc k) n p h in rw (place-top, one-mul, mod-eq-of-lt (lt-of-le-of-lt (t .2) h))
+
+  pub shift-le : shifted ≤ n
+  shift-le = rw shift-top (leading-top (suc k) n p h .2)
+
+  -- `leading_zeros` names the first, and clearing it leaves the rest
+  pub bits-cleared : (bitsOf (suc k) n ≡ place ∷ bitsOf (suc k) (n - shifted)) × (place < suc k) × (n - shifted < n)
+  bits-cleared =
+      let t = leading-top (suc k) n p h in
+      (rw (shift-top, place-top) (bits-top (suc k) (t .0) n (omega (arith, t .1)) (t .2) (t .3)), omega arith, rw shift-top (omega (arith, t .2, pow-pos (t .0))))
+
+-- ---- how many bits are set
+digit : (d k : ℕ) (l : List ℕ) → d < 2 → length (pick (eqb d 1) (k ∷ l) l) ≡ ones d + length l
+unfolding ones
+digit zero k l h = omega arith
+digit (suc zero) k l h = omega arith
+digit (suc (suc d)) k l h = absurd (omega arith)
+
+pub bits-counted : (k n : ℕ) → length (bitsOf k n) ≡ ones (n % 2 ^ k)
+unfolding bitsOf ones
+bits-counted zero n = rw (mod-one n)
+bits-counted (suc k) n =
+    let e : n % 2 ^ suc k ≡ (n / 2 ^ k % 2) * 2 ^ k + n % 2 ^ k = rw (← one-add k) (mod-pow-add n 1 k) in
+    rw (e, ones-cat k (n / 2 ^ k % 2) (n % 2 ^ k) (mod-lt n (pow-pos k)), ← (bits-counted k n))
+    (digit (n / 2 ^ k % 2) k (bitsOf k n) (mod-lt (n / 2 ^ k) (omega arith)))
+
+few-step : (t : Bool) (k : ℕ) (l : List ℕ) → length l ≤ k → length (pick t (k ∷ l) l) ≤ suc k
+few-step true k l h = omega arith
+few-step false k l h = omega arith
+
+pub bits-few : (k n : ℕ) → length (bitsOf k n) ≤ k
+unfolding bitsOf
+bits-few zero n = zero-le
+bits-few (suc k) n = few-step (has n k) k (bitsOf k n) (bits-few k n)
+
+-- ---- those above a bit
+
+-- there are none among the bits up to it
+above-none : (b k n : ℕ) → k ≤ suc b → above b (bitsOf k n) ≡ []
+unfolding bitsOf above
+above-none b zero n h = refl
+above-none b (suc k) n h = pick-none (has n k) (le-ltb b k (le-of-suc-le-suc h)) (above-none b k n (omega arith))
+  where
+    pick-none : (t : Bool) → ltb b k ≡ false → above b (bitsOf k n) ≡ [] → above b (pick t (k ∷ bitsOf k n) (bitsOf k n)) ≡ []
+    pick-none true e f = rw (e, f)
+    pick-none false e f = f
+
+-- a bit that stands in the list is below the width
+below-step : (k n b : ℕ) (tail : List ℕ) → ((done : List ℕ) → bitsOf k n ≡ done ++ (b ∷ tail) → b < k)
+    → (t : Bool) (done : List ℕ) → pick t (k ∷ bitsOf k n) (bitsOf k n) ≡ done ++ (b ∷ tail) → b < suc k
+below-step k n b tail lower true [] e = let z : k ≡ b = cc in omega arith
+below-step k n b tail lower true (x ∷ done) e = let f : bitsOf k n ≡ done ++ (b ∷ tail) = cc in omega (arith, lower done f)
+below-step k n b tail lower false done e = omega (arith, lower done e)
+
+bit-below : (k n b : ℕ) (tail done : List ℕ) → bitsOf k n ≡ done ++ (b ∷ tail) → b < k
+unfolding bitsOf
+bit-below zero n b tail [] e = absurd (nil-cons e)
+bit-below zero n b tail (x ∷ done) e = absurd (nil-cons e)
+bit-below (suc k) n b tail done e = below-step k n b tail (bit-below k n b tail) (has n k) done e
+
+-- in the list, those above a bit are those before it
+before-step : (k n b : ℕ) (tail : List ℕ) → ((done : List ℕ) → bitsOf k n ≡ done ++ (b ∷ tail) → above b (bitsOf k n) ≡ done)
+    → (t : Bool) (done : List ℕ) → pick t (k ∷ bitsOf k n) (bitsOf k n) ≡ done ++ (b ∷ tail)
+    → above b (pick t (k ∷ bitsOf k n) (bitsOf k n)) ≡ done
+unfolding above
+before-step k n b tail lower true [] e =
+    let z : k ≡ b = cc in
+    rw (le-ltb b k (omega arith)) (above-none b k n (omega arith))
+before-step k n b tail lower true (x ∷ done) e =
+    let f : bitsOf k n ≡ done ++ (b ∷ tail) = cc in
+    let z : k ≡ x = cc in
+    rw (lt-ltb b k (bit-below k n b tail done f), lower done f, z)
+before-step k n b tail lower false done e = lower done e
+
+pub bits-before : (k n b : ℕ) (tail done : List ℕ) → bitsOf k n ≡ done ++ (b ∷ tail) → above b (bitsOf k n) ≡ done
+unfolding bitsOf
+bits-before zero n b tail [] e = absurd (nil-cons e)
+bits-before zero n b tail (x ∷ done) e = absurd (nil-cons e)
+bits-before (suc k) n b tail done e = before-step k n b tail (bits-before k n b tail) (has n k) done e

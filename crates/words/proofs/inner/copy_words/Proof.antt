@@ -1,0 +1,72 @@
+-- `copy_words` meets its promise. The invariant: the first i words are copied, the rest are as they were; `copy-more` carries the turn.
+use Prim.Native.Nat.{_≤_, _<_, _-_}
+use mathlib.Core.Path.{_≡_}
+use mathlib.Core.List.{_++_}
+use lib.ListN.{length, take, drop, length-set}
+use Rattle.words.proofs.CopyLaws.{copy-more, copied-all}
+use native.Mathlib.Omega.{arith}
+use borrow.Author.Needs.{needs}
+use Rattle.words.proofs.inner.copy_words.Statement.{statement}
+use Rattle.words.proofs.inner.copy_words.Tie as tie
+
+abbrev Inv-loop : tie.InvT-loop
+Inv-loop dst₀ src i₀ dst i = (i ≤ length dst₀) × (length dst ≡ length dst₀) × (dst ≡ take i src ++ drop i dst₀)
+
+abbrev μ-loop : tie.MeasureT-loop
+μ-loop dst₀ src i₀ dst i = length dst₀ - i
+
+loop-holds : tie.Need-loop-holds Inv-loop μ-loop
+loop-holds c = search needs
+
+mul-dst : tie.Need-mul-dst Inv-loop μ-loop
+mul-dst c = search needs
+
+shared-slice-read-dst : tie.Need-shared-slice-read-dst Inv-loop μ-loop
+shared-slice-read-dst c = search needs
+
+mul-dst-2 : tie.Need-mul-dst-2 Inv-loop μ-loop
+mul-dst-2 c = search needs
+
+slice-write-dst : tie.Need-slice-write-dst Inv-loop μ-loop
+slice-write-dst c = search needs
+
+add-i : tie.Need-add-i Inv-loop μ-loop
+add-i c = search needs
+
+loop-less : tie.Need-loop-less Inv-loop μ-loop
+loop-less c = search needs
+
+loop-again : tie.Need-loop-again Inv-loop μ-loop
+loop-again c =
+    let b = c .before .before in
+    let dst = b .before .args .dst .now in
+    let src = b .before .args .src .now in
+    let h : b .loop .i < length dst = omega arith in
+    let k : b .loop .i < length src = omega arith in
+    (omega arith, simp length-set (omega arith), rw (b .loop .inv .2) (copy-more dst src (b .loop .i) h k))
+
+same-length : tie.Need-same-length Inv-loop μ-loop
+same-length c = search needs
+
+returns : tie.Need-returns Inv-loop μ-loop
+returns c =
+    let b = c .before in
+    let h : b .loop .i ≡ length (b .before .args .dst .now) = omega arith in
+    rw (b .loop .inv .2, h) (copied-all (b .before .args .dst .now) (b .before .args .src .now))
+
+pub copy-words-spec : {M : Type 1} → statement M
+copy-words-spec =
+    tie.close
+    (tie.spec
+    Inv-loop
+    μ-loop
+    loop-holds
+    mul-dst
+    shared-slice-read-dst
+    mul-dst-2
+    slice-write-dst
+    add-i
+    loop-less
+    loop-again
+    same-length
+    returns)

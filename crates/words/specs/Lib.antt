@@ -1,0 +1,18 @@
+-- What every crate above speaks with, in reading order.
+
+-- the refusal numbers of document 01
+pub mod Numbers
+-- tests, and the value that a test picks
+pub mod Tests
+-- an answer: refused with a number, or accepted with its values; what a call leaves in a lent buffer
+pub mod Outcome
+-- a word's bits, and a word as fields by their widths
+pub mod Word
+-- the set bits of a number, highest first
+pub mod SetBits
+-- a part of a list, and a list with a part replaced
+pub mod Part
+-- words laid one after the other
+pub mod Laid
+-- a test at every number below a bound
+pub mod All

@@ -1,0 +1,33 @@
+-- What a call answers, as document 01 has it: "A refusal returns its number alone and writes nothing".
+use mathlib.Core.Path.{_≡_}
+use Prim.Native.Nat.{ℕ}
+
+-- an answer: refused with a number of the list, or accepted with its values
+pub data Outcome (A : Type 0) : Type 0 where
+  refused : ℕ → Outcome A
+  accepted : A → Outcome A
+
+-- some checks, and then the rest: the first refusal that applies is given
+abbrev pub after : {A B : Type 0} → Outcome A → Outcome B → Outcome B
+after (refused n) rest = refused n
+after (accepted a) rest = rest
+
+-- an accepted call that was lent a buffer: what it says, and what it leaves in the buffer
+pub record Done (A L : Type 0) : Type 0 where
+  pub says : A
+  pub leaves : L
+
+module _ {A L : Type 0} where
+  abbrev pub saidOf : Outcome (Done A L) → Outcome A
+  saidOf (refused n) = refused n
+  saidOf (accepted d) = accepted (d .says)
+
+  -- the buffer afterwards: a refusal leaves it as it was
+  abbrev pub leftOf : Outcome (Done A L) → L → L
+  leftOf (refused n) before = before
+  leftOf (accepted d) before = d .leaves
+
+-- the answer r of a call that found the buffer as `before` and left it as `after` is what `want` says; `paper` gives r's number and values
+pub record Meets {A B L : Type 0} (paper : A → Outcome B) (want : Outcome (Done B L)) (before : L) (r : A) (after : L) : Type 0 where
+  pub answer : paper r ≡ saidOf want
+  pub buffer : after ≡ leftOf want before

@@ -1,0 +1,24 @@
+-- Tests, and the value that a test picks. A refusal of document 01 is one line, `pick test (refused n) rest`.
+use Prim.Native.Nat.{ℕ}
+use mathlib.Core.Bool.{Bool, true, false}
+use mathlib.Core.List.{List, [], _∷_}
+use lib.Dec.{eqb}
+
+-- the first where the test holds, and else the second
+abbrev pub pick : {A : Type 0} → Bool → A → A → A
+pick true a b = a
+pick false a b = b
+
+-- the number where the test holds, and else 0: how many words an optional part takes, and what an absent one reads as
+abbrev pub when : Bool → ℕ → ℕ
+when t n = pick t n 0
+
+-- the tests hold both
+abbrev pub both : Bool → Bool → Bool
+both true b = b
+both false b = false
+
+-- n is one of the list
+abbrev pub among : ℕ → List ℕ → Bool
+among n [] = false
+among n (x ∷ xs) = pick (eqb n x) true (among n xs)

@@ -1,0 +1,23 @@
+// The refusal numbers, total reads, and the pieces of code that every crate above uses. The laws that the crates above cite are in proofs/.
+pub mod inner;
+mod numbers;
+
+pub use numbers::BITS;
+pub use numbers::CLASS;
+pub use numbers::COUNT;
+pub use numbers::CUT;
+pub use numbers::EMPTY;
+pub use numbers::FIELD;
+pub use numbers::FORMAT;
+pub use numbers::INDICATOR;
+pub use numbers::LAYOUT;
+pub use numbers::LIST;
+pub use numbers::PAGE;
+pub use numbers::ROOM;
+pub use numbers::SHORT;
+pub use numbers::SIZE;
+pub use numbers::STREAM;
+pub use numbers::TABLE;
+pub use numbers::TIME;
+pub use numbers::TYPE;
+pub use numbers::VALUE;

@@ -1,0 +1,917 @@
+"""Writes the cases for reading packets and the reference's answers to them.
+
+    python3 tools/reference/read_vectors.py INPUT EXPECTED
+
+README.md gives the form of both files.  Each case that is built for one answer
+says which answer that is; a case where the reference says another ends the
+program without writing.
+"""
+
+import sys
+
+sys.dont_write_bytecode = True
+
+import vrt49
+from vrt49 import BITS, CLASS, CUT, EMPTY, FIELD, INDICATOR, LAYOUT, SHORT, TIME, TYPE
+
+ACCEPTED = 0
+ONES = 0xFFFFFFFF
+IDENTIFIER = 0x00C0FFEE
+TERA = 10**12
+
+DATA_TYPES = (0, 1, 2, 3)
+CONTEXT_TYPES = (4, 5)
+TYPES = DATA_TYPES + CONTEXT_TYPES
+
+# The 21 fields of fixed size, from bit 30 downwards.
+FIXED = (
+    (30, 1), (29, 2), (28, 2), (27, 2), (26, 2), (25, 2), (24, 1), (23, 1),
+    (22, 1), (21, 2), (20, 2), (19, 1), (18, 1), (17, 2), (16, 1), (15, 2),
+    (14, 11), (13, 11), (12, 13), (11, 13), (10, 1),
+)
+FIXED_BITS = 0x7FFFFC00
+
+# A format word whose rule is kept: link-efficient, complex, 16-bit signed.
+FORMAT = 0xA00003CF
+
+cases = []
+
+
+def case(words, answer=None):
+    """One case, with the answer it is built for, if it is built for one."""
+    for word in words:
+        assert 0 <= word <= ONES
+    cases.append((list(words), answer))
+
+
+def packet(
+    kind,
+    body=(),
+    c=0,
+    t=0,
+    m=0,
+    tsi=0,
+    tsf=0,
+    count=0,
+    size=None,
+    identifier=IDENTIFIER,
+    oui=0x00123456,
+    classes=0x00070009,
+    seconds=0x5F5E1000,
+    fraction=1,
+    trailer=0,
+    reserved=0,
+):
+    """The words of a packet; a size other than its own may be asked for, and
+    reserved names header bits to be set besides."""
+    words = [0]
+    if kind in (1, 3, 4, 5):
+        words.append(identifier)
+    if c:
+        words += [oui, classes]
+    if tsi:
+        words.append(seconds)
+    if tsf:
+        words += [fraction >> 32, fraction & ONES]
+    words += body
+    if t:
+        words.append(trailer)
+    if size is None:
+        size = len(words)
+    words[0] = (
+        kind << 28 | c << 27 | t << 26 | m << 24 | tsi << 22 | tsf << 20
+        | count << 16 | size | reserved
+    )
+    return words
+
+
+def context(indicator, words=(), **rest):
+    """A type 4 packet of an indicator word and the words after it."""
+    return packet(4, [indicator, *words], **rest)
+
+
+def counted(n, first=1):
+    """n words to fill a body, each one different."""
+    return [first + i for i in range(n)]
+
+
+def plain(bit, n):
+    """The n words of a fixed field, its rule kept."""
+    if bit == 15:
+        return [FORMAT, 0]
+    if bit == 16:
+        return [0x80050044]
+    return [0x100 * bit] * (n - 1) + [bit]
+
+
+def all_fixed():
+    return [word for bit, n in FIXED for word in plain(bit, n)]
+
+
+def no_words():
+    case([], EMPTY)
+
+
+# TYPE
+
+
+def types():
+    for kind in range(6, 16):
+        case(packet(kind, counted(3)), TYPE)
+    case([0x60000001], TYPE)
+    case([ONES], TYPE)
+    case([ONES] * 8, TYPE)
+    for kind in TYPES:
+        case(packet(kind, [0], count=kind), ACCEPTED)
+    no_words()
+
+
+# BITS
+
+
+def reserved_bits():
+    for kind in TYPES:
+        upper, lower = (25, 24) if kind in DATA_TYPES else (26, 25)
+        case(packet(kind, [0], reserved=1 << upper), BITS)
+        case(packet(kind, [0], reserved=1 << lower), BITS)
+        case(packet(kind, [0], c=1, tsi=1, tsf=1, reserved=1 << upper | 1 << lower), BITS)
+        # The other kind's bit.
+        if kind in DATA_TYPES:
+            case(packet(kind, [5], t=1, trailer=9), ACCEPTED)
+            case(packet(kind, [5], t=1, trailer=9, reserved=1 << lower), BITS)
+        else:
+            case(packet(kind, [0], m=1), ACCEPTED)
+            case(packet(kind, [0], m=1, reserved=1 << upper), BITS)
+    no_words()
+
+
+# SHORT
+
+
+def required_parts():
+    """Every type with every choice of optional parts, at exactly the size of
+    the required parts and one below."""
+    step = 0
+    for kind in TYPES:
+        for choice in range(16):
+            c, flag, seconds, fraction = (choice >> i & 1 for i in (3, 2, 1, 0))
+            parts = dict(
+                c=c,
+                t=flag if kind in DATA_TYPES else 0,
+                m=flag if kind in CONTEXT_TYPES else 0,
+                tsi=(1 + step % 3) * seconds,
+                tsf=(1 + step // 3 % 3) * fraction,
+                count=step % 16,
+                trailer=0xA5A5A500 + step,
+                fraction=0x00000012_00000034 + step,
+            )
+            body = [0x80000000] if kind == 4 else []
+            right = packet(kind, body, **parts)
+            case(right, ACCEPTED)
+            # In turn with the last word given and without it.
+            below = [right[0] - 1] + right[1:]
+            if len(below) > 1 and step % 2 == 1:
+                below = below[:-1]
+            case(below, SHORT)
+            step += 1
+    no_words()
+
+
+def small_sizes():
+    for kind in TYPES:
+        case(packet(kind, [0, 0, 0], size=0), SHORT)
+    case([0x00000000], SHORT)
+    case([0x10000001], SHORT)
+    case([0x10000001, 7], SHORT)
+    case([0x00000001], ACCEPTED)
+    case([0x20000001, 7], ACCEPTED)
+    case([0x04000001], SHORT)
+    case([0x04000002, 7], ACCEPTED)
+    case([0x40000002, 7, 0], SHORT)
+    case([0x50000002, 7, 0], ACCEPTED)
+    case([0x40000003, 7, 0], ACCEPTED)
+
+
+# CUT
+
+
+def cut_off():
+    for kind in TYPES:
+        body = [0] if kind == 4 else counted(2)
+        right = packet(kind, body, count=kind)
+        case([right[0] + 1] + right[1:], CUT)
+        case(right[:-1], CUT)
+        case(right[:1], CUT)
+        case(packet(kind, body, size=65535), CUT)
+        # Words beyond the size.
+        case(right + [ONES] * (1 + kind), ACCEPTED)
+    case(packet(1, counted(2), t=1, trailer=0x11) + [0x22], ACCEPTED)
+    case(packet(1, counted(2), t=1, trailer=0x11)[:-1], CUT)
+    case(context(0x00800000, [1]) + [ONES], ACCEPTED)
+    case(context(0x00C00000, [1]) + [2], LAYOUT)
+    case(packet(1, [], c=1, tsi=1, tsf=1)[:4], CUT)
+    no_words()
+
+
+# CLASS
+
+
+def classes():
+    for bit in range(24, 32):
+        case(packet(1, [1], c=1, oui=1 << bit), CLASS)
+    for kind in TYPES:
+        body = [0] if kind == 4 else [1]
+        case(packet(kind, body, c=1, oui=0x01FFFFFF, tsi=1), CLASS)
+        case(packet(kind, body, c=1, oui=0x00FFFFFF, classes=ONES, tsi=2), ACCEPTED)
+    case(packet(0, [1], c=1, oui=ONES), CLASS)
+    case(packet(0, [], c=1, oui=0x00800000, classes=0x80000000), ACCEPTED)
+    case(packet(0, [], c=1, oui=0x00000001, classes=0x00010000), ACCEPTED)
+    case(packet(0, [], c=1, oui=0x00000000, classes=0x00008001), ACCEPTED)
+    # No class: the word at that place is something else.
+    case(packet(0, [ONES, ONES]), ACCEPTED)
+    case(packet(1, [], tsi=1, seconds=ONES), ACCEPTED)
+    case(packet(3, [ONES], identifier=ONES), ACCEPTED)
+    no_words()
+
+
+# TIME
+
+
+def times():
+    edges = (
+        TERA - 1,
+        TERA,
+        TERA + 1,
+        TERA >> 32 << 32,
+        (TERA >> 32) + 1 << 32,
+        1 << 63,
+        ONES,
+        (1 << 64) - 1,
+    )
+    for fraction in edges:
+        for tsf in (1, 2, 3):
+            late = tsf == 2 and fraction >= TERA
+            case(packet(1, [1], tsf=tsf, fraction=fraction), TIME if late else ACCEPTED)
+    for kind in TYPES:
+        body = [0] if kind == 4 else []
+        case(packet(kind, body, c=1, tsi=3, tsf=2, fraction=TERA), TIME)
+        case(packet(kind, body, c=1, tsi=3, tsf=2, fraction=TERA - 1), ACCEPTED)
+    # No fraction: the two words at that place are something else.
+    case(packet(0, [ONES, ONES], tsi=1, seconds=ONES), ACCEPTED)
+    no_words()
+
+
+def stamps():
+    for kind in (1, 4):
+        for tsi in range(4):
+            for tsf in range(4):
+                body = [0x80000000] if kind == 4 else [0xB0D1, 0xB0D2]
+                words = packet(
+                    kind, body, tsi=tsi, tsf=tsf, count=4 * tsi + tsf,
+                    seconds=0x80000001, fraction=0x000000E8_80000001,
+                )
+                case(words, ACCEPTED)
+
+
+# INDICATOR
+
+
+def indicators():
+    for bit in range(8):
+        case(context(1 << bit), INDICATOR)
+    for bit in (7, 0):
+        case(context(0x80000000 | 1 << bit), INDICATOR)
+        case(context(0x00800000 | 1 << bit, [5]), INDICATOR)
+        case(context(0x00000100 | 1 << bit, [0, 0], c=1, tsi=1, tsf=3), INDICATOR)
+        # In an Extension Context packet or a data packet the word is opaque.
+        case(packet(5, [1 << bit]), ACCEPTED)
+        case(packet(1, [1 << bit]), ACCEPTED)
+    case(context(0x000000FF), INDICATOR)
+    case(context(0x00000000), ACCEPTED)
+    case(context(0x80000000), ACCEPTED)
+    case(context(0x00000000, m=1), ACCEPTED)
+    no_words()
+
+
+# LAYOUT
+
+
+def fixed_fields():
+    for bit, n in FIXED:
+        words = plain(bit, n)
+        case(context(1 << bit, words), ACCEPTED)
+        case(context(1 << bit, words + [0]), LAYOUT)
+        case(context(1 << bit, words[:-1]), LAYOUT)
+    for changed in (0, 0x80000000):
+        words = all_fixed()
+        assert len(words) == 74
+        case(context(changed | FIXED_BITS, words), ACCEPTED)
+        case(context(changed | FIXED_BITS, words + [0]), LAYOUT)
+        case(context(changed | FIXED_BITS, words[:-1]), LAYOUT)
+        # Bit 31 has no field.
+        case(context(changed, [0]), LAYOUT)
+        case(context(changed | 1 << 30, [7]), ACCEPTED)
+        case(context(changed | 1 << 30), LAYOUT)
+    case(context(0x21200000, [0, 1, 2, 0, 3], tsi=1, tsf=2, count=5), ACCEPTED)
+
+
+def gps_ascii():
+    nine = 1 << 9
+    for n in (0, 1, 2, 3, 7, 100):
+        text = counted(n, 0x24475047)
+        case(context(nine, [0x00ABCDEF, n] + text), ACCEPTED)
+        case(context(nine, [0x00ABCDEF, n + 1] + text), LAYOUT)
+        if n > 0:
+            case(context(nine, [0x00ABCDEF, n - 1] + text), LAYOUT)
+    three = counted(3)
+    for n in (
+        0x10000, 0x10003, 0x40000003, 1 << 31, (1 << 31) + 3, ONES - 3, ONES - 2,
+        ONES - 1, ONES,
+    ):
+        case(context(nine, [0, n] + three), LAYOUT)
+    case(context(nine, [0, ONES]), LAYOUT)
+    case(context(nine, [0, ONES - 1]), LAYOUT)
+    # Its own two words past the body, or one of them.
+    case(context(nine), LAYOUT)
+    case(context(nine, [0]), LAYOUT)
+    case(context(1 << 10 | nine, [5]), LAYOUT)
+    case(context(1 << 10 | nine, [5, 0]), LAYOUT)
+    case(context(1 << 10 | nine, [5, 0, 0]), ACCEPTED)
+    # The words past the size are not the body's.
+    case(context(nine, [0]) + [0], LAYOUT)
+    case(context(nine) + [0, 0], LAYOUT)
+    case(context(nine, [0, 1]) + [0x24], LAYOUT)
+    case(context(FIXED_BITS | nine, all_fixed() + [0x00FFFFFF, 2, 8, 9]), ACCEPTED)
+    case(context(FIXED_BITS | nine, all_fixed() + [0x00FFFFFF, 3, 8, 9]), LAYOUT)
+    no_words()
+
+
+def lists_of(source=0, system=0, vector=0, asynchronous=0, twice=0):
+    return [source << 16 | system, vector << 16 | twice << 15 | asynchronous]
+
+
+def lists():
+    eight = 1 << 8
+    case(context(eight, [0, 0]), ACCEPTED)
+    case(context(eight, [0, 0x8000]), ACCEPTED)
+    case(context(eight, [0, 0, 0]), LAYOUT)
+    # Each list alone, right, one word past the body, one word fewer.
+    for name in ("source", "system", "vector", "asynchronous"):
+        for n in (1, 5):
+            case(context(eight, lists_of(**{name: n}) + counted(n)), ACCEPTED)
+            case(context(eight, lists_of(**{name: n}) + counted(n - 1)), LAYOUT)
+            case(context(eight, lists_of(**{name: n}) + counted(n + 1)), LAYOUT)
+    # The asynchronous list counted twice.
+    for n in (1, 5):
+        head = lists_of(asynchronous=n, twice=1)
+        case(context(eight, head + counted(2 * n)), ACCEPTED)
+        case(context(eight, head + counted(2 * n - 1)), LAYOUT)
+        case(context(eight, head + counted(2 * n + 1)), LAYOUT)
+        case(context(eight, head + counted(n)), LAYOUT)
+        case(context(eight, lists_of(asynchronous=n) + counted(2 * n)), LAYOUT)
+    # Bit 15 counts no other list twice.
+    case(context(eight, lists_of(1, 2, 3, 0, 1) + counted(6)), ACCEPTED)
+    case(context(eight, lists_of(1, 2, 3, 4, 0) + counted(10)), ACCEPTED)
+    case(context(eight, lists_of(1, 2, 3, 4, 1) + counted(14)), ACCEPTED)
+    case(context(eight, lists_of(1, 2, 3, 4, 1) + counted(13)), LAYOUT)
+    case(context(eight, lists_of(1, 2, 3, 4, 1) + counted(20)), LAYOUT)
+    # Every bit of a size counts; the largest lists are not given.
+    case(context(eight, lists_of(source=0x100) + counted(0x100)), ACCEPTED)
+    case(context(eight, lists_of(system=0x100) + counted(0x100)), ACCEPTED)
+    case(context(eight, lists_of(vector=0x200) + counted(0x200)), ACCEPTED)
+    case(context(eight, lists_of(asynchronous=0x200) + counted(0x200)), ACCEPTED)
+    for bit in range(12, 16):
+        case(context(eight, lists_of(vector=1 << bit)), LAYOUT)
+    for bit in range(12, 15):
+        case(context(eight, lists_of(asynchronous=1 << bit)), LAYOUT)
+        case(context(eight, lists_of(asynchronous=1 << bit, twice=1)), LAYOUT)
+    case(context(eight, lists_of(511, 511) + counted(1022)), ACCEPTED)
+    case(context(eight, lists_of(511, 511) + counted(1021)), LAYOUT)
+    # The largest together, and sums that pass 2^16.
+    case(context(eight, lists_of(511, 511, 65535, 32767, 1)), LAYOUT)
+    case(context(eight, lists_of(511, 511, 65535, 32767, 1) + counted(20)), LAYOUT)
+    case(context(eight, lists_of(511, 511, 65535, 32767, 1) + counted(1020)), LAYOUT)
+    case(context(eight, lists_of(vector=65535, source=4) + counted(3)), LAYOUT)
+    case(context(eight, lists_of(vector=65534)), LAYOUT)
+    case(context(eight, lists_of(asynchronous=32767, system=5, twice=1) + counted(3)), LAYOUT)
+    # Its own two words past the body, or one of them.
+    case(context(eight), LAYOUT)
+    case(context(eight, [0]), LAYOUT)
+    case(context(1 << 10 | eight, [5]), LAYOUT)
+    case(context(1 << 10 | eight, [5, 0]), LAYOUT)
+    case(context(1 << 10 | eight, [5, 0, 0]), ACCEPTED)
+    case(context(eight, [0]) + [0], LAYOUT)
+    case(context(eight, lists_of(system=1)) + [7], LAYOUT)
+    no_words()
+
+
+def both_long_fields():
+    both = 3 << 8
+    case(context(both, [0, 0, 0, 0]), ACCEPTED)
+    case(context(both, [0, 2, 8, 9] + lists_of(1, 0, 1) + [5, 6]), ACCEPTED)
+    case(context(both, [0, 2, 8, 9] + lists_of(1, 0, 1) + [5]), LAYOUT)
+    case(context(both, [0, 2, 8, 9] + lists_of(1, 0, 1) + [5, 6, 7]), LAYOUT)
+    # Field 9 comes first, and what it takes is not there for field 8.
+    case(context(both, [0, 1, 0, 0]), LAYOUT)
+    case(context(both, [0, 2, 0, 0]), LAYOUT)
+    case(context(both, [0, 3, 0, 0]), LAYOUT)
+    case(context(both, [0, 0]), LAYOUT)
+    case(context(both, [0, 0, 0]), LAYOUT)
+    case(context(both, [0]), LAYOUT)
+    case(context(both), LAYOUT)
+    # Sums that would come out even if they wrapped at 2^32.
+    case(context(both, [0, ONES - 2] + [0] * 255), LAYOUT)
+    case(context(both, [0, ONES, 0] + [0] * 1022), LAYOUT)
+    case(context(both, [0, ONES - 1, 0, 0]), LAYOUT)
+    case(context(both, [0, ONES, 0, 0]), LAYOUT)
+    case(context(both, [0, ONES - 1] + lists_of(vector=4)), LAYOUT)
+    case(context(FIXED_BITS | both, all_fixed() + [0, 1, 7] + lists_of(0, 2) + [8, 9]), ACCEPTED)
+    case(context(FIXED_BITS | both, all_fixed() + [0, 1, 7] + lists_of(0, 2) + [8]), LAYOUT)
+    case(context(FIXED_BITS | both, all_fixed() + [0, 1, 7] + lists_of(0, 2) + [8, 9, 10]), LAYOUT)
+    case(context(ONES - 0xFF, all_fixed() + [0, 0, 0, 0], m=1, c=1, tsi=1, tsf=2), ACCEPTED)
+    case(context(1 << 30 | both, [ONES, 0, 0, 0, 0x8000]), ACCEPTED)
+
+
+# FIELD
+
+
+def free_fields():
+    """Every field without a rule, all ones."""
+    for bit, n in FIXED:
+        if bit not in (29, 24, 21, 18, 17, 16, 15):
+            case(context(1 << bit, [ONES] * n), ACCEPTED)
+
+
+def not_negative():
+    for bit in (29, 21):
+        case(context(1 << bit, [0x80000000, 0]), FIELD)
+        case(context(1 << bit, [ONES, ONES]), FIELD)
+        case(context(1 << bit, [0x7FFFFFFF, ONES]), ACCEPTED)
+        case(context(1 << bit, [0x40000000, 0]), ACCEPTED)
+        case(context(1 << bit, [0, 0x80000000]), ACCEPTED)
+
+
+def upper_halves():
+    for bit in (24, 18):
+        for place in range(16, 32):
+            case(context(1 << bit, [1 << place]), FIELD)
+        case(context(1 << bit, [1 << 15]), ACCEPTED)
+        case(context(1 << bit, [0xFFFF]), ACCEPTED)
+        case(context(1 << bit, [ONES]), FIELD)
+
+
+def devices():
+    for place in range(24, 32):
+        case(context(1 << 17, [1 << place, 0]), FIELD)
+    for place in range(16, 32):
+        case(context(1 << 17, [0, 1 << place]), FIELD)
+    case(context(1 << 17, [1 << 23, 0]), ACCEPTED)
+    case(context(1 << 17, [0, 1 << 15]), ACCEPTED)
+    case(context(1 << 17, [0x00FFFFFF, 0x0000FFFF]), ACCEPTED)
+    case(context(1 << 17, [ONES, ONES]), FIELD)
+
+
+def states():
+    for place in (23, 22, 21, 20, 11, 10, 9, 8):
+        case(context(1 << 16, [1 << place]), FIELD)
+    for place in (31, 24, 19, 12, 7, 0):
+        case(context(1 << 16, [1 << place]), ACCEPTED)
+    case(context(1 << 16, [0xFF0FF0FF]), ACCEPTED)
+    case(context(1 << 16, [ONES]), FIELD)
+    no_words()
+
+
+def format_word(code=0, packing=16, item=16, event=0, channel=0, complexity=0, rest=0):
+    return (
+        complexity << 29 | code << 24 | event << 20 | channel << 16
+        | packing - 1 << 6 | item - 1 | rest
+    )
+
+
+def formats():
+    def held(answer, second=0, **rest):
+        case(context(1 << 15, [format_word(**rest), second]), answer)
+
+    # Every item code; 14 and 15 with other sizes too, and their neighbours.
+    named = (0, 1, 2, 3, 4, 5, 6, 14, 15, 16, 17, 18, 19, 20, 21, 22)
+    for code in range(32):
+        kept = code in named and code not in (14, 15)
+        held(ACCEPTED if kept else FIELD, code=code)
+    held(FIELD, code=13, packing=32, item=32)
+    held(ACCEPTED, code=16, packing=64, item=64)
+    held(FIELD, code=30, packing=32, item=32)
+    held(FIELD, code=31, packing=64, item=64)
+    for item in (1, 31, 32, 33, 64):
+        held(ACCEPTED if item == 32 else FIELD, code=14, packing=64, item=item)
+    for item in (1, 32, 63, 64):
+        held(ACCEPTED if item == 64 else FIELD, code=15, packing=64, item=item)
+    for complexity in range(4):
+        held(FIELD if complexity == 3 else ACCEPTED, complexity=complexity)
+        held(FIELD if complexity == 3 else ACCEPTED, complexity=complexity, rest=1 << 31)
+    for place in (12, 13, 14, 15):
+        held(FIELD, rest=1 << place)
+    held(FIELD, rest=0xF000)
+    # Bits 31 and 23, and the second word, are free in reading.
+    held(ACCEPTED, rest=1 << 23)
+    held(ACCEPTED, second=ONES, rest=1 << 31 | 1 << 23)
+    held(ACCEPTED, second=0x00010000)
+    # Sizes: equal to the packing field, and one more.
+    for item, event, channel in (
+        (1, 0, 0), (1, 1, 0), (1, 0, 1), (12, 1, 2), (16, 0, 0), (16, 7, 0),
+        (16, 0, 15), (31, 0, 1), (33, 4, 8), (42, 7, 15), (57, 7, 0), (49, 0, 15),
+        (63, 1, 0), (63, 0, 1), (64, 0, 0),
+    ):
+        together = item + event + channel
+        held(ACCEPTED, packing=together, item=item, event=event, channel=channel)
+        if together > 1:
+            held(FIELD, packing=together - 1, item=item, event=event, channel=channel)
+    held(FIELD, packing=1, item=1, event=1)
+    held(FIELD, packing=1, item=1, channel=1)
+    held(FIELD, packing=1, item=2)
+    held(FIELD, packing=64, item=64, event=1)
+    held(FIELD, packing=64, item=64, channel=1)
+    held(FIELD, packing=64, item=64, event=7, channel=15)
+    held(FIELD, packing=63, item=64)
+    held(FIELD, packing=64, item=43, event=7, channel=15)
+    held(ACCEPTED, packing=64, item=1)
+    held(ACCEPTED, code=14, packing=54, item=32, event=7, channel=15)
+    held(FIELD, code=14, packing=53, item=32, event=7, channel=15)
+    held(FIELD, code=15, packing=64, item=64, channel=1)
+    held(FIELD, code=15, packing=63, item=64)
+    case(context(1 << 15, [FORMAT, 0]), ACCEPTED)
+    case(context(1 << 15, [0, 0]), ACCEPTED)
+    case(context(1 << 15, [ONES, ONES]), FIELD)
+
+
+def long_field_rules():
+    for place in range(24, 32):
+        case(context(1 << 9, [1 << place, 1, 5]), FIELD)
+    case(context(1 << 9, [1 << 23, 1, 5]), ACCEPTED)
+    case(context(1 << 9, [0x00FFFFFF, 1, ONES]), ACCEPTED)
+    for place in list(range(25, 32)) + list(range(9, 16)):
+        case(context(1 << 8, [1 << place | 1, 0, 5]), FIELD)
+    case(context(1 << 8, lists_of(source=256) + counted(256)), ACCEPTED)
+    case(context(1 << 8, [0, 0x00018001] + [ONES] * 3), ACCEPTED)
+    no_words()
+
+
+def rules_among_others():
+    """Each rule broken alone among all the fields, at its place."""
+    broken = {
+        29: [0x80000000, 0],
+        24: [0x00010000],
+        21: [ONES, ONES],
+        18: [0x80000000],
+        17: [0, 0x00010000],
+        16: [0x00000100],
+        15: [FORMAT | 0x1000, 0],
+    }
+    tail = [0, 1, 7] + lists_of(1, 1) + [8, 9]
+    everything = FIXED_BITS | 3 << 8
+    for wrong in broken:
+        words = [w for b, n in FIXED for w in (broken[b] if b == wrong else plain(b, n))]
+        case(context(everything, words + tail), FIELD)
+    case(context(everything, all_fixed() + tail), ACCEPTED)
+    case(context(everything, all_fixed() + [1 << 24] + tail[1:]), FIELD)
+    case(context(everything, all_fixed() + tail[:3] + [0x02010001, 0, 8, 9]), FIELD)
+    case(context(everything, all_fixed() + tail[:3] + [0x00010201, 0, 8, 9]), FIELD)
+    # A field that is not carried has no rule.
+    case(context(1 << 28 | 1 << 23, [ONES, ONES, ONES]), ACCEPTED)
+
+
+# The order of the refusals.
+
+
+def order():
+    # TYPE before BITS, SHORT, CUT.
+    for kind in (6, 7, 14, 15):
+        case([kind << 28 | 7 << 24 | 9, 0], TYPE)
+        case([kind << 28], TYPE)
+    # BITS before SHORT.
+    case([0x02000000], BITS)
+    case([0x11000000, 7], BITS)
+    case([0x11000001, 7], BITS)
+    case([0x44000002, 7, 0], BITS)
+    case([0x52000001, 7], BITS)
+    # BITS before CUT.
+    case([0x12000009, 7], BITS)
+    # SHORT before CUT.
+    case([0x18000002], SHORT)
+    case([0x18000003, 7], SHORT)
+    case([0x40000002], SHORT)
+    case([0x10700004, 7], SHORT)
+    # SHORT before CLASS.
+    case([0x18000003, 7, ONES, 0], SHORT)
+    # CUT before CLASS, with the class word there and not there.
+    case(packet(1, [1], c=1, oui=ONES, size=6), CUT)
+    case(packet(1, [1], c=1, oui=ONES)[:4], CUT)
+    case(packet(1, [1], c=1, oui=ONES)[:2], CUT)
+    # CUT before TIME, INDICATOR, LAYOUT, FIELD.
+    case(packet(1, [1], tsf=2, fraction=TERA, size=6), CUT)
+    case(context(0x00000001, size=4), CUT)
+    case(context(0x00800000, size=4), CUT)
+    case(context(0x01000000, [ONES], size=5), CUT)
+    # CLASS before TIME.
+    case(packet(1, [1], c=1, oui=1 << 24, tsf=2, fraction=TERA), CLASS)
+    case(packet(2, [], c=1, oui=1 << 31, tsi=1, tsf=2, fraction=(1 << 64) - 1), CLASS)
+    # CLASS before INDICATOR, LAYOUT, FIELD.
+    case(context(0x00000001, c=1, oui=1 << 24), CLASS)
+    case(context(0x00800000, c=1, oui=1 << 24), CLASS)
+    case(context(0x01000000, [ONES], c=1, oui=1 << 24), CLASS)
+    # CLASS before TIME before INDICATOR.
+    case(context(0x00000001, c=1, oui=1 << 24, tsf=2, fraction=TERA), CLASS)
+    case(context(0x00000001, c=1, tsf=2, fraction=TERA), TIME)
+    case(context(0x00000080, tsi=1, tsf=2, fraction=TERA), TIME)
+    # TIME before LAYOUT and FIELD.
+    case(context(0x00800000, tsf=2, fraction=TERA), TIME)
+    case(context(0x01000000, [ONES], tsf=2, fraction=TERA), TIME)
+    # INDICATOR before LAYOUT.
+    case(context(0x00800001), INDICATOR)
+    case(context(0x00800080, [1, 2]), INDICATOR)
+    case(context(0x00000201, [0, ONES]), INDICATOR)
+    # INDICATOR before FIELD.
+    case(context(0x01000001, [ONES]), INDICATOR)
+    # LAYOUT before FIELD, wherever the two faults are.
+    case(context(0x01000000, [ONES, 0]), LAYOUT)
+    case(context(0x20000000, [ONES]), LAYOUT)
+    case(context(0x20000100, [ONES, ONES, 0]), LAYOUT)
+    case(context(0x00008400, [ONES, ONES]), LAYOUT)
+    case(context(0x01000300, [ONES, 0, 0, 0]), LAYOUT)
+    case(context(0x00000200, [ONES, 1]), LAYOUT)
+    case(context(0x00000100, [0xFE00FE00, 1]), LAYOUT)
+    case(context(0x00000300, [ONES, 0, ONES, 0]), LAYOUT)
+    case(context(FIXED_BITS, [ONES] * 75), LAYOUT)
+    case(context(FIXED_BITS, [ONES] * 73), LAYOUT)
+    case(context(FIXED_BITS, [ONES] * 74), FIELD)
+    no_words()
+
+
+# What is free.
+
+
+def bodies():
+    for kind in (0, 1, 2, 3, 5):
+        case(packet(kind), ACCEPTED)
+        case(packet(kind, [ONES] * 6, identifier=ONES, count=15), ACCEPTED)
+        case(packet(kind, [0] * 6, identifier=0), ACCEPTED)
+    for kind in DATA_TYPES:
+        case(packet(kind, t=1, trailer=0x80000080), ACCEPTED)
+    # Bodies of Extension packets that would be refused in a type 4 packet.
+    for kind in (2, 3, 5):
+        case(packet(kind, [0x000000FF]), ACCEPTED)
+        case(packet(kind, [0x7FFFFF00]), ACCEPTED)
+        case(packet(kind, [0x01000000, ONES]), ACCEPTED)
+    case(packet(5, [ONES] * 3, m=1, c=1, tsi=3, tsf=3, fraction=(1 << 64) - 1), ACCEPTED)
+
+
+def trailers():
+    for word in (
+        0, ONES, 0xFFF00000, 0x000FFF00, 0x00000080, 0x0000007F, 1 << 31, 1 << 20,
+        1 << 19, 1 << 8, 1 << 6, 1, 0x00100080, 0x12345678, 0xAAAAAAAA, 0x55555555,
+    ):
+        case(packet(1, [0xFEED], t=1, trailer=word), ACCEPTED)
+    for kind in (0, 2, 3):
+        case(packet(kind, counted(3), c=1, t=1, tsi=1, tsf=1, trailer=0xDEADBEEF), ACCEPTED)
+    # The trailer is the last word of the size, not of the words given.
+    case(packet(3, [1], t=1, trailer=0x76543210) + [ONES, ONES], ACCEPTED)
+    no_words()
+
+
+def largest():
+    """65,535 words: eight of other parts, the rest body."""
+    body = [i * 0x9E3779B1 & ONES for i in range(65535 - 8)]
+    words = packet(
+        1, body, c=1, t=1, tsi=2, tsf=2, count=9, fraction=TERA - 1, trailer=0x0F0F0F0F
+    )
+    assert len(words) == 65535
+    case(words, ACCEPTED)
+
+
+# Pseudo-random cases.
+
+
+class Numbers:
+    """A linear congruential generator, so that the cases are the same
+    everywhere and always."""
+
+    def __init__(self, seed):
+        self.state = seed
+
+    def word(self):
+        self.state = (self.state * 6364136223846793005 + 1442695040888963407) % 2**64
+        return self.state >> 32
+
+    def below(self, n):
+        return self.word() % n
+
+    def some(self, n):
+        return [self.word() for _ in range(n)]
+
+
+def random_field(numbers, bit, n):
+    """The words of a fixed field, its rule kept."""
+    words = numbers.some(n)
+    if bit in (29, 21):
+        words[0] &= 0x7FFFFFFF
+    elif bit in (24, 18):
+        words[0] &= 0x0000FFFF
+    elif bit == 17:
+        words[0] &= 0x00FFFFFF
+        words[1] &= 0x0000FFFF
+    elif bit == 16:
+        words[0] &= 0xFF0FF0FF
+    elif bit == 15:
+        item = 1 + numbers.below(42)
+        event = numbers.below(8)
+        channel = numbers.below(16)
+        together = item + event + channel
+        words[0] = format_word(
+            code=(0, 1, 6, 16, 17, 22)[numbers.below(6)],
+            packing=together + numbers.below(65 - together),
+            item=item,
+            event=event,
+            channel=channel,
+            complexity=numbers.below(3),
+            rest=words[0] & 0x80800000,
+        )
+    return words
+
+
+def random_context(numbers):
+    # Each field with a chance of one in two, four or eight.
+    chance = 2 << numbers.below(3)
+    indicator = numbers.below(2) << 31
+    words = []
+    for bit, n in FIXED:
+        if numbers.below(chance) == 0:
+            indicator |= 1 << bit
+            words += random_field(numbers, bit, n)
+    if numbers.below(chance) == 0:
+        indicator |= 1 << 9
+        n = numbers.below(9)
+        words += [numbers.word() & 0x00FFFFFF, n] + numbers.some(n)
+    if numbers.below(chance) == 0:
+        indicator |= 1 << 8
+        source, system, vector, asynchronous = (numbers.below(6) for _ in range(4))
+        twice = numbers.below(2)
+        words += lists_of(source, system, vector, asynchronous, twice)
+        words += numbers.some(source + system + vector + asynchronous * (1 + twice))
+    return [indicator] + words
+
+
+def random_packet(numbers):
+    kind = (0, 1, 2, 3, 4, 4, 4, 4, 4, 5)[numbers.below(10)]
+    tsf = numbers.below(4)
+    fraction = numbers.word() << 32 | numbers.word()
+    return packet(
+        kind,
+        random_context(numbers) if kind == 4 else numbers.some(numbers.below(12)),
+        c=numbers.below(2),
+        t=numbers.below(2) if kind in DATA_TYPES else 0,
+        m=numbers.below(2) if kind in CONTEXT_TYPES else 0,
+        tsi=numbers.below(4),
+        tsf=tsf,
+        count=numbers.below(16),
+        identifier=numbers.word(),
+        oui=numbers.word() & 0x00FFFFFF,
+        classes=numbers.word(),
+        seconds=numbers.word(),
+        fraction=fraction % TERA if tsf == 2 else fraction,
+        trailer=numbers.word(),
+    )
+
+
+def damaged(numbers, words):
+    """The words with one of them changed: a bit, the whole word, or the size
+    by one."""
+    words = list(words)
+    way = numbers.below(4)
+    if way == 0:
+        words[0] ^= 1 << numbers.below(32)
+    elif way == 1:
+        words[numbers.below(min(len(words), 12))] ^= 1 << numbers.below(32)
+    elif way == 2:
+        words[numbers.below(len(words))] = numbers.word()
+    else:
+        words[0] = words[0] - 1 if numbers.below(2) else words[0] + 1
+    return words
+
+
+def random_cases():
+    numbers = Numbers(49)
+    for _ in range(70):
+        words = random_packet(numbers)
+        case(words + numbers.some(numbers.below(3)), ACCEPTED)
+    for _ in range(130):
+        words = random_packet(numbers)
+        case(damaged(numbers, words) + numbers.some(numbers.below(3)))
+    for _ in range(10):
+        case(numbers.some(1 + numbers.below(20)))
+    for _ in range(30):
+        # Any words, but a type that is read, no reserved bit, and a size near
+        # the number of words given.
+        words = numbers.some(3 + numbers.below(20))
+        kind = numbers.below(6)
+        free = 0x0CFF0000 if kind in DATA_TYPES else 0x09FF0000
+        words[0] = kind << 28 | words[0] & free | len(words) + 1 - numbers.below(3)
+        case(words)
+    no_words()
+
+
+# The two files.
+
+
+def packet_lines(start, p):
+    """The lines of an accepted packet, but for its fields; the first begins
+    with start."""
+    found = [
+        f"{start}accepted type {p.type} class {p.class_flag} trailer {p.trailer_flag}"
+        f" tsm {p.tsm} tsi {p.tsi} tsf {p.tsf} count {p.count} size {p.size}",
+        f"  identifier {p.identifier} oui {p.oui} information {p.information}"
+        f" packet {p.packet} seconds {p.seconds} fraction {p.fraction}"
+        f" body {p.body} length {p.length} word {p.trailer}",
+    ]
+    if p.trailer_flag == 1:
+        parts = vrt49.trailer_parts(p.trailer)
+        found.append(
+            f"  trailer enables {parts.enables} indicators {parts.indicators}"
+            f" e {parts.e} associated {parts.associated}"
+        )
+    return found
+
+
+def lines(k, words):
+    answer, given = vrt49.read(words)
+    if answer == "refused":
+        return [f"{k} refused {given}"]
+    p = given
+    found = packet_lines(f"{k} ", p)
+    if p.type == 4:
+        for bit, place, n in vrt49.fields(words[p.body : p.body + p.length]):
+            found.append(f"  field {bit} at {place} words {n}")
+    return found
+
+
+def build():
+    no_words()
+    types()
+    reserved_bits()
+    required_parts()
+    small_sizes()
+    cut_off()
+    classes()
+    times()
+    stamps()
+    indicators()
+    fixed_fields()
+    gps_ascii()
+    lists()
+    both_long_fields()
+    free_fields()
+    not_negative()
+    upper_halves()
+    devices()
+    states()
+    formats()
+    long_field_rules()
+    rules_among_others()
+    order()
+    bodies()
+    trailers()
+    largest()
+    random_cases()
+
+
+def main():
+    if len(sys.argv) != 3:
+        sys.exit("usage: read_vectors.py INPUT EXPECTED")
+    build()
+    given = bytearray()
+    expected = []
+    tally = [0] * 11
+    for k, (words, answer) in enumerate(cases):
+        verdict, what = vrt49.read(words)
+        number = what if verdict == "refused" else ACCEPTED
+        if answer is not None and number != answer:
+            sys.exit(f"case {k} is built for {answer}, the reference says {number}")
+        tally[number] += 1
+        for word in [len(words), *words]:
+            given += word.to_bytes(4, "big")
+        expected += lines(k, words)
+    for number in range(1, 11):
+        if tally[number] < 10:
+            sys.exit(f"refusal {number} has {tally[number]} cases, fewer than 10")
+    if len(cases) < 450:
+        sys.exit(f"{len(cases)} cases, fewer than 450")
+    with open(sys.argv[1], "wb") as file:
+        file.write(given)
+    with open(sys.argv[2], "w", encoding="ascii", newline="\n") as file:
+        file.write("".join(line + "\n" for line in expected))
+    print(f"accepted {tally[ACCEPTED]}")
+    for number in range(1, 11):
+        print(f"refused {number} {tally[number]}")
+    print(f"cases {len(cases)}")
+
+
+if __name__ == "__main__":
+    main()

@@ -1,0 +1,473 @@
+"""A reference reader of VITA 49.0 packets.
+
+It is written from document 01 and from nothing else.  Words are whole numbers
+from 0 to 2^32 - 1 in a list; the sentences in quotation marks are document
+01's own.
+"""
+
+from collections import namedtuple
+from dataclasses import dataclass
+
+# "Numbers given back", those of reading.
+EMPTY = 1
+TYPE = 2
+BITS = 3
+SHORT = 4
+CUT = 5
+CLASS = 6
+TIME = 7
+INDICATOR = 8
+LAYOUT = 9
+FIELD = 10
+
+
+def bits(word, high, low):
+    """The number in the bits high to low of a word."""
+    return (word >> low) % (1 << (high - low + 1))
+
+
+# The header.
+
+
+def type_of(header):
+    # "type 31-28"
+    return bits(header, 31, 28)
+
+
+def class_flag(header):
+    # "C 27"
+    return bits(header, 27, 27)
+
+
+def trailer_flag(header):
+    # "then for types 0-3 T (trailer) 26"
+    return bits(header, 26, 26) if type_of(header) in (0, 1, 2, 3) else 0
+
+
+def tsm_flag(header):
+    # "for types 4-5, 26-25 reserved and TSM 24"
+    return bits(header, 24, 24) if type_of(header) in (4, 5) else 0
+
+
+def reserved(header):
+    # "for types 0-3 T (trailer) 26 and 25-24 reserved; for types 4-5, 26-25
+    # reserved and TSM 24"
+    if type_of(header) in (0, 1, 2, 3):
+        return bits(header, 25, 24)
+    return bits(header, 26, 25)
+
+
+def tsi_of(header):
+    # "TSI 23-22"
+    return bits(header, 23, 22)
+
+
+def tsf_of(header):
+    # "TSF 21-20"
+    return bits(header, 21, 20)
+
+
+def count_of(header):
+    # "count 19-16"
+    return bits(header, 19, 16)
+
+
+def size_of(header):
+    # "size 15-0 in words with the header"
+    return bits(header, 15, 0)
+
+
+# The parts.  "Order: header; stream identifier; class; integer seconds;
+# fraction; body; trailer".  Each function gives the words of one part.
+
+
+def identifier_words(header):
+    # "stream identifier (types 1, 3, 4, 5)"
+    return 1 if type_of(header) in (1, 3, 4, 5) else 0
+
+
+def class_words(header):
+    # "class (two words, if C)"
+    return 2 if class_flag(header) == 1 else 0
+
+
+def seconds_words(header):
+    # "integer seconds (if TSI is not 0)"
+    return 1 if tsi_of(header) != 0 else 0
+
+
+def fraction_words(header):
+    # "fraction (two words, high first, if TSF is not 0)"
+    return 2 if tsf_of(header) != 0 else 0
+
+
+def indicator_words(header):
+    # "A type 4 body begins with the indicator word."
+    return 1 if type_of(header) == 4 else 0
+
+
+def trailer_words(header):
+    # "trailer (if T)"
+    return 1 if trailer_flag(header) == 1 else 0
+
+
+# Where each part starts, in words from the packet's start.
+
+
+def identifier_place(header):
+    return 1
+
+
+def class_place(header):
+    return identifier_place(header) + identifier_words(header)
+
+
+def seconds_place(header):
+    return class_place(header) + class_words(header)
+
+
+def fraction_place(header):
+    return seconds_place(header) + seconds_words(header)
+
+
+def body_place(header):
+    return fraction_place(header) + fraction_words(header)
+
+
+def trailer_place(header):
+    return size_of(header) - trailer_words(header)
+
+
+def body_length(header):
+    return trailer_place(header) - body_place(header)
+
+
+def required_words(header):
+    # "the required parts (the indicator word is one, for type 4)".
+    # "A data body may have no words (ours)."
+    return body_place(header) + indicator_words(header) + trailer_words(header)
+
+
+def fraction_of(words):
+    # "fraction (two words, high first, if TSF is not 0)"
+    if fraction_words(words[0]) == 0:
+        return 0
+    place = fraction_place(words[0])
+    return words[place] * 2**32 + words[place + 1]
+
+
+def body_of(words):
+    place = body_place(words[0])
+    return words[place : place + body_length(words[0])]
+
+
+# The fields of a type 4 body.
+
+# "Words for each bit"
+FIXED_WORDS = {}
+for _bit in (30, 24, 23, 22, 19, 18, 16, 10):
+    FIXED_WORDS[_bit] = 1
+for _bit in (29, 28, 27, 26, 25, 21, 20, 17, 15):
+    FIXED_WORDS[_bit] = 2
+for _bit in (14, 13):
+    FIXED_WORDS[_bit] = 11
+for _bit in (12, 11):
+    FIXED_WORDS[_bit] = 13
+
+
+def gps_ascii_words(first, second):
+    # "9 (GPS ASCII): 2 + N, N the second word"
+    return 2 + second
+
+
+def lists_words(first, second):
+    # "8 (lists): 2 + source (first word 24-16) + system (8-0) + vector (second
+    # word 31-16) + asynchronous (14-0), the last twice if bit 15"
+    source = bits(first, 24, 16)
+    system = bits(first, 8, 0)
+    vector = bits(second, 31, 16)
+    asynchronous = bits(second, 14, 0)
+    if bits(second, 15, 15) == 1:
+        asynchronous = 2 * asynchronous
+    return 2 + source + system + vector + asynchronous
+
+
+def carried_bits(indicator):
+    # "Bit 31 says "changed" and has no field.  Fields follow from bit 30
+    # downwards."
+    return [bit for bit in range(30, 7, -1) if bits(indicator, bit, bit) == 1]
+
+
+def fields(body):
+    """Each carried field of a type 4 body, highest bit first, as its bit, its
+    place from the start of the body, and its number of words.
+
+    None when the two words that give the length of field 9 or 8 lie past the
+    body.  For a body that LAYOUT does not refuse, the fields lie one after
+    another from word 1 to the body's end.
+    """
+    found = []
+    place = 1
+    for bit in carried_bits(body[0]):
+        if bit in (9, 8):
+            if place + 2 > len(body):
+                return None
+            measure = gps_ascii_words if bit == 9 else lists_words
+            count = measure(body[place], body[place + 1])
+        else:
+            count = FIXED_WORDS[bit]
+        found.append((bit, place, count))
+        place = place + count
+    return found
+
+
+# The field rules.  Each takes the words of one field and says whether its rule
+# is kept.
+
+
+def upper_half_zero(field):
+    # "level (24) and temperature (18) have a zero upper half"
+    return bits(field[0], 31, 16) == 0
+
+
+def not_negative(field):
+    # "bandwidth (29) and sample rate (21) are not negative"
+    return bits(field[0], 31, 31) == 0
+
+
+def device_kept(field):
+    # "device (17) has zero in 31-24 of its first and 31-16 of its second word"
+    return bits(field[0], 31, 24) == 0 and bits(field[1], 31, 16) == 0
+
+
+def state_kept(field):
+    # "state (16) has zero in 23-20 and 11-8"
+    return bits(field[0], 23, 20) == 0 and bits(field[0], 11, 8) == 0
+
+
+def gps_ascii_kept(field):
+    # "field 9 has zero in 31-24 of its first word"
+    return bits(field[0], 31, 24) == 0
+
+
+def lists_kept(field):
+    # "field 8 in 31-25 and 15-9 of its first"
+    return bits(field[0], 31, 25) == 0 and bits(field[0], 15, 9) == 0
+
+
+# "item code (28-24) one of 0-6, 14-22"
+ITEM_CODES = (0, 1, 2, 3, 4, 5, 6, 14, 15, 16, 17, 18, 19, 20, 21, 22)
+
+
+def format_kept(field):
+    # "event size 22-20, channel size 19-16, packing field minus one 11-6, item
+    # minus one 5-0"
+    word = field[0]
+    code = bits(word, 28, 24)
+    event = bits(word, 22, 20)
+    channel = bits(word, 19, 16)
+    packing = bits(word, 11, 6) + 1
+    item = bits(word, 5, 0) + 1
+    # "Format (15): 15-12 zero"
+    if bits(word, 15, 12) != 0:
+        return False
+    # "real/complex (30-29) not 3"
+    if bits(word, 30, 29) == 3:
+        return False
+    # "item code (28-24) one of 0-6, 14-22"
+    if code not in ITEM_CODES:
+        return False
+    # "code 14 has 32-bit items, 15 has 64"
+    if code == 14 and item != 32:
+        return False
+    if code == 15 and item != 64:
+        return False
+    # "item, event and channel sizes together do not exceed the packing field"
+    return item + event + channel <= packing
+
+
+# "Other contents are free."
+FIELD_RULES = {
+    29: not_negative,
+    24: upper_half_zero,
+    21: not_negative,
+    18: upper_half_zero,
+    17: device_kept,
+    16: state_kept,
+    15: format_kept,
+    9: gps_ascii_kept,
+    8: lists_kept,
+}
+
+
+# The refusals.  Each function says whether its refusal applies to words to
+# which no earlier one applies.
+
+
+def empty(words):
+    # "no words"
+    return len(words) == 0
+
+
+def type_refused(words):
+    # "type above 5"
+    return type_of(words[0]) > 5
+
+
+def bits_refused(words):
+    # "reserved header bit set"
+    return reserved(words[0]) != 0
+
+
+def short(words):
+    # "size below the required parts (the indicator word is one, for type 4)"
+    return size_of(words[0]) < required_words(words[0])
+
+
+def cut(words):
+    # "size exceeds the words given"
+    return size_of(words[0]) > len(words)
+
+
+def class_refused(words):
+    # "top eight class bits not zero"
+    if class_words(words[0]) == 0:
+        return False
+    return bits(words[class_place(words[0])], 31, 24) != 0
+
+
+def time_refused(words):
+    # "TSF is 2 and the fraction is 10^12 or more"
+    return tsf_of(words[0]) == 2 and fraction_of(words) >= 10**12
+
+
+def indicator_refused(words):
+    # "bits 7-0 not zero"
+    if type_of(words[0]) != 4:
+        return False
+    return bits(words[body_place(words[0])], 7, 0) != 0
+
+
+def layout_refused(words):
+    # "fields need more or fewer words than the body has"
+    if type_of(words[0]) != 4:
+        return False
+    body = body_of(words)
+    found = fields(body)
+    if found is None:
+        return True
+    return 1 + sum(count for _, _, count in found) != len(body)
+
+
+def field_refused(words):
+    # "a field rule is broken"
+    if type_of(words[0]) != 4:
+        return False
+    body = body_of(words)
+    for bit, place, count in fields(body):
+        if bit in FIELD_RULES:
+            if not FIELD_RULES[bit](body[place : place + count]):
+                return True
+    return False
+
+
+# "The first that applies is given, in these orders.  Read: 1 to 10 as listed"
+REFUSALS = (
+    (EMPTY, empty),
+    (TYPE, type_refused),
+    (BITS, bits_refused),
+    (SHORT, short),
+    (CUT, cut),
+    (CLASS, class_refused),
+    (TIME, time_refused),
+    (INDICATOR, indicator_refused),
+    (LAYOUT, layout_refused),
+    (FIELD, field_refused),
+)
+
+
+# What an accepted packet gives.  What is absent is zero.
+
+
+@dataclass
+class Packet:
+    type: int
+    class_flag: int
+    trailer_flag: int
+    tsm: int
+    tsi: int
+    tsf: int
+    count: int
+    size: int
+    identifier: int
+    oui: int
+    information: int
+    packet: int
+    seconds: int
+    fraction: int
+    body: int
+    length: int
+    trailer: int
+
+
+def packet_of(words):
+    header = words[0]
+    identifier = 0
+    if identifier_words(header) == 1:
+        identifier = words[identifier_place(header)]
+    # "The class's first word has eight zero bits (ours), then the OUI; the
+    # second has information and packet class."
+    oui, information, packet = 0, 0, 0
+    if class_words(header) == 2:
+        place = class_place(header)
+        oui = bits(words[place], 23, 0)
+        information = bits(words[place + 1], 31, 16)
+        packet = bits(words[place + 1], 15, 0)
+    seconds = 0
+    if seconds_words(header) == 1:
+        seconds = words[seconds_place(header)]
+    trailer = 0
+    if trailer_words(header) == 1:
+        trailer = words[trailer_place(header)]
+    return Packet(
+        type=type_of(header),
+        class_flag=class_flag(header),
+        trailer_flag=trailer_flag(header),
+        tsm=tsm_flag(header),
+        tsi=tsi_of(header),
+        tsf=tsf_of(header),
+        count=count_of(header),
+        size=size_of(header),
+        identifier=identifier,
+        oui=oui,
+        information=information,
+        packet=packet,
+        seconds=seconds,
+        fraction=fraction_of(words),
+        body=body_place(header),
+        length=body_length(header),
+        trailer=trailer,
+    )
+
+
+def read(words):
+    """('refused', number) or ('accepted', packet)."""
+    # "A refusal returns its number alone"; "words beyond the size are ignored".
+    for number, applies in REFUSALS:
+        if applies(words):
+            return ("refused", number)
+    return ("accepted", packet_of(words))
+
+
+TrailerParts = namedtuple("TrailerParts", "enables indicators e associated")
+
+
+def trailer_parts(word):
+    # "Trailer: enables 31-20, indicators 19-8, E 7, associated count 6-0; no
+    # bit combination is refused (ours)."
+    return TrailerParts(
+        enables=bits(word, 31, 20),
+        indicators=bits(word, 19, 8),
+        e=bits(word, 7, 7),
+        associated=bits(word, 6, 0),
+    )

@@ -1,0 +1,658 @@
+"""Writes the cases for writing packets and the reference's answers to them.
+
+    python3 tools/reference/write_vectors.py INPUT EXPECTED
+
+README.md gives the form of both files.  Each case that is built for one answer
+says which answer that is; a case where the reference says another ends the
+program without writing.  So does a written packet that is not, word for word,
+the one that read_vectors.py builds from the same numbers.
+"""
+
+import sys
+
+sys.dont_write_bytecode = True
+
+import read_vectors
+import vrt49
+import vrt49_write
+from read_vectors import CONTEXT_TYPES, DATA_TYPES, IDENTIFIER, ONES, TERA, TYPES, counted
+from vrt49_write import (
+    FIELD, INDICATOR, LAYOUT, ROOM, SHORT, SIZE, TIME, TYPE, VALUE, Parts,
+)
+
+# The three kinds of case.
+WRITE = 1
+AGAIN = 2
+TRAILER = 3
+
+WRITTEN = 0
+PATTERN = 0xA5A5A5A5
+
+# "Write: TYPE, VALUE, SHORT, SIZE, TIME, INDICATOR, LAYOUT, FIELD, ROOM."
+ORDER = (TYPE, VALUE, SHORT, SIZE, TIME, INDICATOR, LAYOUT, FIELD, ROOM)
+
+cases = []
+
+# Refusals of which one case has both faults, the earlier one first.
+both_faults = set()
+
+
+def write_case(
+    answer,
+    kind,
+    body=(),
+    c=0,
+    t=0,
+    m=0,
+    tsi=0,
+    tsf=0,
+    count=0,
+    identifier=IDENTIFIER,
+    oui=0x00123456,
+    information=7,
+    packet=9,
+    seconds=0x5F5E1000,
+    fraction=1,
+    trailer=0x0BADCAFE,
+    at=1,
+    room=None,
+):
+    """One case of writing, with the answer it is built for, if it is built for
+    one.  If no room is named there is enough, with words left after."""
+    if room is None:
+        room = at + len(body) + 10
+    parts = Parts(
+        type=kind,
+        class_flag=c,
+        trailer_flag=t,
+        tsm=m,
+        tsi=tsi,
+        tsf=tsf,
+        count=count,
+        identifier=identifier,
+        oui=oui,
+        information=information,
+        packet=packet,
+        seconds=seconds,
+        fraction=fraction,
+        trailer=trailer,
+    )
+    cases.append((WRITE, (parts, list(body), at, room), answer))
+
+
+def again_case(answer, words, at=1, room=None):
+    """One case of reading, writing and reading again."""
+    if room is None:
+        room = at + len(words) + 2
+    cases.append((AGAIN, (list(words), at, room), answer))
+
+
+def trailer_case(answer, *numbers):
+    cases.append((TRAILER, numbers, answer))
+
+
+def right_body(kind):
+    """A short body that is not refused."""
+    if kind == 4:
+        return [0x81200000, 0x0000FF80, 0, 1 << 20]
+    return counted(3, 0xB0D10000)
+
+
+# TYPE
+
+
+def types():
+    for kind in range(6, 16):
+        write_case(TYPE, kind, counted(3))
+    # What would be a type if only its lowest bits were looked at.
+    for kind in (16, 17, 20, 21, 0x100, 0x104, 0x10001, 0x10000004, 1 << 31, ONES):
+        write_case(TYPE, kind, right_body(4))
+    write_case(TYPE, 6)
+    write_case(TYPE, 15, [], at=0, room=0)
+    for kind in TYPES:
+        write_case(WRITTEN, kind, right_body(kind), count=kind)
+
+
+# VALUE
+
+
+def values():
+    widths = (
+        ("count", 4), ("tsi", 2), ("tsf", 2), ("oui", 24), ("information", 16),
+        ("packet", 16),
+    )
+    for kind in TYPES:
+        body = right_body(kind)
+        for name, width in widths:
+            write_case(WRITTEN, kind, body, c=1, **{name: 2**width - 1})
+            write_case(VALUE, kind, body, c=1, **{name: 2**width})
+    for name, width in widths:
+        write_case(WRITTEN, 1, [5], c=1, **{name: 2 ** (width - 1)})
+        write_case(VALUE, 1, [5], c=1, **{name: 2**width + 1})
+        write_case(VALUE, 4, [0], c=1, **{name: 1 << 31})
+        write_case(VALUE, 2, [], c=1, **{name: ONES})
+    # All of them at their largest, and one of them over.
+    largest = {name: 2**width - 1 for name, width in widths}
+    write_case(WRITTEN, 3, [6], c=1, **largest)
+    for name, width in widths:
+        write_case(VALUE, 3, [6], c=1, **{**largest, name: 2**width})
+
+
+def flags():
+    for kind in DATA_TYPES:
+        write_case(WRITTEN, kind, [8], t=1)
+        write_case(VALUE, kind, [8], m=1)
+        write_case(VALUE, kind, [8], t=1, m=1)
+        write_case(VALUE, kind, m=1, c=1, tsi=1, tsf=1)
+    for kind in CONTEXT_TYPES:
+        body = right_body(kind)
+        write_case(WRITTEN, kind, body, m=1)
+        write_case(VALUE, kind, body, t=1)
+        write_case(VALUE, kind, body, t=1, m=1)
+        write_case(VALUE, kind, body, t=1, c=1, tsi=1, tsf=1)
+
+
+# All types with all choices of optional parts.
+
+
+def choices():
+    """What is absent is given as a number that could not be written, or as
+    all ones."""
+    step = 0
+    for kind in TYPES:
+        for choice in range(16):
+            c, flag, seconds, fraction = (choice >> i & 1 for i in (3, 2, 1, 0))
+            t = flag if kind in DATA_TYPES else 0
+            tsi = (1 + step % 3) * seconds
+            tsf = (1 + step // 3 % 3) * fraction
+            identified = kind in (1, 3, 4, 5)
+            wild = (ONES, 1 << 24, 1 << 31)[step % 3]
+            write_case(
+                WRITTEN,
+                kind,
+                right_body(kind) if step % 2 else right_body(kind)[:1] if kind != 4 else [0],
+                c=c,
+                t=t,
+                m=flag if kind in CONTEXT_TYPES else 0,
+                tsi=tsi,
+                tsf=tsf,
+                count=step % 16,
+                identifier=0x1D000000 + step if identified else ONES,
+                oui=0x00C1A500 + step if c else wild,
+                information=0x8001 + step if c else wild,
+                packet=0x4001 + step if c else wild,
+                seconds=0x80000001 + step if tsi else ONES,
+                fraction=0x000000E8_80000001 + step if tsf else (1 << 64) - 1,
+                trailer=0x7A110000 + step if t else ONES,
+                at=step % 5,
+            )
+            step += 1
+
+
+def absent_parts():
+    # Each absent part alone.
+    write_case(WRITTEN, 1, [1], oui=1 << 24)
+    write_case(WRITTEN, 1, [1], oui=ONES)
+    write_case(WRITTEN, 1, [1], information=1 << 16)
+    write_case(WRITTEN, 1, [1], packet=1 << 16)
+    write_case(WRITTEN, 1, [1], seconds=ONES)
+    write_case(WRITTEN, 1, [1], fraction=TERA)
+    write_case(WRITTEN, 1, [1], tsi=1, fraction=(1 << 64) - 1)
+    write_case(WRITTEN, 1, [1], tsf=2, seconds=ONES)
+    write_case(WRITTEN, 1, [1], trailer=ONES)
+    write_case(WRITTEN, 4, [0], trailer=ONES)
+    write_case(WRITTEN, 5, [0], trailer=ONES, m=1)
+    for kind in (0, 2):
+        write_case(WRITTEN, kind, [], identifier=ONES)
+        write_case(WRITTEN, kind, [1], identifier=ONES, c=1, t=1)
+    # The same parts present.
+    write_case(WRITTEN, 1, [1], tsi=1, seconds=ONES)
+    write_case(WRITTEN, 1, [1], tsf=1, fraction=(1 << 64) - 1)
+    write_case(WRITTEN, 1, [1], t=1, trailer=ONES)
+    write_case(WRITTEN, 1, [1], identifier=ONES)
+    write_case(WRITTEN, 1, [1], c=1, t=1, tsi=3, tsf=3, identifier=0, oui=0,
+               information=0, packet=0, seconds=0, fraction=0, trailer=0)
+
+
+# SHORT
+
+
+def short_bodies():
+    for choice in range(16):
+        c, m, seconds, fraction = (choice >> i & 1 for i in (3, 2, 1, 0))
+        write_case(SHORT, 4, [], c=c, m=m, tsi=2 * seconds, tsf=3 * fraction)
+        write_case(WRITTEN, 4, [0], c=c, m=m, tsi=2 * seconds, tsf=3 * fraction)
+    # "A data body may have no words (ours)."
+    for kind in (0, 1, 2, 3, 5):
+        write_case(WRITTEN, kind)
+        write_case(WRITTEN, kind, t=1 if kind in DATA_TYPES else 0, c=1, tsi=1, tsf=1)
+
+
+# SIZE.  The words of one such case are a quarter of a megabyte, so there are
+# few of them.
+
+
+def sizes():
+    everything = dict(c=1, t=1, tsi=2, tsf=2, count=9, fraction=TERA - 1)
+    body = [i * 0x9E3779B1 & ONES for i in range(65600)]
+    # Eight words of other parts.
+    write_case(WRITTEN, 1, body[: 65535 - 8], at=0, room=65535, **everything)
+    write_case(SIZE, 3, body[: 65536 - 8], at=0, room=65600, **everything)
+    # No other part than the header.
+    write_case(SIZE, 0, body[: 65536 - 1], at=0, room=65536)
+    # SIZE before TIME, INDICATOR, LAYOUT and ROOM.
+    write_case(SIZE, 4, [ONES] + body[: 65536 - 5], tsf=2, fraction=TERA, at=ONES, room=0)
+    both_faults.add((SIZE, TIME))
+    # VALUE before SIZE.
+    write_case(VALUE, 5, body, count=16, at=0, room=0)
+    both_faults.add((VALUE, SIZE))
+
+
+# TIME
+
+
+def times():
+    edges = (
+        TERA - 1,
+        TERA,
+        TERA + 1,
+        TERA >> 32 << 32,
+        (TERA >> 32) + 1 << 32,
+        1 << 63,
+        ONES,
+        (1 << 64) - 1,
+    )
+    for fraction in edges:
+        for tsf in range(4):
+            late = tsf == 2 and fraction >= TERA
+            write_case(TIME if late else WRITTEN, 1, [1], tsf=tsf, fraction=fraction)
+    for kind in TYPES:
+        body = right_body(kind)
+        write_case(TIME, kind, body, c=1, tsi=3, tsf=2, fraction=TERA)
+        write_case(WRITTEN, kind, body, c=1, tsi=3, tsf=2, fraction=TERA - 1)
+
+
+# INDICATOR, LAYOUT and FIELD: what reading refuses, writing refuses.
+
+
+def as_in_reading():
+    """The cases of read_vectors.py: what reading accepts is written again, and
+    what it refuses from TIME on is refused in writing with the same number.
+    The longest are left out."""
+    refused_before = [0] * 11
+    step = 0
+    for words, _ in read_vectors.cases:
+        if len(words) > 60000:
+            continue
+        answer, what = vrt49.read(words)
+        step += 1
+        at = (0, 1, 3, 8)[step % 4]
+        if answer == "accepted":
+            # Every ninth time one word too few.
+            room = at + what.size + (0, 1, 5)[step % 3]
+            if step % 9 == 0:
+                again_case(ROOM, words, at, at + what.size - 1)
+            else:
+                again_case(WRITTEN, words, at, room)
+        else:
+            refused_before[what] += 1
+            if refused_before[what] <= 8:
+                again_case(what, words, at)
+            if what in (TIME, INDICATOR, LAYOUT, FIELD) and len(words) < 1000:
+                parts = vrt49_write.parts_of(vrt49.packet_of(words))
+                body = vrt49.body_of(words)
+                cases.append((WRITE, (parts, body, at, at + len(words) + 1), what))
+
+
+# ROOM
+
+
+def rooms():
+    for step, kind in enumerate(TYPES):
+        parts = dict(c=step % 2, tsi=step % 3, tsf=step % 4, count=step)
+        body = right_body(kind)
+        size = 1 + (kind in (1, 3, 4, 5)) + 2 * parts["c"] + (parts["tsi"] > 0)
+        size += 2 * (parts["tsf"] > 0) + len(body)
+        for room in (size, size + 7):
+            places = (
+                (0, WRITTEN),
+                (room - size, WRITTEN),
+                (room - size + 1, ROOM),
+                (room - 1, ROOM),
+                (room, ROOM),
+                (room + 1, ROOM),
+                # Sums that would come out even if they wrapped at 2^32.
+                (2**32 - size, ROOM),
+                (2**32 - size + 1, ROOM),
+                (1 << 31, ROOM),
+                (ONES, ROOM),
+            )
+            for at, answer in places:
+                write_case(answer, kind, body, at=at, room=room, **parts)
+        write_case(WRITTEN, kind, body, at=3, room=size + 7, **parts)
+        write_case(ROOM, kind, body, at=0, room=size - 1, **parts)
+        write_case(ROOM, kind, body, at=0, room=0, **parts)
+        write_case(ROOM, kind, body, at=1, room=0, **parts)
+        write_case(ROOM, kind, body, at=ONES, room=0, **parts)
+    # One word.
+    for room in (1, 2):
+        write_case(WRITTEN, 0, at=room - 1, room=room)
+        write_case(ROOM, 0, at=room, room=room)
+        write_case(ROOM, 2, at=room + 1, room=room)
+        write_case(ROOM, 2, at=ONES, room=room)
+    # Buffers whose words are printed, and buffers whose sum is.
+    for room in (299, 300, 301, 302, 1000, 65535, 65536, 65600):
+        for at, answer in ((0, WRITTEN), (room // 2, WRITTEN), (room - 7, WRITTEN),
+                           (room - 6, ROOM), (room, ROOM), (room + 1, ROOM), (ONES, ROOM)):
+            write_case(answer, 1, counted(4), t=1, at=at, room=room)
+    for number, wrong in ((TYPE, dict(kind=6)), (VALUE, dict(kind=1, count=16)),
+                          (TIME, dict(kind=1, tsf=2, fraction=TERA))):
+        write_case(number, **wrong, at=4, room=301)
+        write_case(number, **wrong, at=4, room=65600)
+
+
+# The order of the refusals.
+
+
+def with_faults(faults, step):
+    """A type 4 packet with just these faults."""
+    level = 0x00010000 << step % 16 if FIELD in faults else 0x0000FF80
+    indicator = 0x81000400 | (1 << step % 8 if INDICATOR in faults else 0)
+    body = [indicator, level, 7]
+    if LAYOUT in faults:
+        body = body + [0] if step % 2 else body[:2]
+    if SHORT in faults:
+        body = []
+    parts = dict(c=step % 2, tsi=step % 3, count=step % 16)
+    if TIME in faults:
+        parts.update(tsf=2, fraction=TERA)
+    size = 2 + 2 * parts["c"] + (parts["tsi"] > 0) + 2 * (TIME in faults) + len(body)
+    if VALUE in faults:
+        wrong = (
+            dict(count=16), dict(tsi=4), dict(c=1, oui=1 << 24), dict(t=1),
+            dict(c=1, information=1 << 16), dict(c=1, packet=1 << 16),
+        )
+        parts.update(wrong[step % 6])
+    at = step % 4
+    if ROOM in faults:
+        # One word too few, or a start past the end.
+        room, at = (size - 1, 0) if step % 2 else (20, 21)
+    else:
+        room = at + size + 4
+    kind = 6 + step % 10 if TYPE in faults else 4
+    write_case(min(faults, key=ORDER.index), kind, body, at=at, room=room, **parts)
+
+
+def order():
+    """Every set of faults that one packet can have, without SIZE.  A body with
+    no words has no fault of its own."""
+    step = 0
+    possible = (TYPE, VALUE, SHORT, TIME, INDICATOR, LAYOUT, FIELD, ROOM)
+    for chosen in range(1, 1 << len(possible)):
+        faults = [number for i, number in enumerate(possible) if chosen >> i & 1]
+        if SHORT in faults and not {INDICATOR, LAYOUT, FIELD}.isdisjoint(faults):
+            continue
+        with_faults(faults, step)
+        step += 1
+        if len(faults) == 2:
+            # Once more, with other faults of the same numbers.
+            with_faults(faults, step)
+            step += 1
+            both_faults.add(tuple(faults))
+
+
+# Trailer words
+
+
+def trailers():
+    right = (
+        (0, 0, 0, 0), (0xFFF, 0xFFF, 1, 0x7F), (0xFFF, 0, 0, 0), (0, 0xFFF, 0, 0),
+        (0, 0, 1, 0), (0, 0, 0, 0x7F), (0x800, 0x001, 1, 0x40), (0x001, 0x800, 0, 0x01),
+        (0x123, 0x456, 0, 0x78), (0xABC, 0xDEF, 1, 0x12),
+    )
+    for numbers in right:
+        trailer_case(WRITTEN, *numbers)
+    for place, width in enumerate((12, 12, 1, 7)):
+        for wrong in (2**width, 2**width + 1, 2 ** (width + 1), 1 << 31, ONES):
+            for others in ((0, 0, 0, 0), (0xFFF, 0xFFF, 1, 0x7F)):
+                numbers = list(others)
+                numbers[place] = wrong
+                trailer_case(VALUE, *numbers)
+    trailer_case(VALUE, ONES, ONES, ONES, ONES)
+    numbers = read_vectors.Numbers(7)
+    for _ in range(20):
+        word = numbers.word()
+        trailer_case(WRITTEN, word >> 20, word >> 8 & 0xFFF, word >> 7 & 1, word & 0x7F)
+
+
+# Pseudo-random cases.
+
+
+def random_cases():
+    numbers = read_vectors.Numbers(490)
+    for _ in range(80):
+        words = read_vectors.random_packet(numbers)
+        at = numbers.below(12)
+        room = at + len(words) + numbers.below(8)
+        again_case(WRITTEN, words + numbers.some(numbers.below(3)), at, room)
+    for _ in range(120):
+        # The parts of a packet, one of them changed, near the end of the room.
+        words = read_vectors.random_packet(numbers)
+        parts = vrt49_write.parts_of(vrt49.read(words)[1])
+        body = vrt49.body_of(words)
+        way = numbers.below(12)
+        if way == 0:
+            parts.type = numbers.below(8)
+        elif way == 1:
+            parts.count = numbers.below(20)
+        elif way == 2:
+            parts.tsi = numbers.below(6)
+        elif way == 3:
+            parts.tsf = numbers.below(6)
+        elif way == 4:
+            parts.oui = numbers.word() >> numbers.below(10)
+        elif way == 5:
+            parts.information = numbers.word() >> numbers.below(18)
+        elif way == 6:
+            parts.packet = numbers.word() >> numbers.below(18)
+        elif way == 7:
+            parts.trailer_flag = numbers.below(2)
+        elif way == 8:
+            parts.tsm = numbers.below(2)
+        elif way == 9 and body:
+            body[numbers.below(len(body))] ^= 1 << numbers.below(32)
+        elif way == 10:
+            body = body + [numbers.word()]
+        elif way == 11:
+            body = body[:-1]
+        at = numbers.below(6)
+        room = at + len(body) + 2 + numbers.below(9)
+        cases.append((WRITE, (parts, body, at, room), None))
+
+
+# The two files.
+
+
+def buffer_line(words):
+    if len(words) <= 300:
+        return "  words" + "".join(f" {word}" for word in words)
+    return f"  sum {sum(words) % 2**32}"
+
+
+def built(parts, body):
+    """The words that read_vectors.py makes of the parts."""
+    return read_vectors.packet(
+        parts.type,
+        body,
+        c=parts.class_flag,
+        t=parts.trailer_flag,
+        m=parts.tsm,
+        tsi=parts.tsi,
+        tsf=parts.tsf,
+        count=parts.count,
+        identifier=parts.identifier,
+        oui=parts.oui,
+        classes=parts.information << 16 | parts.packet,
+        seconds=parts.seconds,
+        fraction=parts.fraction,
+        trailer=parts.trailer,
+    )
+
+
+def written_lines(k, parts, body, at, room):
+    """The answer, the buffer afterwards, and the lines for both."""
+    before = [PATTERN] * room
+    (answer, what), after = vrt49_write.write(parts, body, before, at)
+    if answer == "refused":
+        if after != before:
+            sys.exit(f"case {k} is refused and has written")
+        return what, after, [f"{k} refused {what}", buffer_line(after)]
+    words = built(parts, body)
+    if what != len(words):
+        sys.exit(f"case {k} has written {what} words, not {len(words)}")
+    if after != before[:at] + words + before[at + len(words) :] or len(after) != room:
+        sys.exit(f"case {k} has not written the packet that was asked for")
+    return WRITTEN, after, [f"{k} wrote {what}", buffer_line(after)]
+
+
+def of_write(k, arguments):
+    parts, body, at, room = arguments
+    given = [
+        parts.type, parts.class_flag, parts.trailer_flag, parts.tsm, parts.tsi, parts.tsf,
+        parts.count, parts.identifier, parts.oui, parts.information, parts.packet,
+        parts.seconds, parts.fraction >> 32, parts.fraction & ONES, parts.trailer, at, room,
+        len(body), *body,
+    ]
+    number, _, found = written_lines(k, parts, body, at, room)
+    if number != WRITTEN:
+        return given, number, f"write refused {number}", found
+    return given, number, "write wrote", found
+
+
+def of_again(k, arguments):
+    words, at, room = arguments
+    given = [at, room, len(words), *words]
+    answer, what = vrt49.read(words)
+    if answer == "refused":
+        return given, what, f"again refused {what} in reading", [f"{k} refused {what}"]
+    parts = vrt49_write.parts_of(what)
+    number, after, found = written_lines(k, parts, vrt49.body_of(words), at, room)
+    if number != WRITTEN:
+        return given, number, f"again refused {number} in writing", found
+    # What was read is written word for word, and reads back as it was.
+    if after[at : at + what.size] != words[: what.size]:
+        sys.exit(f"case {k} has not written the words that were read")
+    if vrt49.read(after[at:]) != ("accepted", what):
+        sys.exit(f"case {k} does not read back as it was")
+    return given, number, "again wrote", found + read_vectors.packet_lines("  ", what)
+
+
+def of_trailer(k, arguments):
+    answer, what = vrt49_write.trailer_word(*arguments)
+    if answer == "refused":
+        return list(arguments), what, f"trailer refused {what}", [f"{k} refused {what}"]
+    if vrt49.trailer_parts(what) != arguments:
+        sys.exit(f"case {k} is a trailer word of other parts")
+    return list(arguments), WRITTEN, "trailer word", [f"{k} trailer {what}"]
+
+
+ASK = {WRITE: of_write, AGAIN: of_again, TRAILER: of_trailer}
+
+
+def build():
+    read_vectors.build()
+    types()
+    values()
+    flags()
+    choices()
+    absent_parts()
+    short_bodies()
+    times()
+    as_in_reading()
+    rooms()
+    order()
+    trailers()
+    random_cases()
+    sizes()
+
+
+# Each answer, and the least number of its cases.
+LEAST = {
+    "write wrote": 150,
+    **{f"write refused {number}": 8 for number in ORDER},
+    f"write refused {SIZE}": 3,
+    "again wrote": 300,
+    f"again refused {ROOM} in writing": 8,
+    **{f"again refused {number} in reading": 5 for number in range(1, 11)},
+    "trailer word": 10,
+    f"trailer refused {VALUE}": 8,
+}
+
+
+def check(tally):
+    """The cases that there have to be."""
+    for label, n in LEAST.items():
+        if tally.get(label, 0) < n:
+            sys.exit(f"{label}: {tally.get(label, 0)} cases, fewer than {n}")
+    if len(cases) < 400:
+        sys.exit(f"{len(cases)} cases, fewer than 400")
+    # A body with no words is not too large, so SHORT and SIZE do not meet.
+    pairs = [pair for pair in zip(ORDER, ORDER[1:]) if pair != (SHORT, SIZE)]
+    for pair in pairs + [(VALUE, SIZE), (SHORT, TIME)]:
+        if pair not in both_faults:
+            sys.exit(f"no case has the faults {pair[0]} and {pair[1]}")
+    chosen = set()
+    places = set()
+    for op, arguments, _ in cases:
+        if op == WRITE:
+            parts, body, at, room = arguments
+            (answer, _), _ = vrt49_write.write(parts, body, [PATTERN] * room, at)
+            if answer == "written":
+                chosen.add((
+                    parts.type, parts.class_flag, parts.trailer_flag, parts.tsm,
+                    parts.tsi > 0, parts.tsf > 0,
+                ))
+                size = vrt49_write.packet_size(parts, body)
+                places.add("at the start" if at == 0 else "further on")
+                places.add("at the end" if at + size == room else "before the end")
+            elif at >= room:
+                places.add({0: "room", 1: "room + 1"}.get(at - room, "past"))
+                if at == ONES:
+                    places.add("last")
+    if len(chosen) != 6 * 16:
+        sys.exit(f"{len(chosen)} of 96 choices of type and optional parts are written")
+    if len(places) != 8:
+        sys.exit(f"of the places to write at, only these: {sorted(places)}")
+
+
+def main():
+    if len(sys.argv) != 3:
+        sys.exit("usage: write_vectors.py INPUT EXPECTED")
+    build()
+    given = bytearray()
+    expected = []
+    tally = {}
+    for k, (op, arguments, answer) in enumerate(cases):
+        words, number, label, found = ASK[op](k, arguments)
+        if answer is not None and number != answer:
+            sys.exit(f"case {k} is built for {answer}, the reference says {number}")
+        tally[label] = tally.get(label, 0) + 1
+        if op != TRAILER and max(arguments[-1], len(words)) > 65600 + 18:
+            sys.exit(f"case {k} has a count over 65,600")
+        for word in [op, *words]:
+            given += word.to_bytes(4, "big")
+        expected += found
+    check(tally)
+    if len(given) > 1_500_000:
+        sys.exit(f"the input has {len(given)} bytes, more than 1,500,000")
+    with open(sys.argv[1], "wb") as file:
+        file.write(given)
+    with open(sys.argv[2], "w", encoding="ascii", newline="\n") as file:
+        file.write("".join(line + "\n" for line in expected))
+    for label in LEAST:
+        print(f"{label}: {tally[label]}")
+    print(f"cases {len(cases)}")
+
+
+if __name__ == "__main__":
+    main()
