@@ -116,25 +116,26 @@ def types():
 # VALUE
 
 
+WIDTHS = (
+    ("count", 4), ("tsi", 2), ("tsf", 2), ("oui", 24), ("information", 16), ("packet", 16),
+)
+
+
 def values():
-    widths = (
-        ("count", 4), ("tsi", 2), ("tsf", 2), ("oui", 24), ("information", 16),
-        ("packet", 16),
-    )
     for kind in TYPES:
         body = right_body(kind)
-        for name, width in widths:
+        for name, width in WIDTHS:
             write_case(WRITTEN, kind, body, c=1, **{name: 2**width - 1})
             write_case(VALUE, kind, body, c=1, **{name: 2**width})
-    for name, width in widths:
+    for name, width in WIDTHS:
         write_case(WRITTEN, 1, [5], c=1, **{name: 2 ** (width - 1)})
         write_case(VALUE, 1, [5], c=1, **{name: 2**width + 1})
         write_case(VALUE, 4, [0], c=1, **{name: 1 << 31})
         write_case(VALUE, 2, [], c=1, **{name: ONES})
     # All of them at their largest, and one of them over.
-    largest = {name: 2**width - 1 for name, width in widths}
+    largest = {name: 2**width - 1 for name, width in WIDTHS}
     write_case(WRITTEN, 3, [6], c=1, **largest)
-    for name, width in widths:
+    for name, width in WIDTHS:
         write_case(VALUE, 3, [6], c=1, **{**largest, name: 2**width})
 
 
@@ -349,6 +350,14 @@ def rooms():
                           (TIME, dict(kind=1, tsf=2, fraction=TERA))):
         write_case(number, **wrong, at=4, room=301)
         write_case(number, **wrong, at=4, room=65600)
+    # Five words that were read.
+    words = read_vectors.packet(1, counted(2), t=1, trailer=0x80080000)
+    for at, room, answer in (
+        (0, 5, WRITTEN), (2, 7, WRITTEN), (3, 7, ROOM), (7, 7, ROOM), (8, 7, ROOM),
+        (ONES, 7, ROOM), (2**32 - 5, 7, ROOM), (0, 0, ROOM), (0, 400, WRITTEN),
+        (395, 400, WRITTEN), (396, 400, ROOM), (65595, 65600, WRITTEN),
+    ):
+        again_case(answer, words, at, room)
 
 
 # The order of the refusals.
@@ -501,6 +510,8 @@ def built(parts, body):
 
 def written_lines(k, parts, body, at, room):
     """The answer, the buffer afterwards, and the lines for both."""
+    if max(room, len(body)) > 65600:
+        sys.exit(f"case {k} has a count over 65,600")
     before = [PATTERN] * room
     (answer, what), after = vrt49_write.write(parts, body, before, at)
     if answer == "refused":
@@ -591,6 +602,9 @@ LEAST = {
 
 def check(tally):
     """The cases that there have to be."""
+    for label in tally:
+        if label not in LEAST:
+            sys.exit(f"{label}: not an answer that is asked for")
     for label, n in LEAST.items():
         if tally.get(label, 0) < n:
             sys.exit(f"{label}: {tally.get(label, 0)} cases, fewer than {n}")
@@ -603,26 +617,63 @@ def check(tally):
             sys.exit(f"no case has the faults {pair[0]} and {pair[1]}")
     chosen = set()
     places = set()
-    for op, arguments, _ in cases:
-        if op == WRITE:
-            parts, body, at, room = arguments
-            (answer, _), _ = vrt49_write.write(parts, body, [PATTERN] * room, at)
-            if answer == "written":
-                chosen.add((
-                    parts.type, parts.class_flag, parts.trailer_flag, parts.tsm,
-                    parts.tsi > 0, parts.tsf > 0,
-                ))
-                size = vrt49_write.packet_size(parts, body)
-                places.add("at the start" if at == 0 else "further on")
-                places.add("at the end" if at + size == room else "before the end")
-            elif at >= room:
-                places.add({0: "room", 1: "room + 1"}.get(at - room, "past"))
-                if at == ONES:
-                    places.add("last")
+    for op, arguments, answer in cases:
+        if op != WRITE or answer not in (WRITTEN, ROOM):
+            continue
+        parts, body, at, room = arguments
+        size = vrt49_write.packet_size(parts, body)
+        if answer == WRITTEN:
+            chosen.add((
+                parts.type, parts.class_flag, parts.trailer_flag, parts.tsm,
+                parts.tsi > 0, parts.tsf > 0,
+            ))
+        for name, there in (
+            ("the start", at == 0 and answer == WRITTEN),
+            ("the middle", at > 0 and at + size < room),
+            ("the last place that fits", at > 0 and at + size == room),
+            ("one word too few", at + size == room + 1),
+            ("the room", at == room),
+            ("past the room", at == room + 1),
+            ("2^32 - 1", at == ONES),
+        ):
+            if there:
+                places.add((parts.type, name))
     if len(chosen) != 6 * 16:
         sys.exit(f"{len(chosen)} of 96 choices of type and optional parts are written")
-    if len(places) != 8:
-        sys.exit(f"of the places to write at, only these: {sorted(places)}")
+    if len(places) != 6 * 7:
+        sys.exit(f"{len(places)} of 42 types and places to write at are there")
+
+
+def check_edges():
+    """The edges of TYPE, VALUE and TIME, and absent parts that would not fit."""
+    found = set()
+    for op, arguments, answer in cases:
+        if op != WRITE:
+            continue
+        parts, _, _, _ = arguments
+        found.add((answer, "type", parts.type))
+        found.add((answer, parts.type, "trailer", parts.trailer_flag, "tsm", parts.tsm))
+        found.add((answer, "tsf", parts.tsf, "fraction", parts.fraction))
+        for name, width in WIDTHS:
+            there = parts.class_flag == 1 or name in ("count", "tsi", "tsf")
+            if there:
+                found.add((answer, name, getattr(parts, name) - 2**width))
+            elif getattr(parts, name) >= 2**width:
+                found.add((answer, name, "absent"))
+    wanted = [(WRITTEN, "type", 5), (TYPE, "type", 6), (TYPE, "type", 16), (TYPE, "type", ONES)]
+    for kind in DATA_TYPES:
+        wanted += [(WRITTEN, kind, "trailer", 1, "tsm", 0), (VALUE, kind, "trailer", 0, "tsm", 1)]
+    for kind in CONTEXT_TYPES:
+        wanted += [(WRITTEN, kind, "trailer", 0, "tsm", 1), (VALUE, kind, "trailer", 1, "tsm", 0)]
+    wanted += [(TIME, "tsf", 2, "fraction", TERA), (WRITTEN, "tsf", 2, "fraction", TERA - 1)]
+    wanted += [(WRITTEN, "tsf", tsf, "fraction", TERA) for tsf in (0, 1, 3)]
+    for name, _ in WIDTHS:
+        wanted += [(WRITTEN, name, -1), (VALUE, name, 0)]
+    for name in ("oui", "information", "packet"):
+        wanted.append((WRITTEN, name, "absent"))
+    for edge in wanted:
+        if edge not in found:
+            sys.exit(f"no case at the edge {edge}")
 
 
 def main():
@@ -637,12 +688,11 @@ def main():
         if answer is not None and number != answer:
             sys.exit(f"case {k} is built for {answer}, the reference says {number}")
         tally[label] = tally.get(label, 0) + 1
-        if op != TRAILER and max(arguments[-1], len(words)) > 65600 + 18:
-            sys.exit(f"case {k} has a count over 65,600")
         for word in [op, *words]:
             given += word.to_bytes(4, "big")
         expected += found
     check(tally)
+    check_edges()
     if len(given) > 1_500_000:
         sys.exit(f"the input has {len(given)} bytes, more than 1,500,000")
     with open(sys.argv[1], "wb") as file:

@@ -2,10 +2,9 @@
 pub mod inner;
 
 ghost use mathlib.Core.Path.{_≡_};
-ghost use Prim.Native.Nat.{_≤_};
 ghost use lib.ListN.{length};
 ghost use Rattle.fields.specs.Layout.{carried, contextOf};
-ghost use Rattle.fields.specs.Answers.{checkPaper};
+ghost use Rattle.words.specs.Outcome.{checked};
 
 // The number of fields that an indicator carries, those of bits 30 down: count of ones.
 pub fn field_count(indicator: u32) -> u32
@@ -14,26 +13,20 @@ pub fn field_count(indicator: u32) -> u32
     u32::count_ones(indicator % 0x8000_0000)
 }
 
-// What a type 4 body is found to be.
-pub enum Check {
-    Fine,
-    Refused(u32),
-}
-
 // Whether a type 4 body is as document 01 says: INDICATOR, LAYOUT or FIELD where it is not.
-pub fn check_body(body: &[u32]) -> Check
-    ensures { λ r. ⌜ checkPaper r ≡ contextOf (now (body .entry)) ⌝ }
+pub fn check_body(body: &[u32]) -> words::Check
+    ensures { λ r. ⌜ checked r ≡ contextOf (now (body .entry)) ⌝ }
 {
     let indicator = words::inner::word_at(body, 0);
     if indicator % 256 != 0 {
-        return Check::Refused(words::INDICATOR);
+        return words::Check::Refused(words::INDICATOR);
     }
     let found = crate::inner::walk(indicator % 0x8000_0000, body);
     if found.end != body.len() {
-        return Check::Refused(words::LAYOUT);
+        return words::Check::Refused(words::LAYOUT);
     }
     if found.kept {
-        return Check::Fine;
+        return words::Check::Fine;
     }
-    Check::Refused(words::FIELD)
+    words::Check::Refused(words::FIELD)
 }

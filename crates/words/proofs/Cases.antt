@@ -3,11 +3,12 @@ use mathlib.Core.Path.{_≡_, refl}
 use mathlib.Core.Bool.{Bool, true, false}
 use mathlib.Core.Logic.{_⊎_, inl, inr, ⊎-elim}
 use Prim.Native.Nat.{ℕ, zero, suc, _≤_, _<_, zero-le, suc-le-suc}
+use native.Mathlib.Nat.{le-refl}
 use native.Mathlib.Omega.{arith}
 use borrow.Author.Needs.{needs}
 use borrow.Author.Tests.{lt-ltb, le-ltb, le-leb, lt-leb, eq-eqb, ne-eqb}
-use Rattle.words.specs.Tests.{pick, both}
-use Rattle.words.specs.Outcome.{Outcome, refused, accepted}
+use Rattle.words.specs.Tests.{pick, when, both}
+use Rattle.words.specs.Outcome.{Outcome, refused, accepted, after}
 
 -- for `search`: `search cases` closes most returns of a function that goes by tests on numbers
 pub ruleset cases = (needs, eq-eqb, ne-eqb, lt-ltb, le-ltb, le-leb, lt-leb)
@@ -42,12 +43,22 @@ pub both-assoc : (a b c : Bool) → both (both a b) c ≡ both a (both b c)
 both-assoc true b c = refl
 both-assoc false b c = refl
 
+-- ---- an optional number
+pub when-most : (t : Bool) (n : ℕ) → when t n ≤ n
+when-most true n = le-refl n
+when-most false n = zero-le
+
 -- ---- chains of refusals
 module _ {A : Type 0} where
   -- one test of a chain was passed
   pub passed : (t : Bool) (n : ℕ) (o : Outcome A) (a : A) → pick t (refused n) o ≡ accepted a → (t ≡ false) × (o ≡ accepted a)
   passed true n o a e = let z : _≡_ {A = ℕ} 0 1 = cc in absurd (omega arith)
   passed false n o a e = (refl, e)
+
+  -- some checks before an accepted answer found nothing
+  pub after-passed : {B : Type 0} (o : Outcome B) (rest : Outcome A) (a : A) → after o rest ≡ accepted a → (b : B) × (o ≡ accepted b) × (rest ≡ accepted a)
+  after-passed (refused n) rest a e = let z : _≡_ {A = ℕ} 0 1 = cc in absurd (omega arith)
+  after-passed (accepted b) rest a e = (b, refl, e)
 
   -- an accepted answer has one value
   pub accepted-same : {a b : A} → accepted a ≡ accepted b → a ≡ b

@@ -1,6 +1,8 @@
 -- What a call answers, as document 01 has it: "A refusal returns its number alone and writes nothing".
 use mathlib.Core.Path.{_≡_}
 use Prim.Native.Nat.{ℕ}
+use Rattle.words.specs.declared.Check.{Check}
+use Rattle.words.specs.declared.Check.the-variants.{Fine, Refused}
 
 -- an answer: refused with a number of the list, or accepted with its values
 pub data Outcome (A : Type 0) : Type 0 where
@@ -11,6 +13,11 @@ pub data Outcome (A : Type 0) : Type 0 where
 abbrev pub after : {A B : Type 0} → Outcome A → Outcome B → Outcome B
 after (refused n) rest = refused n
 after (accepted a) rest = rest
+
+-- what checks find, as an answer without values
+abbrev pub checked : Check → Outcome Unit
+checked Fine = accepted tt
+checked (Refused n) = refused n
 
 -- an accepted call that was lent a buffer: what it says, and what it leaves in the buffer
 pub record Done (A L : Type 0) : Type 0 where

@@ -21,3 +21,9 @@ pub use numbers::TABLE;
 pub use numbers::TIME;
 pub use numbers::TYPE;
 pub use numbers::VALUE;
+
+// What checks find: nothing to refuse, or the number of the refusal.
+pub enum Check {
+    Fine,
+    Refused(u32),
+}

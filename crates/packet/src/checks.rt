@@ -1,0 +1,84 @@
+// The refusals of reading, from the header on. Each number of the list is given in one place.
+ghost use mathlib.Core.Path.{_≡_};
+ghost use Prim.Native.Nat.{_≤_};
+ghost use lib.ListN.{length};
+ghost use Rattle.words.specs.Outcome.{checked};
+ghost use Rattle.packet.specs.Header.{sizeOf};
+ghost use Rattle.packet.specs.Parts.{requiredOf};
+ghost use Rattle.packet.specs.Read.{headerChecks, sizeChecks, prologueChecks, bodyChecks, checksOf};
+
+// TYPE and BITS.
+fn check_header(w: u32) -> words::Check
+    ensures { λ r. ⌜ checked r ≡ headerChecks w ⌝ }
+{
+    if 5 < crate::header::type_of(w) {
+        return words::Check::Refused(words::TYPE);
+    }
+    if crate::header::reserved_of(w) != 0 {
+        return words::Check::Refused(words::BITS);
+    }
+    words::Check::Fine
+}
+
+// SHORT and CUT, of words as many as given.
+fn check_size(w: u32, given: usize) -> words::Check
+    ensures { λ r. ⌜ checked r ≡ sizeChecks w given ⌝ }
+{
+    let size = crate::header::size_of(w);
+    if size < crate::header::required(w) {
+        return words::Check::Refused(words::SHORT);
+    }
+    if given < size {
+        return words::Check::Refused(words::CUT);
+    }
+    words::Check::Fine
+}
+
+// CLASS and TIME.
+fn check_prologue(w: u32, words: &[u32]) -> words::Check
+    requires { ⌜ (requiredOf w ≤ sizeOf w) × (sizeOf w ≤ length (now words)) ⌝ }
+    ensures { λ r. ⌜ checked r ≡ prologueChecks w (now (words .entry)) ⌝ }
+{
+    let class = crate::prologue::class_of(w, words);
+    if class.high / 0x100_0000 % 256 != 0 {
+        return words::Check::Refused(words::CLASS);
+    }
+    if crate::header::tsf_of(w) == 2 {
+        if 1_000_000_000_000 <= crate::prologue::fraction_of(w, words) {
+            return words::Check::Refused(words::TIME);
+        }
+    }
+    words::Check::Fine
+}
+
+// INDICATOR, LAYOUT and FIELD.
+fn check_context(w: u32, words: &[u32]) -> words::Check
+    requires { ⌜ (requiredOf w ≤ sizeOf w) × (sizeOf w ≤ length (now words)) ⌝ }
+    ensures { λ r. ⌜ checked r ≡ bodyChecks w (now (words .entry)) ⌝ }
+{
+    if crate::header::type_of(w) != 4 {
+        return words::Check::Fine;
+    }
+    let at = crate::header::body_at(w);
+    let end = at + crate::prologue::body_length(w);
+    fields::check_body(&words[at..end])
+}
+
+// All of them, in their order.
+pub fn check(w: u32, words: &[u32]) -> words::Check
+    ensures { λ r. ⌜ checked r ≡ checksOf w (now (words .entry)) ⌝ }
+{
+    let header = check_header(w);
+    if let words::Check::Refused(n) = header {
+        return words::Check::Refused(n);
+    }
+    let size = check_size(w, words.len());
+    if let words::Check::Refused(n) = size {
+        return words::Check::Refused(n);
+    }
+    let prologue = check_prologue(w, words);
+    if let words::Check::Refused(n) = prologue {
+        return words::Check::Refused(n);
+    }
+    check_context(w, words)
+}

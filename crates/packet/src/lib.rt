@@ -1,0 +1,78 @@
+// A packet: its header, prologue, body and trailer, read from words.
+mod checks;
+mod header;
+mod prologue;
+
+ghost use mathlib.Core.Path.{_≡_};
+ghost use Rattle.packet.specs.Read.{paper, readOf};
+ghost use Rattle.packet.specs.Trailer.{trailerOf};
+
+// The parts of a packet beside its body. A part that is absent is zero.
+pub struct Parts {
+    // the type, 0 to 5
+    pub kind: u32,
+    // C: a class is there
+    pub classed: bool,
+    // T: a trailer is there
+    pub trailed: bool,
+    pub tsm: bool,
+    pub tsi: u32,
+    pub tsf: u32,
+    pub count: u32,
+    pub identifier: u32,
+    pub oui: u32,
+    pub information: u32,
+    pub packet: u32,
+    pub seconds: u32,
+    pub fraction: u64,
+    pub trailer: u32,
+}
+
+// A packet that was read: its parts, its size in words, and where its body begins and how many words it has.
+pub struct Packet {
+    pub parts: Parts,
+    pub size: usize,
+    pub body: usize,
+    pub length: usize,
+}
+
+// What reading answers: the packet, or the number of the refusal.
+pub enum Parsed {
+    Accepted(Packet),
+    Refused(u32),
+}
+
+// The packet that stands at the front of the words, or the first of the refusals 1 to 10 that applies. Words beyond its size are ignored.
+pub fn read(words: &[u32]) -> Parsed
+    ensures { λ r. ⌜ paper r ≡ readOf (now (words .entry)) ⌝ }
+{
+    if words.len() == 0 {
+        return Parsed::Refused(words::EMPTY);
+    }
+    let w = words[0];
+    let found = checks::check(w, words);
+    if let words::Check::Refused(n) = found {
+        return Parsed::Refused(n);
+    }
+    Parsed::Accepted(prologue::packet_of(w, words))
+}
+
+// A trailer word's parts.
+pub struct Trailer {
+    pub enables: u32,
+    pub indicators: u32,
+    pub e: bool,
+    pub associated: u32,
+}
+
+// What a trailer word says: the enables, the indicators, E and the associated count.
+pub fn trailer_parts(word: u32) -> Trailer
+    ensures { λ r. ⌜ r ≡ trailerOf word ⌝ }
+{
+    Trailer {
+        enables: word / 0x10_0000 % 0x1000,
+        indicators: word / 0x100 % 0x1000,
+        e: word / 0x80 % 2 == 1,
+        associated: word % 0x80,
+    }
+}
