@@ -1,13 +1,57 @@
--- The words of a body from a place on: the first two of them, where a field's rule and its own lengths stand.
-use mathlib.Core.Path.{_≡_, ap, _∙_}
-use mathlib.Core.List.{List}
-use Prim.Native.Nat.{ℕ, _+_}
-use native.Mathlib.Nat.{add-zero}
-use lib.ListN.{drop, getD}
-use lib.Seq.{getD-drop}
+-- Where a field stands. The words of a body from a place on: the first two of them, where a field's rule and its own lengths stand. A field lies
+-- inside where the words past its place suffice (`inside-cut`, `inside-whole`), and its place follows from the indicator with the bits up to
+-- its own cleared (`place-above`).
+use mathlib.Core.Path.{_≡_, sym, ap, _∙_}
+use mathlib.Core.List.{List, [], _∷_}
+use Prim.Native.Nat.{ℕ, _+_, _-_, _*_, _/_, _%_, _^_, _≤_, _<_}
+use native.Mathlib.Nat.{add-zero, mod-eq-of-lt, div-mul-le-self, lt-of-le-of-lt}
+use native.Mathlib.Numerals.{add-one}
+use native.Mathlib.Omega.{arith}
+use borrow.Author.Tests.{le-leb, lt-leb}
+use lib.ListN.{length, take, drop, getD, length-drop}
+use lib.Seq.{getD-drop, take-all}
+use Rattle.words.specs.SetBits.{bitsOf}
+use Rattle.words.proofs.SetBitLaws.{bits-mod, bits-above}
+use Rattle.fields.specs.Sizes.{wordsOf}
+use Rattle.fields.specs.Layout.{spanOf, indicatorOf, placeOf, insideOf}
+
+-- ---- the words from a place on
 
 pub first-word : (at : ℕ) (ws : List ℕ) → getD (drop at ws) 0 0 ≡ getD ws at 0
 first-word at ws = getD-drop at ws 0 0 ∙ ap (λ (i : ℕ). getD ws i 0) (add-zero at)
 
 pub second-word : (at : ℕ) (ws : List ℕ) → getD (drop at ws) 1 0 ≡ getD ws (at + 1) 0
 second-word at ws = getD-drop at ws 1 0
+
+rest-whole : (at : ℕ) (ws : List ℕ) → take (length ws - at) (drop at ws) ≡ drop at ws
+rest-whole at ws = take-all (length ws - at) (drop at ws) (omega (arith, length-drop at ws))
+
+-- ---- a field that lies inside its body, or not
+
+pub inside-past : (b at : ℕ) (body : List ℕ) → length body < at → insideOf b at body ≡ []
+unfolding insideOf
+inside-past b at body h = rw (lt-leb (at + wordsOf b (drop at body)) (length body) (omega arith))
+
+-- n words, found in the part of the body from the place on
+module _ (b at n : ℕ) (body : List ℕ) (e : n ≡ wordsOf b (take (length body - at) (drop at body))) where
+  words-there : wordsOf b (drop at body) ≡ n
+  words-there = sym (e ∙ ap (wordsOf b) (rest-whole at body))
+
+  pub inside-cut : length body - at < n → insideOf b at body ≡ []
+  unfolding insideOf
+  inside-cut h = rw (words-there, lt-leb (at + n) (length body) (omega arith))
+
+  pub inside-whole : at ≤ length body → n ≤ length body - at → insideOf b at body ≡ at ∷ n ∷ []
+  unfolding insideOf
+  inside-whole g h = rw (words-there, le-leb (at + n) (length body) (omega arith))
+
+-- ---- the place, by the indicator's bits above b, as a program clears the others
+
+cleared-small : (w k : ℕ) → w < 2 ^ 32 → w / 2 ^ k * 2 ^ k % 2 ^ 32 ≡ w / 2 ^ k * 2 ^ k
+cleared-small w k h = mod-eq-of-lt (lt-of-le-of-lt (div-mul-le-self w (2 ^ k)) h)
+
+pub place-above : (w b at : ℕ) (body : List ℕ) → w ≡ indicatorOf body → w < 2 ^ 32
+    → at ≡ 1 + spanOf (bitsOf 31 (w / 2 ^ (b + 1) * 2 ^ (b + 1) % 2 ^ 32 % 2 ^ 31)) (drop 1 body) → at ≡ placeOf b body
+unfolding placeOf
+place-above w b at body e h g =
+    g ∙ rw (cleared-small w (b + 1) h, bits-mod 31 (w / 2 ^ (b + 1) * 2 ^ (b + 1)), add-one b, bits-above 31 b w, e)

@@ -1,16 +1,20 @@
--- The sizes of fields. The idea: what holds of the rows at every bit is one test that computes, and `wordsOf` looks only at the first two words.
-use mathlib.Core.Path.{_≡_, refl, ap, _∙_}
-use mathlib.Core.Bool.{Bool}
-use mathlib.Core.List.{List, [], _∷_}
-use Prim.Native.Nat.{ℕ, _+_, _*_, _/_, _%_, _^_, _≤_, _<_}
-use native.Mathlib.Nat.{mul-le-mul-left}
+-- The sizes of fields. The idea: what holds of the rows at every bit is one test that computes, and `wordsOf` looks only at the first two words, and
+-- at none from bit 10 up.
+use mathlib.Core.Path.{_≡_, refl, sym}
+use mathlib.Core.Bool.{Bool, true}
+use mathlib.Core.List.{List, [], _∷_, _++_}
+use Prim.Native.Nat.{ℕ, _+_, _-_, _*_, _^_, _≤_, _<_}
+use native.Mathlib.Nat.{mul-le-mul-left, zero-add}
 use native.Mathlib.Omega.{arith}
-use borrow.Author.Tests.{leb-true}
-use lib.Dec.{leb}
-use lib.ListN.{getD}
+use borrow.Author.Tests.{leb-true, le-ltb, ne-eqb}
+use lib.Dec.{ltb, leb}
+use lib.ListN.{length, getD}
+use Rattle.words.specs.Tests.{pick}
+use Rattle.words.specs.SetBits.{bitsOf, above}
 use Rattle.words.specs.All.{all}
 use Rattle.words.proofs.AllLaws.{all-at}
-use Rattle.fields.specs.Sizes.{sizeOf, listWords}
+use Rattle.fields.specs.Sizes.{sizeOf, sizesOf, listWords, wordsOf}
+use Rattle.fields.specs.Layout.{carried}
 
 small : ℕ → Bool
 small b = leb (sizeOf b) 13
@@ -19,6 +23,41 @@ small b = leb (sizeOf b) 13
 pub size-small : (b : ℕ) → b < 32 → sizeOf b ≤ 13
 unfolding small sizeOf all
 size-small b h = leb-true (sizeOf b) 13 (all-at small 32 b h refl)
+
+some : ℕ → Bool
+some b = pick (ltb b 10) true (leb 1 (sizeOf b))
+
+-- each field of bits 30 to 10 has a word
+pub size-some : (b : ℕ) → 10 ≤ b → b < 31 → 1 ≤ sizeOf b
+unfolding some sizeOf all
+size-some b h g = leb-true 1 (sizeOf b) (rw (le-ltb b 10 h) at (all-at some 31 b g refl))
+
+-- ---- fields of fixed size
+
+-- document 01: "Bits 30 to 10 are 21 fields of 74 words together"; an indicator with every bit of 30 to 0 set carries them all
+pub fixed-fields : (length (above 9 (carried (2 ^ 31 - 1))) ≡ 21) × (sizesOf (above 9 (carried (2 ^ 31 - 1))) ≡ 74)
+unfolding bitsOf above sizeOf sizesOf
+fixed-fields = (refl, refl)
+
+-- from bit 10 up a field has the words of its row, whatever it holds
+pub words-fixed : (b : ℕ) (ws : List ℕ) → 10 ≤ b → wordsOf b ws ≡ sizeOf b
+unfolding wordsOf
+words-fixed b ws h = rw (ne-eqb b 9 (λ e. omega arith), ne-eqb b 8 (λ e. omega arith))
+
+pub sizes-none : sizesOf [] ≡ 0
+unfolding sizesOf
+sizes-none = refl
+
+pub sizes-more : (b : ℕ) (bs : List ℕ) → sizesOf (b ∷ bs) ≡ sizeOf b + sizesOf bs
+unfolding sizesOf
+sizes-more b bs = refl
+
+pub sizes-append : (fs bs : List ℕ) → sizesOf (fs ++ bs) ≡ sizesOf fs + sizesOf bs
+unfolding sizesOf
+sizes-append [] bs = sym (zero-add (sizesOf bs))
+sizes-append (f ∷ fs) bs = omega (arith, sizes-append fs bs)
+
+-- ---- fields that say their sizes themselves
 
 -- field 8 looks at its first two words
 pub list-words-two : (ws : List ℕ) → listWords ws ≡ listWords (getD ws 0 0 ∷ getD ws 1 0 ∷ [])

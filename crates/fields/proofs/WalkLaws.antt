@@ -3,7 +3,7 @@
 use mathlib.Core.Path.{_≡_, refl, sym, ap, _∙_}
 use mathlib.Core.Bool.{Bool, true, false}
 use mathlib.Core.List.{List, [], _∷_}
-use Prim.Native.Nat.{ℕ, suc, _+_, _*_, _%_, _^_, _≤_, _<_}
+use Prim.Native.Nat.{ℕ, _+_, _*_, _%_, _^_, _≤_, _<_}
 use native.Mathlib.Omega.{arith}
 use lib.ListN.{length, drop}
 use lib.Seq.{drop-drop}
@@ -25,11 +25,11 @@ pub record Walking (bits : ℕ) (body : List ℕ) (n rest end : ℕ) (kept : Boo
 
 -- ---- one field more
 
-span-cons : (b w at : ℕ) (bs body : List ℕ) → w ≡ wordsOf b (drop at body) → spanOf (b ∷ bs) (drop at body) ≡ w + spanOf bs (drop (at + w) body)
+pub span-cons : (b w at : ℕ) (bs body : List ℕ) → w ≡ wordsOf b (drop at body) → spanOf (b ∷ bs) (drop at body) ≡ w + spanOf bs (drop (at + w) body)
 unfolding spanOf
 span-cons b w at bs body e = rw (← e, drop-drop)
 
-rules-cons : (b w at : ℕ) (bs body : List ℕ) → w ≡ wordsOf b (drop at body)
+pub rules-cons : (b w at : ℕ) (bs body : List ℕ) → w ≡ wordsOf b (drop at body)
     → obeyed (b ∷ bs) (drop at body) ≡ both (ruleOf b (drop at body)) (obeyed bs (drop (at + w) body))
 unfolding obeyed
 rules-cons b w at bs body e = rw (← e, drop-drop)

@@ -3,11 +3,11 @@
 use Prim.Native.Nat.{ℕ, suc, _+_, _-_, _/_, _%_, _^_}
 use mathlib.Core.Bool.{Bool, true, not}
 use mathlib.Core.List.{List, [], _∷_}
-use lib.Dec.{eqb}
+use lib.Dec.{eqb, ltb, leb}
 use lib.ListN.{length, take, drop, getD}
 use Rattle.words.specs.Numbers.{INDICATOR, LAYOUT, FIELD}
 use Rattle.words.specs.Tests.{pick, both}
-use Rattle.words.specs.Word.{bits}
+use Rattle.words.specs.Word.{bits, has}
 use Rattle.words.specs.SetBits.{bitsOf, above}
 use Rattle.words.specs.Outcome.{Outcome, refused, accepted}
 use Rattle.fields.specs.Sizes.{wordsOf}
@@ -43,6 +43,17 @@ placeOf b body = 1 + spanOf (above b (carried (indicatorOf body))) (drop 1 body)
 -- the words of the field of bit b
 unfoldable pub fieldOf : ℕ → List ℕ → List ℕ
 fieldOf b body = take (wordsOf b (drop (placeOf b body) body)) (drop (placeOf b body) body)
+
+-- ---- a field that is looked for
+
+-- the place and the words of the field of bit b that stands at a place of a body; nothing where it does not lie wholly inside
+unfoldable pub insideOf : ℕ → ℕ → List ℕ → List ℕ
+insideOf b at body = pick (leb (at + wordsOf b (drop at body)) (length body)) (at ∷ wordsOf b (drop at body) ∷ []) []
+
+-- the place and the words of the field of bit b of a body; nothing where b is above 30, or the indicator does not carry it.
+-- (Bits 7-0 have fields of no words; a body that carries one is refused.)
+unfoldable pub foundOf : ℕ → List ℕ → List ℕ
+foundOf b body = pick (ltb 30 b) [] (pick (has (indicatorOf body) b) (insideOf b (placeOf b body) body) [])
 
 -- ---- the refusals, in their order
 

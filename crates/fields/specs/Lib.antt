@@ -8,3 +8,5 @@ pub mod Format
 pub mod Rules
 -- where the fields of a body stand, and the refusals INDICATOR, LAYOUT and FIELD
 pub mod Layout
+-- what the calls answer
+pub mod Answers

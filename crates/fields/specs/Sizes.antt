@@ -15,6 +15,11 @@ sizeOf b =
     (pick (among b (12 ∷ 11 ∷ [])) 13
     0)))
 
+-- the words of fields of fixed size together
+unfoldable pub sizesOf : List ℕ → ℕ
+sizesOf [] = 0
+sizesOf (b ∷ bs) = sizeOf b + sizesOf bs
+
 -- "9 (GPS ASCII): 2 + N, N the second word"
 unfoldable pub asciiWords : List ℕ → ℕ
 asciiWords ws = 2 + getD ws 1 0

@@ -1,6 +1,9 @@
 // The fields of a type 4 body: how many an indicator carries, where each stands, and what a body is refused for.
 pub mod inner;
+mod places;
 
+pub use places::Found;
+pub use places::find;
 ghost use mathlib.Core.Path.{_≡_};
 ghost use lib.ListN.{length};
 ghost use Rattle.fields.specs.Layout.{carried, contextOf};

@@ -2,6 +2,9 @@
 
 -- where the parts of a packet lie
 pub mod RoomLaws
-
 -- what an accepted packet is
 pub mod ReadLaws
+-- words beyond the size are ignored
+pub mod BeyondLaws
+-- two answers that meet a promise are equal
+pub mod Uniqueness

@@ -1,6 +1,5 @@
 -- Where the parts of a packet lie. The idea: each part ends where the next begins, and the last ends at the size; so all lie inside n words as
 -- soon as the required parts fit the size and the size fits n.
-use mathlib.Core.Path.{_≡_}
 use Prim.Native.Nat.{ℕ, _+_, _-_, _≤_}
 use native.Mathlib.Omega.{arith}
 use Rattle.words.specs.Tests.{when}

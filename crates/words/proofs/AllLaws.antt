@@ -10,7 +10,6 @@ use native.Mathlib.Omega.{arith}
 use borrow.Author.Tests.{eqb-true}
 use lib.Dec.{eqb}
 use lib.ListN.{length, getD}
-use Rattle.words.specs.Tests.{both}
 use Rattle.words.specs.All.{all}
 use Rattle.words.proofs.Cases.{le-or-lt, both-left, both-right, both-no}
 

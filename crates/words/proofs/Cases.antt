@@ -60,6 +60,11 @@ module _ {A : Type 0} where
   after-passed (refused n) rest a e = let z : _≡_ {A = ℕ} 0 1 = cc in absurd (omega arith)
   after-passed (accepted b) rest a e = (b, refl, e)
 
+  -- what follows some checks matters only where they found nothing
+  pub after-same : {B : Type 0} (o : Outcome B) (r s : Outcome A) → ((b : B) → o ≡ accepted b → r ≡ s) → after o r ≡ after o s
+  after-same (refused n) r s e = refl
+  after-same (accepted b) r s e = e b refl
+
   -- an accepted answer has one value
   pub accepted-same : {a b : A} → accepted a ≡ accepted b → a ≡ b
   accepted-same e = cc

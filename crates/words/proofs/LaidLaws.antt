@@ -1,9 +1,9 @@
 -- Runs of writes. The idea: a writer's promise is `Laid`, two writers in turn join by `then`, and a writer that was lent the part from a place on
 -- joins by `lend`; so a packet or a page is laid by its pieces, in one line for each. Inside, a run is `sets`, which needs no room; `laid-put`
 -- says it with the room there is, as a part that is replaced.
-use mathlib.Core.Path.{_≡_, refl, sym, ap, _∙_}
+use mathlib.Core.Path.{_≡_, sym, ap, _∙_}
 use mathlib.Core.List.{List, [], _∷_, _++_, append-nil, append-assoc}
-use Prim.Native.Nat.{ℕ, zero, suc, _+_, _-_, _≤_, _<_}
+use Prim.Native.Nat.{ℕ, suc, _+_, _-_, _≤_, _<_}
 use native.Mathlib.Nat.{add-zero, add-assoc, zero-add, add-suc, suc-add, le-add-right}
 use native.Mathlib.Omega.{arith}
 use native.Mathlib.Numerals.{add-one}

@@ -1,6 +1,8 @@
 -- Two answers that meet one promise are equal. The idea: `paper` has a left inverse, `back`, so an answer is what `back` makes of the promise.
-use mathlib.Core.Path.{_≡_, sym, ap, _∙_}
-use Rattle.words.specs.Outcome.{Outcome, Done, Meets}
+use mathlib.Core.Path.{_≡_, refl, sym, ap, _∙_}
+use Rattle.words.specs.declared.Check.{Check}
+use Rattle.words.specs.declared.Check.the-variants.{Fine, Refused}
+use Rattle.words.specs.Outcome.{Outcome, refused, accepted, checked, Done, Meets}
 
 pub once {ℓ ℓ′} : {A : Type ℓ} {B : Type ℓ′} (paper : A → B) (back : B → A) → ((a : A) → back (paper a) ≡ a)
     → {want : B} {a b : A} → paper a ≡ want → paper b ≡ want → a ≡ b
@@ -11,3 +13,17 @@ pub meets-once : {A B L : Type 0} (paper : A → Outcome B) (back : Outcome B �
     → {want : Outcome (Done B L)} {before after after′ : L} {r s : A} → Meets paper want before r after → Meets paper want before s after′
     → (r ≡ s) × (after ≡ after′)
 meets-once paper back left p q = (once paper back left (p .answer) (q .answer), p .buffer ∙ sym (q .buffer))
+
+-- ---- what checks find
+
+checkedBack : Outcome Unit → Check
+checkedBack (refused n) = Refused n
+checkedBack (accepted u) = Fine
+
+checked-back : (r : Check) → checkedBack (checked r) ≡ r
+unfolding checkedBack
+checked-back Fine = refl
+checked-back (Refused n) = refl
+
+pub checked-once : {want : Outcome Unit} {r s : Check} → checked r ≡ want → checked s ≡ want → r ≡ s
+checked-once = once checked checkedBack checked-back

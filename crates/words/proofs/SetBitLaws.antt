@@ -1,26 +1,24 @@
 -- The set bits of a number. The idea: the list begins with the number's highest set bit, which `leading_zeros` names, and goes on as the list of
 -- the number without it; so a loop that takes the highest bit off walks the list. Stated over any width.
-use mathlib.Core.Path.{_≡_, refl, sym, ap, _∙_, subst}
+use mathlib.Core.Path.{_≡_, refl, sym, ap, _∙_}
 use mathlib.Core.Bool.{Bool, true, false}
 use mathlib.Core.Logic.{⊎-elim}
 use mathlib.Core.List.{List, [], _∷_, _++_}
 use Prim.Native.Nat.{ℕ, zero, suc, _+_, _-_, _*_, _/_, _%_, _^_, _≤_, _<_, zero-le}
-use native.Mathlib.Nat.{pow-suc, le-of-lt, lt-of-lt-of-le, div-eq-of-lt, div-eq-of-lt-le, add-mul-div-right, add-mul-mod-self-right, mul-assoc, mul-comm, mod-lt, mod-eq-of-lt, eq-zero-or-pos, mod-one, one-mul, lt-of-le-of-lt, le-of-suc-le-suc, add-comm}
+use native.Mathlib.Nat.{pow-suc, le-of-lt, lt-of-lt-of-le, div-eq-of-lt, div-eq-of-lt-le, add-mul-div-right, add-mul-mod-self-right, mul-assoc, mul-comm, mod-lt, mod-eq-of-lt, eq-zero-or-pos, mod-one, one-mul, lt-of-le-of-lt, le-of-suc-le-suc, add-comm, zero-add}
 use native.Mathlib.Numerals.{one-add}
 use native.Mathlib.Decide.{le-ind}
 use native.Mathlib.Omega.{arith}
 use borrow.Author.Tests.{lt-ltb, le-ltb}
 use lib.Dec.{eqb, ltb}
 use lib.Pow as Pow
-use lib.Pow.{pow-mono, pow-pos, mod-pow-add}
+use lib.Pow.{pow-mono, pow-pos, pow-add, mod-pow-add, shl-shr, shr-shr}
 use lib.ListN.{length}
 use lib.Count.{ones, ones-cat, leadingZeros, leading-top}
 use Rattle.words.specs.Tests.{pick}
 use Rattle.words.specs.Word.{has}
 use Rattle.words.specs.SetBits.{bitsOf, above}
-
-nil-cons : {x : ℕ} {xs : List ℕ} → [] ≡ x ∷ xs → ⊥
-nil-cons e = let z : _≡_ {A = ℕ} 0 1 = cc in omega arith
+use Rattle.words.proofs.Cases.{le-or-lt}
 
 -- ---- bits that are not there
 has-above : (n k : ℕ) → n < 2 ^ k → has n k ≡ false
@@ -121,35 +119,41 @@ above-none b (suc k) n h = pick-none (has n k) (le-ltb b k (le-of-suc-le-suc h))
     pick-none true e f = rw (e, f)
     pick-none false e f = f
 
--- a bit that stands in the list is below the width
-below-step : (k n b : ℕ) (tail : List ℕ) → ((done : List ℕ) → bitsOf k n ≡ done ++ (b ∷ tail) → b < k)
-    → (t : Bool) (done : List ℕ) → pick t (k ∷ bitsOf k n) (bitsOf k n) ≡ done ++ (b ∷ tail) → b < suc k
-below-step k n b tail lower true [] e = let z : k ≡ b = cc in omega arith
-below-step k n b tail lower true (x ∷ done) e = let f : bitsOf k n ≡ done ++ (b ∷ tail) = cc in omega (arith, lower done f)
-below-step k n b tail lower false done e = omega (arith, lower done e)
-
-bit-below : (k n b : ℕ) (tail done : List ℕ) → bitsOf k n ≡ done ++ (b ∷ tail) → b < k
-unfolding bitsOf
-bit-below zero n b tail [] e = absurd (nil-cons e)
-bit-below zero n b tail (x ∷ done) e = absurd (nil-cons e)
-bit-below (suc k) n b tail done e = below-step k n b tail (bit-below k n b tail) (has n k) done e
-
--- in the list, those above a bit are those before it
-before-step : (k n b : ℕ) (tail : List ℕ) → ((done : List ℕ) → bitsOf k n ≡ done ++ (b ∷ tail) → above b (bitsOf k n) ≡ done)
-    → (t : Bool) (done : List ℕ) → pick t (k ∷ bitsOf k n) (bitsOf k n) ≡ done ++ (b ∷ tail)
-    → above b (pick t (k ∷ bitsOf k n) (bitsOf k n)) ≡ done
+-- a bit that stands above b is kept
+above-kept : (t : Bool) (b k : ℕ) (l : List ℕ) → b < k → above b (pick t (k ∷ l) l) ≡ pick t (k ∷ above b l) (above b l)
 unfolding above
-before-step k n b tail lower true [] e =
-    let z : k ≡ b = cc in
-    rw (le-ltb b k (omega arith)) (above-none b k n (omega arith))
-before-step k n b tail lower true (x ∷ done) e =
-    let f : bitsOf k n ≡ done ++ (b ∷ tail) = cc in
-    let z : k ≡ x = cc in
-    rw (lt-ltb b k (bit-below k n b tail done f), lower done f, z)
-before-step k n b tail lower false done e = lower done e
+above-kept true b k l h = rw (lt-ltb b k h)
+above-kept false b k l h = refl
 
-pub bits-before : (k n b : ℕ) (tail done : List ℕ) → bitsOf k n ≡ done ++ (b ∷ tail) → above b (bitsOf k n) ≡ done
+-- a set bit stands in the list after those above it and before those below it
+split-step : (t : Bool) (b k : ℕ) (l tail : List ℕ) → b < k → l ≡ above b l ++ tail → pick t (k ∷ l) l ≡ above b (pick t (k ∷ l) l) ++ tail
+split-step true b k l tail h e = rw (above-kept true b k l h) (ap (λ (m : List ℕ). k ∷ m) e)
+split-step false b k l tail h e = e
+
+pub bits-split : (k n b : ℕ) → b < k → has n b ≡ true → bitsOf k n ≡ above b (bitsOf k n) ++ (b ∷ bitsOf b n)
 unfolding bitsOf
-bits-before zero n b tail [] e = absurd (nil-cons e)
-bits-before zero n b tail (x ∷ done) e = absurd (nil-cons e)
-bits-before (suc k) n b tail done e = before-step k n b tail (bits-before k n b tail) (has n k) done e
+bits-split k n b h e =
+    le-ind (λ (m : ℕ). bitsOf m n ≡ above b (bitsOf m n) ++ (b ∷ bitsOf b n)) (rw (above-none b (suc b) n (omega arith), e))
+    (λ m q f. split-step (has n m) b m (bitsOf m n) (b ∷ bitsOf b n) q f) k h
+
+-- a number whose bits up to b are cleared has those above b
+-- (from k > b up it is the number itself, and a multiple of 2 ^ b has no set bit below b)
+shr-cleared : (k b n : ℕ) → b < k → n / 2 ^ suc b * 2 ^ suc b / 2 ^ k ≡ n / 2 ^ k
+shr-cleared k b n h =
+    let e : suc b + (k - suc b) ≡ k = omega arith in
+    let down : (m : ℕ) → m / 2 ^ suc b / 2 ^ (k - suc b) ≡ m / 2 ^ k = λ m. shr-shr m (suc b) (k - suc b) ∙ ap (λ (j : ℕ). m / 2 ^ j) e in
+    sym (down (n / 2 ^ suc b * 2 ^ suc b)) ∙ ap (λ (m : ℕ). m / 2 ^ (k - suc b)) (shl-shr (n / 2 ^ suc b) (suc b)) ∙ down n
+
+bits-multiple : (k b a : ℕ) → k ≤ b → bitsOf k (a * 2 ^ b) ≡ []
+bits-multiple k b a h =
+    let e : (b - k) + k ≡ b = omega arith in
+    let same : a * 2 ^ b ≡ 0 + a * 2 ^ (b - k) * 2 ^ k = rw (zero-add, mul-assoc, ← (pow-add 2 (b - k) k), e) in
+    ap (bitsOf k) same ∙ bits-low k (a * 2 ^ (b - k)) 0 ∙ bits-none k 0 zero-le
+
+pub bits-above : (k b n : ℕ) → bitsOf k (n / 2 ^ suc b * 2 ^ suc b) ≡ above b (bitsOf k n)
+unfolding bitsOf above
+bits-above zero b n = refl
+bits-above (suc k) b n =
+    ⊎-elim (λ (h : k ≤ b). bits-multiple (suc k) (suc b) (n / 2 ^ suc b) (omega arith) ∙ sym (above-none b (suc k) n (omega arith)))
+    (λ (h : b < k). rw (shr-cleared k b n h, above-kept (has n k) b k (bitsOf k n) h, bits-above k b n))
+    (le-or-lt k b)

@@ -7,29 +7,20 @@ use Rattle.packet.proofs.ReadLaws.{sized, checks-passed}
 use borrow.Author.Needs.{needs}
 use Rattle.packet.proofs.read.Statement.{statement}
 use Rattle.packet.proofs.read.Tie as tie
-use Rattle.packet.proofs.read.Reads as reads
-use Rattle.packet.proofs.read.Lts as lts
-use Rattle.packet.proofs.checks.check.Reads as check-reads
-use Rattle.packet.proofs.prologue.packet_of.Reads as packet-of-reads
 
--- src/lib.rt:50:9
 returns : tie.Need-returns
 unfolding readOf
 returns c = rw (eq-eqb _ _ (c .if1 .taken))
 
--- src/lib.rt:52:13
 shared-slice-read-w : tie.Need-shared-slice-read-w
 shared-slice-read-w c = search needs
 
--- src/lib.rt:53:9
 check-requires : tie.Need-check-requires
 check-requires c κs = search needs
 
--- src/lib.rt:54:34
 enum-known-found : tie.Need-enum-known-found
 enum-known-found c = search needs
 
--- src/lib.rt:55:9
 returns-2 : tie.Need-returns-2
 unfolding readOf
 returns-2 c =
@@ -39,12 +30,10 @@ returns-2 c =
 enum-told : tie.Need-enum-told
 enum-told c = search needs
 
--- src/lib.rt:57:22
 packet-of-requires : tie.Need-packet-of-requires
 packet-of-requires c κs =
     sized _ _ (checks-passed _ _ (sym (c .before .before .check .ensures) ∙ ap checked (c .enum-told .given .1)) .size)
 
--- src/lib.rt:46:1
 returns-3 : tie.Need-returns-3
 unfolding readOf
 returns-3 c =

@@ -11,27 +11,18 @@ use Rattle.packet.proofs.ReadLaws.{sized}
 use borrow.Author.Needs.{needs}
 use Rattle.packet.proofs.checks.check.Statement.{statement}
 use Rattle.packet.proofs.checks.check.Tie as tie
-use Rattle.packet.proofs.checks.check.Reads as reads
-use Rattle.packet.proofs.checks.check.Lts as lts
-use Rattle.packet.proofs.checks.check_context.Reads as check-context-reads
-use Rattle.packet.proofs.checks.check_header.Reads as check-header-reads
-use Rattle.packet.proofs.checks.check_prologue.Reads as check-prologue-reads
-use Rattle.packet.proofs.checks.check_size.Reads as check-size-reads
 
 -- the packet fits, once its size is found to
 fits : (c : tie.After-enum-told2) → (requiredOf (c .before .before .before .before .before .before .before .args .w) ≤ sizeOf (c .before .before .before .before .before .before .before .args .w))
     × (sizeOf (c .before .before .before .before .before .before .before .args .w) ≤ length (now (c .before .before .before .before .before .before .before .args .words)))
 fits c = sized _ _ (sym (c .before .before .check-size .ensures) ∙ ap checked (c .enum-told2 .given .1))
 
--- src/checks.rt:71:9
 check-header-requires : tie.Need-check-header-requires
 check-header-requires c κs = search needs
 
--- src/checks.rt:72:34
 enum-known-header : tie.Need-enum-known-header
 enum-known-header c = search needs
 
--- src/checks.rt:73:9
 returns : tie.Need-returns
 unfolding checksOf
 returns c = rw (← c .before .before .before .check-header .ensures, c .before .header .given .1)
@@ -39,15 +30,12 @@ returns c = rw (← c .before .before .before .check-header .ensures, c .before 
 enum-told : tie.Need-enum-told
 enum-told c = search needs
 
--- src/checks.rt:75:9
 check-size-requires : tie.Need-check-size-requires
 check-size-requires c κs = search needs
 
--- src/checks.rt:76:34
 enum-known-size : tie.Need-enum-known-size
 enum-known-size c = search needs
 
--- src/checks.rt:77:9
 returns-2 : tie.Need-returns-2
 unfolding checksOf
 returns-2 c =
@@ -57,15 +45,12 @@ returns-2 c =
 enum-told-2 : tie.Need-enum-told-2
 enum-told-2 c = search needs
 
--- src/checks.rt:79:9
 check-prologue-requires : tie.Need-check-prologue-requires
 check-prologue-requires c κs = fits c
 
--- src/checks.rt:80:34
 enum-known-prologue : tie.Need-enum-known-prologue
 enum-known-prologue c = search needs
 
--- src/checks.rt:81:9
 returns-3 : tie.Need-returns-3
 unfolding checksOf
 returns-3 c =
@@ -76,11 +61,9 @@ returns-3 c =
 enum-told-3 : tie.Need-enum-told-3
 enum-told-3 c = search needs
 
--- src/checks.rt:83:5
 check-context-requires : tie.Need-check-context-requires
 check-context-requires c κs = fits (c .before .before .before)
 
--- src/checks.rt:68:1
 returns-4 : tie.Need-returns-4
 unfolding checksOf
 returns-4 c =

@@ -4,30 +4,21 @@ use Rattle.packet.specs.Read.{headerChecks}
 use borrow.Author.Needs.{needs}
 use Rattle.packet.proofs.checks.check_header.Statement.{statement}
 use Rattle.packet.proofs.checks.check_header.Tie as tie
-use Rattle.packet.proofs.checks.check_header.Reads as reads
-use Rattle.packet.proofs.checks.check_header.Lts as lts
-use Rattle.packet.proofs.header.reserved_of.Reads as reserved-of-reads
-use Rattle.packet.proofs.header.type_of.Reads as type-of-reads
 
--- src/checks.rt:14:12
 type-of-requires : tie.Need-type-of-requires
 type-of-requires c κs = search needs
 
--- src/checks.rt:15:9
 returns : tie.Need-returns
 unfolding headerChecks
 returns c = search (cases, ← c .before .type-of .ensures)
 
--- src/checks.rt:17:8
 reserved-of-requires : tie.Need-reserved-of-requires
 reserved-of-requires c κs = search needs
 
--- src/checks.rt:18:9
 returns-2 : tie.Need-returns-2
 unfolding headerChecks
 returns-2 c = search (cases, ← c .before .reserved-of .ensures, ← c .before .before .before .type-of .ensures)
 
--- src/checks.rt:11:1
 returns-3 : tie.Need-returns-3
 unfolding headerChecks
 returns-3 c = search (cases, ← c .before .reserved-of .ensures, ← c .before .before .before .type-of .ensures)

@@ -4,30 +4,21 @@ use Rattle.packet.specs.Read.{sizeChecks}
 use borrow.Author.Needs.{needs}
 use Rattle.packet.proofs.checks.check_size.Statement.{statement}
 use Rattle.packet.proofs.checks.check_size.Tie as tie
-use Rattle.packet.proofs.checks.check_size.Reads as reads
-use Rattle.packet.proofs.checks.check_size.Lts as lts
-use Rattle.packet.proofs.header.required.Reads as required-reads
-use Rattle.packet.proofs.header.size_of.Reads as size-of-reads
 
--- src/checks.rt:27:9
 size-of-requires : tie.Need-size-of-requires
 size-of-requires c κs = search needs
 
--- src/checks.rt:28:15
 required-requires : tie.Need-required-requires
 required-requires c κs = search needs
 
--- src/checks.rt:29:9
 returns : tie.Need-returns
 unfolding sizeChecks
 returns c = search (cases, ← c .before .required .ensures .0, ← c .before .before .size-of .ensures .0)
 
--- src/checks.rt:32:9
 returns-2 : tie.Need-returns-2
 unfolding sizeChecks
 returns-2 c = search (cases, ← c .before .before .required .ensures .0, ← c .before .before .before .size-of .ensures .0)
 
--- src/checks.rt:24:1
 returns-3 : tie.Need-returns-3
 unfolding sizeChecks
 returns-3 c = search (cases, ← c .before .before .required .ensures .0, ← c .before .before .before .size-of .ensures .0)

@@ -3,24 +3,16 @@ use Rattle.packet.specs.Parts.{classAt}
 use borrow.Author.Needs.{needs}
 use Rattle.packet.proofs.header.class_at.Statement.{statement}
 use Rattle.packet.proofs.header.class_at.Tie as tie
-use Rattle.packet.proofs.header.class_at.Reads as reads
-use Rattle.packet.proofs.header.class_at.Lts as lts
-use Rattle.packet.proofs.header.has_stream.Reads as has-stream-reads
-use Rattle.words.proofs.inner.when_so.Reads as when-so-reads
 
--- src/header.rt:110:31
 has-stream-requires : tie.Need-has-stream-requires
 has-stream-requires c κs = search needs
 
--- src/header.rt:110:9
 when-so-requires : tie.Need-when-so-requires
 when-so-requires c κs = search needs
 
--- src/header.rt:110:5
 add-result : tie.Need-add-result
 add-result c = search needs
 
--- src/header.rt:107:1
 returns : tie.Need-returns
 unfolding classAt
 returns c = (rw (c .when-so .ensures .0, c .before .has-stream .ensures), search needs)

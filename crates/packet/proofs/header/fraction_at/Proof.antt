@@ -3,29 +3,19 @@ use Rattle.packet.specs.Parts.{fractionAt}
 use borrow.Author.Needs.{needs}
 use Rattle.packet.proofs.header.fraction_at.Statement.{statement}
 use Rattle.packet.proofs.header.fraction_at.Tie as tie
-use Rattle.packet.proofs.header.fraction_at.Reads as reads
-use Rattle.packet.proofs.header.fraction_at.Lts as lts
-use Rattle.packet.proofs.header.has_seconds.Reads as has-seconds-reads
-use Rattle.packet.proofs.header.seconds_at.Reads as seconds-at-reads
-use Rattle.words.proofs.inner.when_so.Reads as when-so-reads
 
--- src/header.rt:124:5
 seconds-at-requires : tie.Need-seconds-at-requires
 seconds-at-requires c κs = search needs
 
--- src/header.rt:124:43
 has-seconds-requires : tie.Need-has-seconds-requires
 has-seconds-requires c κs = search needs
 
--- src/header.rt:124:21
 when-so-requires : tie.Need-when-so-requires
 when-so-requires c κs = search needs
 
--- src/header.rt:124:5
 add-result : tie.Need-add-result
 add-result c = search needs
 
--- src/header.rt:121:1
 returns : tie.Need-returns
 unfolding fractionAt
 returns c = (rw (c .when-so .ensures .0, c .before .has-seconds .ensures, c .before .before .seconds-at .ensures .0), search needs)

@@ -4,30 +4,22 @@ use Rattle.packet.specs.Parts.{streamed}
 use borrow.Author.Needs.{needs}
 use Rattle.packet.proofs.header.has_stream.Statement.{statement}
 use Rattle.packet.proofs.header.has_stream.Tie as tie
-use Rattle.packet.proofs.header.has_stream.Reads as reads
-use Rattle.packet.proofs.header.has_stream.Lts as lts
-use Rattle.packet.proofs.header.type_of.Reads as type-of-reads
 
--- src/header.rt:81:9
 type-of-requires : tie.Need-type-of-requires
 type-of-requires c κs = search needs
 
--- src/header.rt:83:9
 returns : tie.Need-returns
 unfolding streamed
 returns c = search (cases, ← c .before .type-of .ensures)
 
--- src/header.rt:86:9
 returns-2 : tie.Need-returns-2
 unfolding streamed
 returns-2 c = search (cases, ← c .before .before .type-of .ensures)
 
--- src/header.rt:89:9
 returns-3 : tie.Need-returns-3
 unfolding streamed
 returns-3 c = search (cases, ← c .before .before .before .type-of .ensures)
 
--- src/header.rt:78:1
 returns-4 : tie.Need-returns-4
 unfolding streamed
 returns-4 c = search (cases, ← c .before .before .before .before .type-of .ensures)

@@ -4,20 +4,14 @@ use Rattle.packet.specs.Header.{trailed}
 use borrow.Author.Needs.{needs}
 use Rattle.packet.proofs.header.has_trailer.Statement.{statement}
 use Rattle.packet.proofs.header.has_trailer.Tie as tie
-use Rattle.packet.proofs.header.has_trailer.Reads as reads
-use Rattle.packet.proofs.header.has_trailer.Lts as lts
-use Rattle.packet.proofs.header.type_of.Reads as type-of-reads
 
--- src/header.rt:24:8
 type-of-requires : tie.Need-type-of-requires
 type-of-requires c κs = search needs
 
--- src/header.rt:21:1
 returns : tie.Need-returns
 unfolding trailed
 returns c = search (cases, ← c .before .type-of .ensures)
 
--- src/header.rt:21:1
 returns-2 : tie.Need-returns-2
 unfolding trailed
 returns-2 c = search (cases, ← c .before .type-of .ensures)

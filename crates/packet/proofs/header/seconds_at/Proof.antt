@@ -3,29 +3,19 @@ use Rattle.packet.specs.Parts.{secondsAt}
 use borrow.Author.Needs.{needs}
 use Rattle.packet.proofs.header.seconds_at.Statement.{statement}
 use Rattle.packet.proofs.header.seconds_at.Tie as tie
-use Rattle.packet.proofs.header.seconds_at.Reads as reads
-use Rattle.packet.proofs.header.seconds_at.Lts as lts
-use Rattle.packet.proofs.header.class_at.Reads as class-at-reads
-use Rattle.packet.proofs.header.has_class.Reads as has-class-reads
-use Rattle.words.proofs.inner.when_so.Reads as when-so-reads
 
--- src/header.rt:117:5
 class-at-requires : tie.Need-class-at-requires
 class-at-requires c κs = search needs
 
--- src/header.rt:117:41
 has-class-requires : tie.Need-has-class-requires
 has-class-requires c κs = search needs
 
--- src/header.rt:117:19
 when-so-requires : tie.Need-when-so-requires
 when-so-requires c κs = search needs
 
--- src/header.rt:117:5
 add-result : tie.Need-add-result
 add-result c = search needs
 
--- src/header.rt:114:1
 returns : tie.Need-returns
 unfolding secondsAt
 returns c = (rw (c .when-so .ensures .0, c .before .has-class .ensures, c .before .before .class-at .ensures .0), search needs)

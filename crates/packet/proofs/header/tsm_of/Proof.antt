@@ -4,20 +4,14 @@ use Rattle.packet.specs.Header.{tsmOf}
 use borrow.Author.Needs.{needs}
 use Rattle.packet.proofs.header.tsm_of.Statement.{statement}
 use Rattle.packet.proofs.header.tsm_of.Tie as tie
-use Rattle.packet.proofs.header.tsm_of.Reads as reads
-use Rattle.packet.proofs.header.tsm_of.Lts as lts
-use Rattle.packet.proofs.header.type_of.Reads as type-of-reads
 
--- src/header.rt:34:8
 type-of-requires : tie.Need-type-of-requires
 type-of-requires c κs = search needs
 
--- src/header.rt:31:1
 returns : tie.Need-returns
 unfolding tsmOf
 returns c = search (cases, ← c .before .type-of .ensures)
 
--- src/header.rt:31:1
 returns-2 : tie.Need-returns-2
 unfolding tsmOf
 returns-2 c = search (cases, ← c .before .type-of .ensures)

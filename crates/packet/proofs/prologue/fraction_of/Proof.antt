@@ -4,32 +4,21 @@ use Rattle.packet.proofs.RoomLaws.{room}
 use borrow.Author.Needs.{needs}
 use Rattle.packet.proofs.prologue.fraction_of.Statement.{statement}
 use Rattle.packet.proofs.prologue.fraction_of.Tie as tie
-use Rattle.packet.proofs.prologue.fraction_of.Reads as reads
-use Rattle.packet.proofs.prologue.fraction_of.Lts as lts
-use Rattle.packet.proofs.header.fraction_at.Reads as fraction-at-reads
-use Rattle.packet.proofs.header.has_fraction.Reads as has-fraction-reads
-use Rattle.packet.proofs.prologue.pair_if.Reads as pair-if-reads
-use Rattle.words.proofs.inner.high_first.Reads as high-first-reads
 
--- src/prologue.rt:56:9
 has-fraction-requires : tie.Need-has-fraction-requires
 has-fraction-requires c κs = search needs
 
--- src/prologue.rt:57:9
 fraction-at-requires : tie.Need-fraction-at-requires
 fraction-at-requires c κs = search needs
 
--- src/prologue.rt:55:9
 pair-if-requires : tie.Need-pair-if-requires
 pair-if-requires c κs =
     let p = c .before .before .before .pre in
     rw (c .fraction-at .ensures .0, c .before .has-fraction .ensures) (room _ _ (p .0) (p .1) .fraction)
 
--- src/prologue.rt:60:5
 high-first-requires : tie.Need-high-first-requires
 high-first-requires c κs = search needs
 
--- src/prologue.rt:51:1
 returns : tie.Need-returns
 unfolding fractionOf
 returns c =

@@ -5,35 +5,26 @@ use native.Mathlib.Omega.{arith}
 use borrow.Author.Needs.{needs}
 use Rattle.packet.proofs.prologue.pair_if.Statement.{statement}
 use Rattle.packet.proofs.prologue.pair_if.Tie as tie
-use Rattle.packet.proofs.prologue.pair_if.Reads as reads
-use Rattle.packet.proofs.prologue.pair_if.Lts as lts
 
--- src/prologue.rt:30:19
 mul-t6 : tie.Need-mul-t6
 mul-t6 c = search needs
 
--- src/prologue.rt:30:19
 shared-slice-read-t8 : tie.Need-shared-slice-read-t8
 shared-slice-read-t8 c = let h = rw (c .before .if1 .taken) at (c .before .before .pre) in omega arith
 
--- src/prologue.rt:31:24
 add-t9 : tie.Need-add-t9
 add-t9 c = search needs
 
--- src/prologue.rt:31:18
 mul-t10 : tie.Need-mul-t10
 mul-t10 c = search needs
 
--- src/prologue.rt:31:18
 shared-slice-read-t12 : tie.Need-shared-slice-read-t12
 shared-slice-read-t12 c = let h = rw (c .before .before .if1 .taken) at (c .before .before .before .pre) in omega arith
 
--- src/prologue.rt:24:1
 returns : tie.Need-returns
 unfolding wordIf
 returns c = rw (c .before .before .if1 .taken) (refl, refl)
 
--- src/prologue.rt:24:1
 returns-2 : tie.Need-returns-2
 unfolding wordIf
 returns-2 c = rw (c .if1 .left) (refl, refl)

@@ -1,5 +1,4 @@
 -- `parts_of` meets its promise: each part is what its function answers, and lies inside (`room`).
-use mathlib.Core.Path.{_≡_}
 use denote.Ref.{now}
 use lib.ListN.{length}
 use Rattle.packet.specs.Parts.{partsOf}
@@ -7,122 +6,88 @@ use Rattle.packet.proofs.RoomLaws.{Room, room}
 use borrow.Author.Needs.{needs}
 use Rattle.packet.proofs.prologue.parts_of.Statement.{statement}
 use Rattle.packet.proofs.prologue.parts_of.Tie as tie
-use Rattle.packet.proofs.prologue.parts_of.Reads as reads
-use Rattle.packet.proofs.prologue.parts_of.Lts as lts
-use Rattle.packet.proofs.header.count_of.Reads as count-of-reads
-use Rattle.packet.proofs.header.has_class.Reads as has-class-reads
-use Rattle.packet.proofs.header.has_seconds.Reads as has-seconds-reads
-use Rattle.packet.proofs.header.has_stream.Reads as has-stream-reads
-use Rattle.packet.proofs.header.has_trailer.Reads as has-trailer-reads
-use Rattle.packet.proofs.header.seconds_at.Reads as seconds-at-reads
-use Rattle.packet.proofs.header.size_of.Reads as size-of-reads
-use Rattle.packet.proofs.header.tsf_of.Reads as tsf-of-reads
-use Rattle.packet.proofs.header.tsi_of.Reads as tsi-of-reads
-use Rattle.packet.proofs.header.tsm_of.Reads as tsm-of-reads
-use Rattle.packet.proofs.header.type_of.Reads as type-of-reads
-use Rattle.packet.proofs.prologue.class_of.Reads as class-of-reads
-use Rattle.packet.proofs.prologue.fraction_of.Reads as fraction-of-reads
-use Rattle.packet.proofs.prologue.word_if.Reads as word-if-reads
 
 -- where the parts lie
 inside : (c : tie.Start) → Room (c .args .w) (length (now (c .args .words)))
 inside c = room _ _ (c .pre .0) (c .pre .1)
 
--- src/prologue.rt:77:9
 class-of-requires : tie.Need-class-of-requires
 class-of-requires c κs = search needs
 
--- src/prologue.rt:81:15
 type-of-requires : tie.Need-type-of-requires
 type-of-requires c κs = search needs
 
--- src/prologue.rt:82:18
 has-class-requires : tie.Need-has-class-requires
 has-class-requires c κs = search needs
 
--- src/prologue.rt:83:18
 has-trailer-requires : tie.Need-has-trailer-requires
 has-trailer-requires c κs = search needs
 
--- src/prologue.rt:84:14
 tsm-of-requires : tie.Need-tsm-of-requires
 tsm-of-requires c κs = search needs
 
--- src/prologue.rt:85:14
 tsi-of-requires : tie.Need-tsi-of-requires
 tsi-of-requires c κs = search needs
 
--- src/prologue.rt:86:14
 tsf-of-requires : tie.Need-tsf-of-requires
 tsf-of-requires c κs = search needs
 
--- src/prologue.rt:87:16
 count-of-requires : tie.Need-count-of-requires
 count-of-requires c κs = search needs
 
--- src/prologue.rt:88:29
 has-stream-requires : tie.Need-has-stream-requires
 has-stream-requires c κs = search needs
 
--- src/prologue.rt:88:21
 word-if-requires : tie.Need-word-if-requires
 word-if-requires c κs = rw (c .has-stream .ensures) (inside (c .before .before .before .before .before .before .before .before .before .before) .identifier)
 
--- src/prologue.rt:93:13
 has-seconds-requires : tie.Need-has-seconds-requires
 has-seconds-requires c κs = search needs
 
--- src/prologue.rt:94:13
 seconds-at-requires : tie.Need-seconds-at-requires
 seconds-at-requires c κs = search needs
 
--- src/prologue.rt:92:18
 word-if-requires-2 : tie.Need-word-if-requires-2
 word-if-requires-2 c κs = rw (c .seconds-at .ensures .0, c .before .has-seconds .ensures) (inside (c .before .before .before .before .before .before .before .before .before .before .before .before .before) .seconds)
 
--- src/prologue.rt:97:19
 fraction-of-requires : tie.Need-fraction-of-requires
 fraction-of-requires c κs = search needs
 
--- src/prologue.rt:99:13
 has-trailer-requires-2 : tie.Need-has-trailer-requires-2
 has-trailer-requires-2 c κs = search needs
 
--- src/prologue.rt:100:13
 size-of-requires : tie.Need-size-of-requires
 size-of-requires c κs = search needs
 
--- src/prologue.rt:100:13
 sub-word-if : tie.Need-sub-word-if
 sub-word-if c = rw (c .size-of .ensures .0) (inside (c .before .before .before .before .before .before .before .before .before .before .before .before .before .before .before .before .before) .header)
 
--- src/prologue.rt:98:18
 word-if-requires-3 : tie.Need-word-if-requires-3
 word-if-requires-3 c κs = rw (c .size-of .ensures .0, c .before .has-trailer2 .ensures) (inside (c .before .before .before .before .before .before .before .before .before .before .before .before .before .before .before .before .before) .trailer)
 
--- src/prologue.rt:73:1
 returns : tie.Need-returns
 unfolding partsOf
 returns c =
-    simp
-    (c .word-if3 .ensures,
-    c .before .size-of .ensures .0,
-    c .before .before .has-trailer2 .ensures,
-    c .before .before .before .fraction-of .ensures,
-    c .before .before .before .before .word-if2 .ensures,
-    c .before .before .before .before .before .seconds-at .ensures .0,
-    c .before .before .before .before .before .before .has-seconds .ensures,
-    c .before .before .before .before .before .before .before .word-if .ensures,
-    c .before .before .before .before .before .before .before .before .has-stream .ensures,
-    c .before .before .before .before .before .before .before .before .before .count-of .ensures,
-    c .before .before .before .before .before .before .before .before .before .before .tsf-of .ensures,
-    c .before .before .before .before .before .before .before .before .before .before .before .tsi-of .ensures,
-    c .before .before .before .before .before .before .before .before .before .before .before .before .tsm-of .ensures,
-    c .before .before .before .before .before .before .before .before .before .before .before .before .before .has-trailer .ensures,
-    c .before .before .before .before .before .before .before .before .before .before .before .before .before .before .has-class .ensures,
-    c .before .before .before .before .before .before .before .before .before .before .before .before .before .before .before .type-of .ensures,
-    c .before .before .before .before .before .before .before .before .before .before .before .before .before .before .before .before .class-of .ensures .1,
-    c .before .before .before .before .before .before .before .before .before .before .before .before .before .before .before .before .class-of .ensures .0)
+    simp (
+      c .word-if3 .ensures,
+      c .before .size-of .ensures .0,
+      c .before .before .has-trailer2 .ensures,
+      c .before .before .before .fraction-of .ensures,
+      c .before .before .before .before .word-if2 .ensures,
+      c .before .before .before .before .before .seconds-at .ensures .0,
+      c .before .before .before .before .before .before .has-seconds .ensures,
+      c .before .before .before .before .before .before .before .word-if .ensures,
+      c .before .before .before .before .before .before .before .before .has-stream .ensures,
+      c .before .before .before .before .before .before .before .before .before .count-of .ensures,
+      c .before .before .before .before .before .before .before .before .before .before .tsf-of .ensures,
+      c .before .before .before .before .before .before .before .before .before .before .before .tsi-of .ensures,
+      c .before .before .before .before .before .before .before .before .before .before .before .before .tsm-of .ensures,
+      c .before .before .before .before .before .before .before .before .before .before .before .before .before .has-trailer .ensures,
+      c .before .before .before .before .before .before .before .before .before .before .before .before .before .before .has-class .ensures,
+      c .before .before .before .before .before .before .before .before .before .before .before .before .before .before .before .type-of .ensures,
+      c .before .before .before .before .before .before .before .before .before .before .before .before .before .before .before .before .class-of .ensures .1,
+      c .before .before .before .before .before .before .before .before .before .before .before .before .before .before .before .before .class-of .ensures .0,
+    )
 
 pub parts-of-spec : {M : Type 1} → statement M
 parts-of-spec =

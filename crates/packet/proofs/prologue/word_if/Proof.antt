@@ -4,23 +4,17 @@ use native.Mathlib.Omega.{arith}
 use borrow.Author.Needs.{needs}
 use Rattle.packet.proofs.prologue.word_if.Statement.{statement}
 use Rattle.packet.proofs.prologue.word_if.Tie as tie
-use Rattle.packet.proofs.prologue.word_if.Reads as reads
-use Rattle.packet.proofs.prologue.word_if.Lts as lts
 
--- src/prologue.rt:14:18
 mul-result : tie.Need-mul-result
 mul-result c = search needs
 
--- src/prologue.rt:14:18
 shared-slice-read-result : tie.Need-shared-slice-read-result
 shared-slice-read-result c = let h = rw (c .before .if1 .taken) at (c .before .before .pre) in omega arith
 
--- src/prologue.rt:10:1
 returns : tie.Need-returns
 unfolding wordIf
 returns c = rw (c .before .if1 .taken)
 
--- src/prologue.rt:10:1
 returns-2 : tie.Need-returns-2
 unfolding wordIf
 returns-2 c = rw (c .if1 .left)

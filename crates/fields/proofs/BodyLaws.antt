@@ -1,0 +1,144 @@
+-- What callers use of a type 4 body that is accepted. The idea: the carried bits are those above b, b, and those below it (`bits-split`), so the
+-- words and the rules of all fields are those of the fields before b's, of b's own, and of the rest (`body-split`, `rules-split`).
+use mathlib.Core.Path.{_≡_, refl, sym, ap, _∙_}
+use mathlib.Core.Bool.{Bool, true, false}
+use mathlib.Core.List.{List, [], _∷_, _++_}
+use Prim.Native.Nat.{ℕ, _+_, _≤_, _<_}
+use native.Mathlib.Nat.{zero-add, add-assoc}
+use native.Mathlib.Omega.{arith}
+use borrow.Author.Tests.{eqb-true, not-false, ltb-true, le-ltb, le-leb}
+use lib.Dec.{ltb}
+use lib.ListN.{length, take, drop, length-drop}
+use lib.Seq.{drop-drop, length-take-le}
+use Rattle.words.specs.Tests.{pick, both}
+use Rattle.words.specs.Word.{bits, has}
+use Rattle.words.specs.SetBits.{bitsOf, above}
+use Rattle.words.specs.Outcome.{accepted}
+use Rattle.words.proofs.Cases.{passed, both-left, both-right, both-assoc}
+use Rattle.words.proofs.SetBitLaws.{bits-split}
+use Rattle.fields.specs.Sizes.{sizeOf, sizesOf, wordsOf}
+use Rattle.fields.specs.Rules.{ruleOf}
+use Rattle.fields.specs.Layout.{spanOf, obeyed, carried, indicatorOf, bodyWords, placeOf, fieldOf, insideOf, foundOf, lowBitsSet, otherLength, ruleBroken, contextOf}
+use Rattle.fields.proofs.SizeLaws.{words-fixed}
+use Rattle.fields.proofs.RuleLaws.{rule-own}
+use Rattle.fields.proofs.WalkLaws.{span-cons, rules-cons}
+
+-- ---- an accepted body
+
+-- no bit of 7-0 is set, the fields need the words that there are, and each obeys its rule
+pub record Fine (body : List ℕ) : Type 0 where
+  pub low : bits 7 0 (indicatorOf body) ≡ 0
+  pub whole : bodyWords body ≡ length body
+  pub obeys : obeyed (carried (indicatorOf body)) (drop 1 body) ≡ true
+
+pub context-fits : (body : List ℕ) → contextOf body ≡ accepted tt → Fine body
+unfolding contextOf lowBitsSet otherLength ruleBroken
+context-fits body e =
+    let first = passed (lowBitsSet body) _ _ tt e in
+    let second = passed (otherLength body) _ _ tt (first .1) in
+    let third = passed (ruleBroken body) _ _ tt (second .1) in
+    record {
+      low = eqb-true _ 0 (not-false _ (first .0));
+      whole = eqb-true (bodyWords body) (length body) (not-false _ (second .0));
+      obeys = not-false _ (third .0);
+    }
+
+-- ---- fields before and after each other
+
+span-append : (fs bs ws : List ℕ) → spanOf (fs ++ bs) ws ≡ spanOf fs ws + spanOf bs (drop (spanOf fs ws) ws)
+unfolding spanOf
+span-append [] bs ws = sym (zero-add (spanOf bs ws))
+span-append (f ∷ fs) bs ws = rw (span-append fs bs (drop (wordsOf f ws) ws), drop-drop, add-assoc)
+
+obeyed-append : (fs bs ws : List ℕ) → obeyed (fs ++ bs) ws ≡ both (obeyed fs ws) (obeyed bs (drop (spanOf fs ws) ws))
+unfolding spanOf obeyed
+obeyed-append [] bs ws = refl
+obeyed-append (f ∷ fs) bs ws = rw (obeyed-append fs bs (drop (wordsOf f ws) ws), drop-drop, both-assoc)
+
+-- the words from a field on, counted past the indicator
+place-drop : (b : ℕ) (body : List ℕ) → drop (placeOf b body) body ≡ drop (spanOf (above b (carried (indicatorOf body))) (drop 1 body)) (drop 1 body)
+unfolding placeOf
+place-drop b body = sym (drop-drop (spanOf (above b (carried (indicatorOf body))) (drop 1 body)) 1 body)
+
+-- a field stands past the indicator
+pub place-past : (b : ℕ) (body : List ℕ) → 1 ≤ placeOf b body
+unfolding placeOf
+place-past b body = omega arith
+
+-- the words of a body from the field of bit b on, and those past that field
+abbrev pub fromField : ℕ → List ℕ → List ℕ
+fromField b body = drop (placeOf b body) body
+
+abbrev pub pastField : ℕ → List ℕ → List ℕ
+pastField b body = drop (placeOf b body + wordsOf b (fromField b body)) body
+
+-- ---- the field of a carried bit b, among the fields of a body
+module _ (b : ℕ) (body : List ℕ) (h : b < 31) (carries : has (indicatorOf body) b ≡ true) where
+  abbrev before : List ℕ
+  before = above b (carried (indicatorOf body))
+
+  abbrev later : List ℕ
+  later = bitsOf b (indicatorOf body)
+
+  abbrev own : ℕ
+  own = wordsOf b (fromField b body)
+
+  -- the words of a body: those up to the field, its own, and those of the later fields
+  pub body-split : bodyWords body ≡ placeOf b body + (wordsOf b (fromField b body) + spanOf (bitsOf b (indicatorOf body)) (pastField b body))
+  unfolding bodyWords placeOf
+  body-split =
+      let spans : spanOf (carried (indicatorOf body)) (drop 1 body) ≡ spanOf before (drop 1 body) + spanOf (b ∷ later) (fromField b body) =
+      ap (λ (l : List ℕ). spanOf l (drop 1 body)) (bits-split 31 (indicatorOf body) b h carries)
+      ∙ span-append before (b ∷ later) (drop 1 body)
+      ∙ ap (λ (ws : List ℕ). spanOf before (drop 1 body) + spanOf (b ∷ later) ws) (sym (place-drop b body)) in
+      omega (arith, span-cons b own (placeOf b body) later body refl)
+
+  -- the rules of a body: those of the fields before, its own, and those of the later fields
+  pub rules-split : obeyed (carried (indicatorOf body)) (drop 1 body)
+      ≡ both (obeyed (above b (carried (indicatorOf body))) (drop 1 body)) (both (ruleOf b (fromField b body)) (obeyed (bitsOf b (indicatorOf body)) (pastField b body)))
+  rules-split =
+      ap (λ (l : List ℕ). obeyed l (drop 1 body)) (bits-split 31 (indicatorOf body) b h carries)
+      ∙ obeyed-append before (b ∷ later) (drop 1 body)
+      ∙ ap (both (obeyed before (drop 1 body))) (ap (obeyed (b ∷ later)) (sym (place-drop b body)) ∙ rules-cons b own (placeOf b body) later body refl)
+
+  -- of an accepted body
+  module _ (fine : Fine body) where
+    pub field-inside : placeOf b body + wordsOf b (fromField b body) ≤ length body
+    field-inside = omega (arith, body-split, fine .whole)
+
+    pub field-obeys : ruleOf b (fromField b body) ≡ true
+    field-obeys =
+        both-left (ruleOf b (fromField b body)) (obeyed later (pastField b body))
+        (both-right (obeyed before (drop 1 body)) (both (ruleOf b (fromField b body)) (obeyed later (pastField b body))) (sym rules-split ∙ fine .obeys))
+
+    -- it is found
+    pub field-found : foundOf b body ≡ placeOf b body ∷ wordsOf b (fromField b body) ∷ []
+    unfolding foundOf insideOf
+    field-found = rw (le-ltb 30 b (omega arith), carries, le-leb (placeOf b body + own) (length body) field-inside)
+
+    pub field-length : length (fieldOf b body) ≡ wordsOf b (fromField b body)
+    unfolding fieldOf
+    field-length = length-take-le own (fromField b body) (omega (arith, field-inside, length-drop (placeOf b body) body))
+
+    -- one of fixed size obeys its rule by its own words
+    pub field-rule : 10 ≤ b → ruleOf b (fieldOf b body) ≡ true
+    unfolding fieldOf
+    field-rule g = ap (λ (n : ℕ). ruleOf b (take n (fromField b body))) (words-fixed b (fromField b body) g) ∙ rule-own b (fromField b body) g h ∙ field-obeys
+
+-- ---- places that only the indicator decides: fields from bit 9 up stand after fields of fixed size alone
+
+fixed-step : (t : Bool) (b x : ℕ) (l ws : List ℕ) → 9 ≤ b → ltb b x ≡ t → ((us : List ℕ) → spanOf l us ≡ sizesOf l)
+    → spanOf (pick t (x ∷ l) l) ws ≡ sizesOf (pick t (x ∷ l) l)
+unfolding spanOf sizesOf
+fixed-step true b x l ws h e lower = rw (words-fixed x ws (omega (arith, ltb-true b x e)), lower (drop (sizeOf x) ws))
+fixed-step false b x l ws h e lower = lower ws
+
+-- fields of the bits above b, b at least 9, take the words of their rows
+pub span-fixed : (b : ℕ) (bs ws : List ℕ) → 9 ≤ b → spanOf (above b bs) ws ≡ sizesOf (above b bs)
+unfolding spanOf above sizesOf
+span-fixed b [] ws h = refl
+span-fixed b (x ∷ bs) ws h = fixed-step (ltb b x) b x (above b bs) ws h refl (λ us. span-fixed b bs us h)
+
+pub place-fixed : (b : ℕ) (body : List ℕ) → 9 ≤ b → placeOf b body ≡ 1 + sizesOf (above b (carried (indicatorOf body)))
+unfolding placeOf
+place-fixed b body h = ap (λ (n : ℕ). 1 + n) (span-fixed b (carried (indicatorOf body)) (drop 1 body) h)

@@ -1,0 +1,27 @@
+-- Two answers that meet the promise of a public call are equal: each `paper` has a left inverse (`once`).
+use mathlib.Core.Path.{_≡_, refl, sym, _∙_}
+use mathlib.Core.List.{List}
+use Prim.Native.Nat.{ℕ}
+use Rattle.words.specs.Outcome.{Outcome, refused, accepted}
+use Rattle.words.proofs.Once.{once}
+use Rattle.packet.specs.declared.Packet.{Packet}
+use Rattle.packet.specs.declared.Parsed.{Parsed}
+use Rattle.packet.specs.declared.Parsed.the-variants.{Accepted, Refused}
+use Rattle.packet.specs.declared.Trailer.{Trailer}
+use Rattle.packet.specs.Read.{paper, readOf}
+use Rattle.packet.specs.Trailer.{trailerOf}
+
+parsedBack : Outcome Packet → Parsed
+parsedBack (refused n) = Refused n
+parsedBack (accepted p) = Accepted p
+
+parsed-back : (a : Parsed) → parsedBack (paper a) ≡ a
+unfolding parsedBack
+parsed-back (Refused n) = refl
+parsed-back (Accepted p) = refl
+
+pub read-once : (ws : List ℕ) {a b : Parsed} → paper a ≡ readOf ws → paper b ≡ readOf ws → a ≡ b
+read-once ws = once paper parsedBack parsed-back
+
+pub trailer-parts-once : (word : ℕ) {a b : Trailer} → a ≡ trailerOf word → b ≡ trailerOf word → a ≡ b
+trailer-parts-once word p q = p ∙ sym q

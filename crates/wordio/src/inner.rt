@@ -1,0 +1,65 @@
+// Words in, names and numbers out.
+use libc::STDIN_FILENO;
+use libc::STDOUT_FILENO;
+
+// The next word of the input, or its end.
+pub enum Input {
+    Word(u32),
+    End,
+}
+
+// The word of four bytes, the first of them highest.
+fn big_endian(a: u8, b: u8, c: u8, d: u8) -> u32 {
+    ((a as u32 * 256 + b as u32) * 256 + c as u32) * 256 + d as u32
+}
+
+// The next word of standard input; its end where fewer than four bytes are left.
+pub fn next_word() -> Input {
+    let mut bytes = [0u8; 4];
+    let n = io::read_full(STDIN_FILENO, &mut bytes);
+    if n < 4 {
+        return Input::End;
+    }
+    Input::Word(big_endian(bytes[0], bytes[1], bytes[2], bytes[3]))
+}
+
+// Fills a buffer with the next words of standard input; whether all were there.
+pub fn fill(words: &mut [u32]) -> bool {
+    let mut i = 0;
+    while i < words.len() {
+        let next = next_word();
+        let Input::Word(w) = next else {
+            return false;
+        };
+        words[i] = w;
+        i += 1;
+    }
+    true
+}
+
+// Writes a text.
+pub fn text(bytes: &[u8]) {
+    io::write_all(STDOUT_FILENO, bytes);
+}
+
+// Writes a number in decimal.
+pub fn number(n: u64) {
+    io::print_decimal(STDOUT_FILENO, n);
+}
+
+// Writes a name and a number, as ` size 5`.
+pub fn named(name: &[u8], n: u64) {
+    text(b" ");
+    text(name);
+    text(b" ");
+    number(n);
+}
+
+// Writes a name and 1 or 0.
+pub fn named_flag(name: &[u8], flag: bool) {
+    if flag {
+        named(name, 1);
+    } else {
+        named(name, 0);
+    }
+}
