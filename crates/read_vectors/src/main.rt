@@ -109,9 +109,9 @@ fn one_case(k: u64, buffer: &mut [u32]) -> bool {
     if buffer.len() < n {
         return false;
     }
-    let whole = wordio::inner::fill(&mut buffer[..n]);
+    let whole = wordio::inner::fill(&mut buffer[0..n]);
     if whole {
-        show(k, &buffer[..n]);
+        show(k, &buffer[0..n]);
     }
     whole
 }
