@@ -1,0 +1,15 @@
+# The two commands of the README: make play, make test.
+.PHONY: play test vectors
+
+# reads the sample packets and prints what reading answers
+play:
+	@tools/run read_vectors <samples/packets
+
+# the gate
+test:
+	@bash .ci/run
+
+# makes the vectors and what they should give again, from the reference
+vectors:
+	python3 -B tools/reference/read_vectors.py crates/read_vectors/stdin crates/read_vectors/stdout
+	python3 -B tools/reference/sample_packets.py samples/packets
