@@ -31,7 +31,7 @@ pub record Passed (w : ℕ) (ws : List ℕ) : Type 0 where
   pub header : headerChecks w ≡ accepted tt
   pub size : sizeChecks w (length ws) ≡ accepted tt
   pub prologue : prologueChecks w ws ≡ accepted tt
-  pub body : bodyChecks w ws ≡ accepted tt
+  pub body : bodyChecks (typeOf w) (bodyOf w ws) ≡ accepted tt
 
 pub checks-passed : (w : ℕ) (ws : List ℕ) → checksOf w ws ≡ accepted tt → Passed w ws
 unfolding checksOf

@@ -7,6 +7,11 @@ use Rattle.words.proofs.Cases.{when-most}
 use Rattle.packet.specs.Header.{classed, trailed, sizeOf}
 use Rattle.packet.specs.Parts.{streamed, hasSeconds, hasFraction, classAt, secondsAt, fractionAt, bodyAt, requiredOf, bodyLength}
 
+-- the body begins past the header
+pub body-past : (w : ℕ) → 1 ≤ bodyAt w
+unfolding bodyAt fractionAt secondsAt classAt
+body-past w = omega arith
+
 -- each part, where it is there, lies inside n words
 pub record Room (w n : ℕ) : Type 0 where
   pub header : 1 ≤ sizeOf w

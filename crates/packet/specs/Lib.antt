@@ -6,5 +6,7 @@ pub mod Header
 pub mod Parts
 -- what reading answers
 pub mod Read
+-- what writing answers and leaves
+pub mod Write
 -- the trailer word
 pub mod Trailer

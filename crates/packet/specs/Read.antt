@@ -30,16 +30,20 @@ sizeChecks w given =
     (pick (ltb given (sizeOf w)) (refused CUT)
     (accepted tt))
 
+-- "TSF is 2 and the fraction is 10^12 or more"
+unfoldable pub timeOver : ℕ → ℕ → Bool
+timeOver tsf fraction = both (eqb tsf 2) (leb (10 ^ 12) fraction)
+
 -- CLASS: "top eight class bits not zero"; TIME: "TSF is 2 and the fraction is 10^12 or more"
 unfoldable pub prologueChecks : ℕ → List ℕ → Outcome Unit
 prologueChecks w ws =
     pick (not (eqb (bits 31 24 (classHigh w ws)) 0)) (refused CLASS)
-    (pick (both (eqb (tsfOf w) 2) (leb (10 ^ 12) (fractionOf w ws))) (refused TIME)
+    (pick (timeOver (tsfOf w) (fractionOf w ws)) (refused TIME)
     (accepted tt))
 
--- INDICATOR, LAYOUT and FIELD, of a type 4 body
+-- INDICATOR, LAYOUT and FIELD, of the body of a type 4 packet
 unfoldable pub bodyChecks : ℕ → List ℕ → Outcome Unit
-bodyChecks w ws = pick (eqb (typeOf w) 4) (contextOf (bodyOf w ws)) (accepted tt)
+bodyChecks kind body = pick (eqb kind 4) (contextOf body) (accepted tt)
 
 -- all checks of words whose header is w, in their order
 unfoldable pub checksOf : ℕ → List ℕ → Outcome Unit
@@ -47,7 +51,7 @@ checksOf w ws =
     after (headerChecks w)
     (after (sizeChecks w (length ws))
     (after (prologueChecks w ws)
-    (bodyChecks w ws)))
+    (bodyChecks (typeOf w) (bodyOf w ws))))
 
 -- what reading answers
 unfoldable pub readOf : List ℕ → Outcome Packet

@@ -3,9 +3,9 @@ ghost use mathlib.Core.Path.{_≡_};
 ghost use Prim.Native.Nat.{_≤_};
 ghost use lib.ListN.{length};
 ghost use Rattle.words.specs.Outcome.{checked};
-ghost use Rattle.packet.specs.Header.{sizeOf};
-ghost use Rattle.packet.specs.Parts.{requiredOf};
-ghost use Rattle.packet.specs.Read.{headerChecks, sizeChecks, prologueChecks, bodyChecks, checksOf};
+ghost use Rattle.packet.specs.Header.{typeOf, sizeOf};
+ghost use Rattle.packet.specs.Parts.{requiredOf, bodyOf};
+ghost use Rattle.packet.specs.Read.{headerChecks, sizeChecks, timeOver, prologueChecks, bodyChecks, checksOf};
 
 // TYPE and BITS.
 fn check_header(w: u32) -> words::Check
@@ -34,6 +34,13 @@ fn check_size(w: u32, given: usize) -> words::Check
     words::Check::Fine
 }
 
+// Whether a fraction is TIME.
+pub fn time_over(tsf: u32, fraction: u64) -> bool
+    ensures { λ r. ⌜ r ≡ timeOver tsf fraction ⌝ }
+{
+    words::inner::both_of(tsf == 2, 1_000_000_000_000 <= fraction)
+}
+
 // CLASS and TIME.
 fn check_prologue(w: u32, words: &[u32]) -> words::Check
     requires { ⌜ (requiredOf w ≤ sizeOf w) × (sizeOf w ≤ length (now words)) ⌝ }
@@ -43,25 +50,33 @@ fn check_prologue(w: u32, words: &[u32]) -> words::Check
     if class.high / 0x100_0000 % 256 != 0 {
         return words::Check::Refused(words::CLASS);
     }
-    if crate::header::tsf_of(w) == 2 {
-        if 1_000_000_000_000 <= crate::prologue::fraction_of(w, words) {
-            return words::Check::Refused(words::TIME);
-        }
+    if time_over(
+        crate::header::tsf_of(w),
+        crate::prologue::fraction_of(w, words),
+    ) {
+        return words::Check::Refused(words::TIME);
     }
     words::Check::Fine
 }
 
-// INDICATOR, LAYOUT and FIELD.
-fn check_context(w: u32, words: &[u32]) -> words::Check
-    requires { ⌜ (requiredOf w ≤ sizeOf w) × (sizeOf w ≤ length (now words)) ⌝ }
-    ensures { λ r. ⌜ checked r ≡ bodyChecks w (now (words .entry)) ⌝ }
+// INDICATOR, LAYOUT and FIELD, of the body of a packet of a type.
+pub fn check_body(kind: u32, body: &[u32]) -> words::Check
+    ensures { λ r. ⌜ checked r ≡ bodyChecks kind (now (body .entry)) ⌝ }
 {
-    if crate::header::type_of(w) != 4 {
+    if kind != 4 {
         return words::Check::Fine;
     }
+    fields::check_body(body)
+}
+
+// The same, of the body of a packet that fits.
+fn check_context(w: u32, words: &[u32]) -> words::Check
+    requires { ⌜ (requiredOf w ≤ sizeOf w) × (sizeOf w ≤ length (now words)) ⌝ }
+    ensures { λ r. ⌜ checked r ≡ bodyChecks (typeOf w) (bodyOf w (now (words .entry))) ⌝ }
+{
     let at = crate::header::body_at(w);
     let end = at + crate::prologue::body_length(w);
-    fields::check_body(&words[at..end])
+    check_body(crate::header::type_of(w), &words[at..end])
 }
 
 // All of them, in their order.

@@ -1,11 +1,15 @@
-// A packet: its header, prologue, body and trailer, read from words.
+// A packet: its header, prologue, body and trailer, read from words and written to them.
 mod checks;
+mod fit;
 mod header;
+mod laying;
 mod prologue;
 
 ghost use mathlib.Core.Path.{_≡_};
 ghost use Rattle.packet.specs.Read.{paper, readOf};
-ghost use Rattle.packet.specs.Trailer.{trailerOf};
+ghost use Rattle.words.specs.Outcome.{Meets};
+ghost use Rattle.packet.specs.Trailer.{trailerOf, trailerWordOf, trailerPaper};
+ghost use Rattle.packet.specs.Write.{writeOf, writtenPaper};
 
 // The parts of a packet beside its body. A part that is absent is zero.
 pub struct Parts {
@@ -57,6 +61,24 @@ pub fn read(words: &[u32]) -> Parsed
     Parsed::Accepted(prologue::packet_of(w, words))
 }
 
+// What writing answers: the number of words written, or the number of the refusal.
+pub enum Written {
+    Accepted(usize),
+    Refused(u32),
+}
+
+// Writes a packet, its body given as words, into the part of a buffer that starts at a word of the caller's choice, and answers how many words
+// it has; or answers the first of TYPE, VALUE, SHORT, SIZE, TIME, INDICATOR, LAYOUT, FIELD and ROOM that applies, and leaves the buffer as it was.
+pub fn write(parts: Parts, body: &[u32], out: &mut [u32], at: usize) -> Written
+    ensures { λ r. ⌜ Meets writtenPaper (writeOf parts (now (body .entry)) (now (out .entry)) at) (now (out .entry)) r (now (out .exit)) ⌝ }
+{
+    let found = fit::check(parts, body, out.len(), at);
+    if let words::Check::Refused(n) = found {
+        return Written::Refused(n);
+    }
+    Written::Accepted(laying::lay(parts, body, out, at))
+}
+
 // A trailer word's parts.
 pub struct Trailer {
     pub enables: u32,
@@ -75,4 +97,29 @@ pub fn trailer_parts(word: u32) -> Trailer
         e: word / 0x80 % 2 == 1,
         associated: word % 0x80,
     }
+}
+
+// What making a trailer word answers: the word, or VALUE.
+pub enum TrailerWord {
+    Accepted(u32),
+    Refused(u32),
+}
+
+// The trailer word of some parts; VALUE where one does not fit its bits.
+pub fn trailer_word(parts: Trailer) -> TrailerWord
+    ensures { λ r. ⌜ trailerPaper r ≡ trailerWordOf parts ⌝ }
+{
+    if 0x1000 <= parts.enables {
+        return TrailerWord::Refused(words::VALUE);
+    }
+    if 0x1000 <= parts.indicators {
+        return TrailerWord::Refused(words::VALUE);
+    }
+    if 0x80 <= parts.associated {
+        return TrailerWord::Refused(words::VALUE);
+    }
+    let e = words::inner::when_so(parts.e, 1) as u32;
+    TrailerWord::Accepted(
+        parts.enables * 0x10_0000 + parts.indicators * 0x100 + e * 0x80 + parts.associated,
+    )
 }

@@ -1,6 +1,6 @@
 -- Runs of writes. The idea: a writer's promise is `Laid`, two writers in turn join by `then`, and a writer that was lent the part from a place on
--- joins by `lend`; so a packet or a page is laid by its pieces, in one line for each. Inside, a run is `sets`, which needs no room; `laid-put`
--- says it with the room there is, as a part that is replaced.
+-- joins by `lend`; so a packet or a page is laid by its pieces, in one line for each. Inside, a run is `sets`, which needs no room; `sets-put`
+-- says it, where there is room, as a part that is replaced.
 use mathlib.Core.Path.{_≡_, sym, ap, _∙_}
 use mathlib.Core.List.{List, [], _∷_, _++_, append-nil, append-assoc}
 use Prim.Native.Nat.{ℕ, suc, _+_, _-_, _≤_, _<_}
@@ -58,9 +58,9 @@ lend {l} {m} {ws} {next} at h p = record {
       ∙ ap (λ (x : ℕ). sets l x ws) (add-zero at);
 }
 
--- where there is room, a run is a part that is replaced
-pub laid-put : {l m ws : List ℕ} {at next : ℕ} → at + length ws ≤ length l → Laid l at ws next m → m ≡ put at (length ws) ws l
+-- ---- where there is room, a run is a part that is replaced
+pub sets-put : (l ws : List ℕ) (at : ℕ) → at + length ws ≤ length l → sets l at ws ≡ put at (length ws) ws l
 unfolding put
-laid-put {l} {m} {ws} {at} h p =
-    p .kept ∙ sets-eq ws l at h ∙ append-assoc (take at l) ws (drop (at + length ws) l)
+sets-put l ws at h =
+    sets-eq ws l at h ∙ append-assoc (take at l) ws (drop (at + length ws) l)
     ∙ ap (λ (x : List ℕ). take at l ++ (ws ++ x)) (sym (drop-drop (length ws) at l))

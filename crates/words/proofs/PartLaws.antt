@@ -8,7 +8,7 @@ use native.Mathlib.Omega.{arith}
 use native.Mathlib.Nat.{zero-add, suc-add, le-refl}
 use native.Mathlib.Numerals.{add-one}
 use lib.ListN.{length, take, drop, getD, set, length-append, length-drop, take-append-drop}
-use lib.Seq.{length-take-le, drop-append-le, take-nil, take-at, drop-at, drop-drop, take-take, take-add, take-append-add, set-split, drop-set-lt, take-set-le, getD-take, getD-drop}
+use lib.Seq.{length-take-le, drop-append-le, take-nil, take-at, drop-at, drop-drop, take-length, take-take, take-add, take-append-add, set-split, drop-set-lt, take-set-le, getD-take, getD-drop}
 use Rattle.words.specs.Part.{part, put}
 
 -- ---- take and drop, at a place that is not the seam
@@ -65,6 +65,11 @@ part-part i m a n xs h = part-take i m n (drop a xs) h ∙ part-drop i m a xs
 pub getD-part : (a n i : ℕ) (xs : List ℕ) → i < n → getD (part a n xs) i 0 ≡ getD xs (a + i) 0
 unfolding part put
 getD-part a n i xs h = getD-take n (drop a xs) i 0 h ∙ getD-drop a xs i 0
+
+-- the whole list
+pub part-whole : (xs : List ℕ) → part 0 (length xs) xs ≡ xs
+unfolding part
+part-whole xs = take-length xs
 
 -- a part of a sum: the front, and past it
 pub part-front : (n : ℕ) (ys zs : List ℕ) → length ys ≡ n → part 0 n (ys ++ zs) ≡ ys

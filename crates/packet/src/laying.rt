@@ -1,0 +1,155 @@
+// The words of a packet, laid into a buffer: the prologue, the body and the trailer in turn.
+ghost use mathlib.Core.Path.{_≡_};
+ghost use mathlib.Core.Bool.{true};
+ghost use mathlib.Core.List.{[], _∷_, _++_};
+ghost use Prim.Native.Nat.{_+_, _*_, _%_, _^_, _≤_, _<_};
+ghost use lib.ListN.{length, take, drop};
+ghost use Rattle.words.specs.Outcome.{accepted};
+ghost use Rattle.words.specs.Laid.{Laid};
+ghost use Rattle.packet.specs.Header.{classed};
+ghost use Rattle.packet.specs.Write.{bit, headerWord, sizeFor, given, headWords, classWords, timeWords, prologueWords, trailerWords, packetWords, classFits, partsFit, writeChecks};
+
+// 1 for a flag that is set.
+fn bit_of(flag: bool) -> u32
+    ensures { λ r. ⌜ (r ≡ bit flag) × (r ≤ 1) ⌝ }
+{
+    if flag { 1 } else { 0 }
+}
+
+// The header word, with a size of 0.
+fn header_word(p: crate::Parts) -> u32
+    requires { ⌜ (p .kind < 6) × (p .tsi < 4) × (p .tsf < 4) × (p .count < 16) ⌝ }
+    ensures { λ r. ⌜ (r ≡ headerWord p 0) × (r < 1610612736) ⌝ }
+{
+    let classed = bit_of(p.classed);
+    let trailed = bit_of(p.trailed);
+    let tsm = bit_of(p.tsm);
+    p.kind * 0x1000_0000
+        + classed * 0x800_0000
+        + trailed * 0x400_0000
+        + tsm * 0x100_0000
+        + p.tsi * 0x40_0000
+        + p.tsf * 0x10_0000
+        + p.count * 0x1_0000
+}
+
+// The words of a packet whose body has n.
+pub fn size_for(p: crate::Parts, n: usize) -> usize
+    requires { ⌜ (partsFit p ≡ true) × (p .kind < 6) × (n < 2 ^ 62) ⌝ }
+    ensures { λ r. ⌜ (r ≡ sizeFor p n) × (1 ≤ r) ⌝ }
+{
+    let w = header_word(p);
+    crate::header::body_at(w) + n + words::inner::when_so(crate::header::has_trailer(w), 1)
+}
+
+// One word, if it is there; answers the place past it.
+fn lay_one(present: bool, word: u32, out: &mut [u32], at: usize) -> usize
+    requires { ⌜ at + length (given present (word ∷ [])) ≤ length (now out) ⌝ }
+    ensures { λ r. ⌜ Laid (now (out .entry)) at (given present (word ∷ [])) r (now (out .exit)) ⌝ }
+{
+    if present {
+        out[at] = word;
+        return at + 1;
+    }
+    at
+}
+
+// Two words, if they are there; answers the place past them.
+fn lay_two(present: bool, high: u32, low: u32, out: &mut [u32], at: usize) -> usize
+    requires { ⌜ at + length (given present (high ∷ low ∷ [])) ≤ length (now out) ⌝ }
+    ensures { λ r. ⌜ Laid (now (out .entry)) at (given present (high ∷ low ∷ [])) r (now (out .exit)) ⌝ }
+{
+    if present {
+        out[at] = high;
+        out[at + 1] = low;
+        return at + 2;
+    }
+    at
+}
+
+// The header and the stream identifier, from the start of a buffer.
+fn lay_head(w: u32, p: crate::Parts, out: &mut [u32]) -> usize
+    requires { ⌜ length (headWords w p) ≤ length (now out) ⌝ }
+    ensures { λ r. ⌜ Laid (now (out .entry)) 0 (headWords w p) r (now (out .exit)) ⌝ }
+{
+    let a = lay_one(true, w, out, 0);
+    lay_one(crate::header::has_stream(w), p.identifier, out, a)
+}
+
+// The class's second word.
+fn class_word(information: u32, packet: u32) -> u32
+    ensures { λ r. ⌜ r ≡ information % 2 ^ 16 * 2 ^ 16 + packet % 2 ^ 16 ⌝ }
+{
+    information % 0x1_0000 * 0x1_0000 + packet % 0x1_0000
+}
+
+// The class, from a place on.
+fn lay_class(w: u32, p: crate::Parts, out: &mut [u32], at: usize) -> usize
+    requires { ⌜ (classFits (classed w) (p .oui) (p .information) (p .packet) ≡ true) × (at + length (classWords w p) ≤ length (now out)) ⌝ }
+    ensures { λ r. ⌜ Laid (now (out .entry)) at (classWords w p) r (now (out .exit)) ⌝ }
+{
+    let second = class_word(p.information, p.packet);
+    lay_two(crate::header::has_class(w), p.oui, second, out, at)
+}
+
+// The seconds and the fraction, from a place on.
+fn lay_time(w: u32, p: crate::Parts, out: &mut [u32], at: usize) -> usize
+    requires { ⌜ at + length (timeWords w p) ≤ length (now out) ⌝ }
+    ensures { λ r. ⌜ Laid (now (out .entry)) at (timeWords w p) r (now (out .exit)) ⌝ }
+{
+    let fraction = p.fraction;
+    let high = (fraction / 0x1_0000_0000) as u32;
+    let low = (fraction % 0x1_0000_0000) as u32;
+    let a = lay_one(crate::header::has_seconds(w), p.seconds, out, at);
+    lay_two(crate::header::has_fraction(w), high, low, out, a)
+}
+
+// What stands before the body, under the header word w, from the start of a buffer.
+fn lay_prologue(w: u32, p: crate::Parts, out: &mut [u32]) -> usize
+    requires { ⌜ (classFits (classed w) (p .oui) (p .information) (p .packet) ≡ true) × (length (prologueWords w p) ≤ length (now out)) ⌝ }
+    ensures { λ r. ⌜ Laid (now (out .entry)) 0 (prologueWords w p) r (now (out .exit)) ⌝ }
+{
+    let a = lay_head(w, p, out);
+    let b = lay_class(w, p, out, a);
+    lay_time(w, p, out, b)
+}
+
+// The body, from the start of a buffer.
+fn lay_body(body: &[u32], out: &mut [u32]) -> usize
+    requires { ⌜ length (now body) ≤ length (now out) ⌝ }
+    ensures { λ r. ⌜ Laid (now (out .entry)) 0 (now (body .entry)) r (now (out .exit)) ⌝ }
+{
+    let n = body.len();
+    words::inner::copy_part(out, 0, body, 0, n);
+    n
+}
+
+// The trailer, under the header word w, from the start of a buffer.
+fn lay_trailer(w: u32, p: crate::Parts, out: &mut [u32]) -> usize
+    requires { ⌜ length (trailerWords w p) ≤ length (now out) ⌝ }
+    ensures { λ r. ⌜ Laid (now (out .entry)) 0 (trailerWords w p) r (now (out .exit)) ⌝ }
+{
+    lay_one(crate::header::has_trailer(w), p.trailer, out, 0)
+}
+
+// The three in turn, each lent the part of the buffer that is left, from a place on.
+fn lay_parts(w: u32, p: crate::Parts, body: &[u32], out: &mut [u32], at: usize) -> usize
+    requires { ⌜ classFits (classed w) (p .oui) (p .information) (p .packet) ≡ true ⌝ }
+    requires { ⌜ at + (length (prologueWords w p) + length (now body) + length (trailerWords w p)) ≤ length (now out) ⌝ }
+    ensures { λ r. ⌜ Laid (now (out .entry)) at (prologueWords w p ++ now (body .entry) ++ trailerWords w p) r (now (out .exit)) ⌝ }
+{
+    let a = at + lay_prologue(w, p, &mut out[at..]);
+    let b = a + lay_body(body, &mut out[a..]);
+    b + lay_trailer(w, p, &mut out[b..])
+}
+
+// A packet that nothing refuses, at its place; answers its size.
+pub fn lay(p: crate::Parts, body: &[u32], out: &mut [u32], at: usize) -> usize
+    requires { ⌜ writeChecks p (now body) (length (now out)) at ≡ accepted tt ⌝ }
+    ensures { λ r. ⌜ (r ≡ sizeFor p (length (now (body .entry)))) × (now (out .exit) ≡ take at (now (out .entry)) ++ packetWords p (now (body .entry)) ++ drop (at + r) (now (out .entry))) ⌝ }
+{
+    let size = size_for(p, body.len());
+    let w = header_word(p) + size as u32;
+    lay_parts(w, p, body, out, at);
+    size
+}
