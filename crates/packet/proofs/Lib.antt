@@ -10,9 +10,7 @@ pub mod BeyondLaws
 pub mod Uniqueness
 -- what the checks of writing tell
 pub mod FitLaws
-
 -- the words of a packet by their pieces
 pub mod LayLaws
-
 -- a header that was made of parts, read again
 pub mod HeaderLaws

@@ -4,7 +4,7 @@ use mathlib.Core.Bool.{Bool, not}
 use mathlib.Core.List.{[], _∷_}
 use lib.Dec.{ltb}
 use Rattle.words.specs.Numbers.{VALUE}
-use Rattle.words.specs.Tests.{pick, when, both}
+use Rattle.words.specs.Tests.{pick, both}
 use Rattle.words.specs.Word.{bits, has, join}
 use Rattle.words.specs.Outcome.{Outcome, refused, accepted}
 use Rattle.packet.specs.declared.Trailer.{Trailer}
@@ -15,11 +15,11 @@ use Rattle.packet.specs.declared.TrailerWord.the-variants.{Accepted, Ref
 unfoldable pub trailerOf : ℕ → Trailer
 trailerOf w = record { enables = bits 31 20 w; indicators = bits 19 8 w; e = has w 7; associated = bits 6 0 w }
 
--- the trailer word of some parts: VALUE where one does not fit its bits
-unfoldable pub trailerWordOf : Trailer → Outcome ℕ
-trailerWordOf t =
-    pick (not (both (ltb (t .enables) (2 ^ 12)) (both (ltb (t .indicators) (2 ^ 12)) (ltb (t .associated) (2 ^ 7))))) (refused VALUE)
-    (accepted (join (7 ∷ 1 ∷ 12 ∷ 12 ∷ []) (t .associated ∷ when (t .e) 1 ∷ t .indicators ∷ t .enables ∷ [])))
+-- the trailer word of four numbers: VALUE where one does not fit its bits
+unfoldable pub trailerWordOf : ℕ → ℕ → ℕ → ℕ → Outcome ℕ
+trailerWordOf enables indicators e associated =
+    pick (not (both (ltb enables (2 ^ 12)) (both (ltb indicators (2 ^ 12)) (both (ltb e 2) (ltb associated (2 ^ 7)))))) (refused VALUE)
+    (accepted (join (7 ∷ 1 ∷ 12 ∷ 12 ∷ []) (associated ∷ e ∷ indicators ∷ enables ∷ [])))
 
 -- the number and values of an answer
 abbrev pub trailerPaper : TrailerWord → Outcome ℕ

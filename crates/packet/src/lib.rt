@@ -105,21 +105,21 @@ pub enum TrailerWord {
     Refused(u32),
 }
 
-// The trailer word of some parts; VALUE where one does not fit its bits.
-pub fn trailer_word(parts: Trailer) -> TrailerWord
-    ensures { λ r. ⌜ trailerPaper r ≡ trailerWordOf parts ⌝ }
+// The trailer word of enables, indicators, E and associated count; VALUE where one does not fit its bits.
+pub fn trailer_word(enables: u32, indicators: u32, e: u32, associated: u32) -> TrailerWord
+    ensures { λ r. ⌜ trailerPaper r ≡ trailerWordOf enables indicators e associated ⌝ }
 {
-    if 0x1000 <= parts.enables {
+    if 0x1000 <= enables {
         return TrailerWord::Refused(words::VALUE);
     }
-    if 0x1000 <= parts.indicators {
+    if 0x1000 <= indicators {
         return TrailerWord::Refused(words::VALUE);
     }
-    if 0x80 <= parts.associated {
+    if 2 <= e {
         return TrailerWord::Refused(words::VALUE);
     }
-    let e = words::inner::when_so(parts.e, 1) as u32;
-    TrailerWord::Accepted(
-        parts.enables * 0x10_0000 + parts.indicators * 0x100 + e * 0x80 + parts.associated,
-    )
+    if 0x80 <= associated {
+        return TrailerWord::Refused(words::VALUE);
+    }
+    TrailerWord::Accepted(enables * 0x10_0000 + indicators * 0x100 + e * 0x80 + associated)
 }

@@ -23,6 +23,24 @@ pub fn next_word() -> Input {
     Input::Word(big_endian(bytes[0], bytes[1], bytes[2], bytes[3]))
 }
 
+// The next word of the input; 0 past its end.
+pub fn word() -> u32 {
+    let next = next_word();
+    match next {
+        Input::Word(w) => w,
+        Input::End => 0,
+    }
+}
+
+// Fills a buffer with a pattern, so that words which stay can be told.
+pub fn pattern(buffer: &mut [u32]) {
+    let mut i = 0;
+    while i < buffer.len() {
+        buffer[i] = 0xA5A5_A5A5;
+        i += 1;
+    }
+}
+
 // Fills a buffer with the next words of standard input; whether all were there.
 pub fn fill(words: &mut [u32]) -> bool {
     let mut i = 0;
@@ -61,5 +79,20 @@ pub fn named_flag(name: &[u8], flag: bool) {
         named(name, 1);
     } else {
         named(name, 0);
+    }
+}
+
+// A word as a wider number.
+fn wide(w: u32) -> u64 {
+    w as u64
+}
+
+// Writes words in decimal, each after a space.
+pub fn list(words: &[u32]) {
+    let mut i = 0;
+    while i < words.len() {
+        text(b" ");
+        number(wide(words[i]));
+        i += 1;
     }
 }

@@ -1,24 +1,17 @@
 -- `write` meets its promise: a refusal found leaves the buffer as it was, and else the packet is laid.
-use mathlib.Core.Path.{_≡_, refl, sym, ap, _∙_}
+use mathlib.Core.Path.{refl, sym, ap, _∙_}
 use Rattle.words.specs.Outcome.{accepted, checked}
 use Rattle.packet.specs.Write.{writeOf}
 use borrow.Author.Needs.{needs}
 use Rattle.packet.proofs.write.Statement.{statement}
 use Rattle.packet.proofs.write.Tie as tie
-use Rattle.packet.proofs.write.Reads as reads
-use Rattle.packet.proofs.write.Lts as lts
-use Rattle.packet.proofs.fit.check.Reads as check-reads
-use Rattle.packet.proofs.laying.lay.Reads as lay-reads
 
--- src/lib.rt:75:9
 check-requires : tie.Need-check-requires
 check-requires c κs = search needs
 
--- src/lib.rt:76:34
 enum-known-found : tie.Need-enum-known-found
 enum-known-found c = search needs
 
--- src/lib.rt:77:9
 returns : tie.Need-returns
 unfolding writeOf
 returns c =
@@ -28,15 +21,12 @@ returns c =
 enum-told : tie.Need-enum-told
 enum-told c = search needs
 
--- src/lib.rt:79:23
 lay-requires : tie.Need-lay-requires
 lay-requires c κs = sym (c .before .before .before .check .ensures) ∙ ap checked (c .before .enum-told .given .1)
 
--- src/lib.rt:72:1
 same-length : tie.Need-same-length
 same-length c = search needs
 
--- src/lib.rt:72:1
 returns-2 : tie.Need-returns-2
 unfolding writeOf
 returns-2 c =

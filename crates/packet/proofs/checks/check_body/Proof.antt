@@ -4,20 +4,14 @@ use Rattle.packet.specs.Read.{bodyChecks}
 use borrow.Author.Needs.{needs}
 use Rattle.packet.proofs.checks.check_body.Statement.{statement}
 use Rattle.packet.proofs.checks.check_body.Tie as tie
-use Rattle.packet.proofs.checks.check_body.Reads as reads
-use Rattle.packet.proofs.checks.check_body.Lts as lts
-use Rattle.fields.proofs.check_body.Reads as check-body-reads
 
--- src/checks.rt:67:9
 returns : tie.Need-returns
 unfolding bodyChecks
 returns c = rw (ne-eqb _ _ (c .if1 .taken))
 
--- src/checks.rt:69:5
 check-body-requires : tie.Need-check-body-requires
 check-body-requires c κs = search needs
 
--- src/checks.rt:63:1
 returns-2 : tie.Need-returns-2
 unfolding bodyChecks
 returns-2 c = rw (eq-eqb _ _ (c .before .if1 .left)) (c .check-body .ensures)

@@ -4,42 +4,29 @@ use Rattle.packet.specs.Read.{prologueChecks}
 use borrow.Author.Needs.{needs}
 use Rattle.packet.proofs.checks.check_prologue.Statement.{statement}
 use Rattle.packet.proofs.checks.check_prologue.Tie as tie
-use Rattle.packet.proofs.checks.check_prologue.Reads as reads
-use Rattle.packet.proofs.checks.check_prologue.Lts as lts
-use Rattle.packet.proofs.checks.time_over.Reads as time-over-reads
-use Rattle.packet.proofs.header.tsf_of.Reads as tsf-of-reads
-use Rattle.packet.proofs.prologue.class_of.Reads as class-of-reads
-use Rattle.packet.proofs.prologue.fraction_of.Reads as fraction-of-reads
 
--- src/checks.rt:49:9
 class-of-requires : tie.Need-class-of-requires
 class-of-requires c κs = search needs
 
--- src/checks.rt:51:9
 returns : tie.Need-returns
 unfolding prologueChecks
 returns c = search (cases, ← c .before .before .class-of .ensures .0)
 
--- src/checks.rt:54:9
 tsf-of-requires : tie.Need-tsf-of-requires
 tsf-of-requires c κs = search needs
 
--- src/checks.rt:55:9
 fraction-of-requires : tie.Need-fraction-of-requires
 fraction-of-requires c κs = search needs
 
--- src/checks.rt:53:8
 time-over-requires : tie.Need-time-over-requires
 time-over-requires c κs = search needs
 
--- src/checks.rt:57:9
 returns-2 : tie.Need-returns-2
 unfolding prologueChecks
 returns-2 c =
     let t = c .before .before .before in
     search (cases, ← t .before .before .before .class-of .ensures .0, ← t .tsf-of .ensures, ← c .before .before .fraction-of .ensures, ← c .before .time-over .ensures, c .if2 .taken)
 
--- src/checks.rt:45:1
 returns-3 : tie.Need-returns-3
 unfolding prologueChecks
 returns-3 c =

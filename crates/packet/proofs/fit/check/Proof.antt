@@ -7,23 +7,13 @@ use Rattle.packet.proofs.FitLaws.{parts-passed}
 use borrow.Author.Needs.{needs}
 use Rattle.packet.proofs.fit.check.Statement.{statement}
 use Rattle.packet.proofs.fit.check.Tie as tie
-use Rattle.packet.proofs.fit.check.Reads as reads
-use Rattle.packet.proofs.fit.check.Lts as lts
-use Rattle.packet.proofs.checks.check_body.Reads as check-body-reads
-use Rattle.packet.proofs.fit.check_measure.Reads as check-measure-reads
-use Rattle.packet.proofs.fit.check_parts.Reads as check-parts-reads
-use Rattle.packet.proofs.fit.check_room.Reads as check-room-reads
-use Rattle.packet.proofs.laying.size_for.Reads as size-for-reads
 
--- src/fit.rt:88:9
 check-parts-requires : tie.Need-check-parts-requires
 check-parts-requires c κs = search needs
 
--- src/fit.rt:89:34
 enum-known-parts : tie.Need-enum-known-parts
 enum-known-parts c = search needs
 
--- src/fit.rt:90:9
 returns : tie.Need-returns
 unfolding writeChecks
 returns c = rw (← c .before .before .before .check-parts .ensures, c .before .parts .given .1)
@@ -31,17 +21,14 @@ returns c = rw (← c .before .before .before .check-parts .ensures, c .before .
 enum-told : tie.Need-enum-told
 enum-told c = search needs
 
--- src/fit.rt:92:9
 check-measure-requires : tie.Need-check-measure-requires
 check-measure-requires c κs =
     let k = parts-passed _ (sym (c .before .before .check-parts .ensures) ∙ ap checked (c .enum-told .given .1)) in
     (k .1, k .0, omega arith)
 
--- src/fit.rt:93:34
 enum-known-measure : tie.Need-enum-known-measure
 enum-known-measure c = search needs
 
--- src/fit.rt:94:9
 returns-2 : tie.Need-returns-2
 unfolding writeChecks
 returns-2 c =
@@ -51,15 +38,12 @@ returns-2 c =
 enum-told-2 : tie.Need-enum-told-2
 enum-told-2 c = search needs
 
--- src/fit.rt:96:9
 check-body-requires : tie.Need-check-body-requires
 check-body-requires c κs = search needs
 
--- src/fit.rt:97:34
 enum-known-context : tie.Need-enum-known-context
 enum-known-context c = search needs
 
--- src/fit.rt:98:9
 returns-3 : tie.Need-returns-3
 unfolding writeChecks
 returns-3 c =
@@ -70,17 +54,14 @@ returns-3 c =
 enum-told-3 : tie.Need-enum-told-3
 enum-told-3 c = search needs
 
--- src/fit.rt:100:26
 size-for-requires : tie.Need-size-for-requires
 size-for-requires c κs =
     let k = parts-passed _ (sym (c .before .before .before .before .before .before .before .before .check-parts .ensures) ∙ ap checked (c .before .before .before .before .before .before .enum-told .given .1)) in
     (k .1, k .0, omega arith)
 
--- src/fit.rt:100:5
 check-room-requires : tie.Need-check-room-requires
 check-room-requires c κs = search needs
 
--- src/fit.rt:85:1
 returns-4 : tie.Need-returns-4
 unfolding writeChecks
 returns-4 c =

@@ -4,42 +4,30 @@ use Rattle.packet.specs.Write.{measureChecks}
 use borrow.Author.Needs.{needs}
 use Rattle.packet.proofs.fit.check_measure.Statement.{statement}
 use Rattle.packet.proofs.fit.check_measure.Tie as tie
-use Rattle.packet.proofs.fit.check_measure.Reads as reads
-use Rattle.packet.proofs.fit.check_measure.Lts as lts
-use Rattle.packet.proofs.checks.time_over.Reads as time-over-reads
-use Rattle.packet.proofs.laying.size_for.Reads as size-for-reads
-use Rattle.words.proofs.inner.both_of.Reads as both-of-reads
 
--- src/fit.rt:58:8
 both-of-requires : tie.Need-both-of-requires
 both-of-requires c κs = search needs
 
--- src/fit.rt:59:9
 returns : tie.Need-returns
 unfolding measureChecks
 returns c = search (cases, ← c .before .both-of .ensures, c .if1 .taken)
 
--- src/fit.rt:61:16
 size-for-requires : tie.Need-size-for-requires
 size-for-requires c κs = search needs
 
--- src/fit.rt:62:9
 returns-2 : tie.Need-returns-2
 unfolding measureChecks
 returns-2 c = search (cases, ← c .before .before .before .both-of .ensures, c .before .before .if1 .left, ← c .before .size-for .ensures .0)
 
--- src/fit.rt:64:8
 time-over-requires : tie.Need-time-over-requires
 time-over-requires c κs = search needs
 
--- src/fit.rt:65:9
 returns-3 : tie.Need-returns-3
 unfolding measureChecks
 returns-3 c =
     let s = c .before .before .before in
     search (cases, ← s .before .before .both-of .ensures, s .before .if1 .left, ← s .size-for .ensures .0, ← c .before .time-over .ensures, c .if3 .taken)
 
--- src/fit.rt:54:1
 returns-4 : tie.Need-returns-4
 unfolding measureChecks
 returns-4 c =

@@ -4,46 +4,32 @@ use Rattle.packet.specs.Write.{partsFit, partsChecks}
 use borrow.Author.Needs.{needs}
 use Rattle.packet.proofs.fit.check_parts.Statement.{statement}
 use Rattle.packet.proofs.fit.check_parts.Tie as tie
-use Rattle.packet.proofs.fit.check_parts.Reads as reads
-use Rattle.packet.proofs.fit.check_parts.Lts as lts
-use Rattle.packet.proofs.fit.class_fits.Reads as class-fits-reads
-use Rattle.packet.proofs.fit.codes_fit.Reads as codes-fit-reads
-use Rattle.packet.proofs.fit.flags_fit.Reads as flags-fit-reads
-use Rattle.words.proofs.inner.both_of.Reads as both-of-reads
 
--- src/fit.rt:42:9
 returns : tie.Need-returns
 unfolding partsChecks
 returns c = search cases
 
--- src/fit.rt:44:9
 codes-fit-requires : tie.Need-codes-fit-requires
 codes-fit-requires c κs = search needs
 
--- src/fit.rt:45:9
 flags-fit-requires : tie.Need-flags-fit-requires
 flags-fit-requires c κs = search needs
 
--- src/fit.rt:46:9
 class-fits-requires : tie.Need-class-fits-requires
 class-fits-requires c κs = search needs
 
--- src/fit.rt:47:37
 both-of-requires : tie.Need-both-of-requires
 both-of-requires c κs = search needs
 
--- src/fit.rt:47:8
 both-of-requires-2 : tie.Need-both-of-requires-2
 both-of-requires-2 c κs = search needs
 
--- src/fit.rt:48:9
 returns-2 : tie.Need-returns-2
 unfolding partsFit partsChecks
 returns-2 c =
     let k = c .before .before .before in
     search (cases, ← k .before .before .codes-fit .ensures, ← k .before .flags-fit .ensures, ← k .class-fits .ensures, ← c .before .before .both-of .ensures, ← c .before .both-of2 .ensures, c .if2 .taken)
 
--- src/fit.rt:38:1
 returns-3 : tie.Need-returns-3
 unfolding partsFit partsChecks
 returns-3 c =

@@ -3,23 +3,17 @@ use Prim.Native.Nat.{_+_}
 use borrow.Author.Tests.{lt-ltb, le-ltb}
 use native.Mathlib.Omega.{arith}
 use Rattle.packet.specs.Write.{roomChecks}
-use borrow.Author.Needs.{needs}
 use Rattle.packet.proofs.fit.check_room.Statement.{statement}
 use Rattle.packet.proofs.fit.check_room.Tie as tie
-use Rattle.packet.proofs.fit.check_room.Reads as reads
-use Rattle.packet.proofs.fit.check_room.Lts as lts
 
--- src/fit.rt:76:9
 returns : tie.Need-returns
 unfolding roomChecks
 returns c = let a = c .before .args in rw (lt-ltb (a .room) (a .at + a .size) (omega arith))
 
--- src/fit.rt:79:9
 returns-2 : tie.Need-returns-2
 unfolding roomChecks
 returns-2 c = let a = c .before .before .args in rw (lt-ltb (a .room) (a .at + a .size) (omega arith))
 
--- src/fit.rt:71:1
 returns-3 : tie.Need-returns-3
 unfolding roomChecks
 returns-3 c = let a = c .before .before .args in rw (le-ltb (a .room) (a .at + a .size) (omega arith))

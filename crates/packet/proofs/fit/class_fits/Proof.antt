@@ -3,24 +3,17 @@ use Rattle.packet.specs.Write.{classFits}
 use borrow.Author.Needs.{needs}
 use Rattle.packet.proofs.fit.class_fits.Statement.{statement}
 use Rattle.packet.proofs.fit.class_fits.Tie as tie
-use Rattle.packet.proofs.fit.class_fits.Reads as reads
-use Rattle.packet.proofs.fit.class_fits.Lts as lts
-use Rattle.words.proofs.inner.both_of.Reads as both-of-reads
 
--- src/fit.rt:30:13
 both-of-requires : tie.Need-both-of-requires
 both-of-requires c κs = search needs
 
--- src/fit.rt:28:9
 both-of-requires-2 : tie.Need-both-of-requires-2
 both-of-requires-2 c κs = search needs
 
--- src/fit.rt:24:1
 returns : tie.Need-returns
 unfolding classFits
 returns c = rw (c .both-of2 .ensures, c .before .both-of .ensures, c .before .before .if1 .taken)
 
--- src/fit.rt:24:1
 returns-2 : tie.Need-returns-2
 unfolding classFits
 returns-2 c = rw (c .if1 .left)

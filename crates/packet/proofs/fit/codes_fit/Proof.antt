@@ -3,19 +3,13 @@ use Rattle.packet.specs.Write.{codesFit}
 use borrow.Author.Needs.{needs}
 use Rattle.packet.proofs.fit.codes_fit.Statement.{statement}
 use Rattle.packet.proofs.fit.codes_fit.Tie as tie
-use Rattle.packet.proofs.fit.codes_fit.Reads as reads
-use Rattle.packet.proofs.fit.codes_fit.Lts as lts
-use Rattle.words.proofs.inner.both_of.Reads as both-of-reads
 
--- src/fit.rt:13:36
 both-of-requires : tie.Need-both-of-requires
 both-of-requires c κs = search needs
 
--- src/fit.rt:13:5
 both-of-requires-2 : tie.Need-both-of-requires-2
 both-of-requires-2 c κs = search needs
 
--- src/fit.rt:10:1
 returns : tie.Need-returns
 unfolding codesFit
 returns c = rw (c .both-of2 .ensures, c .before .both-of .ensures)

@@ -1,18 +1,13 @@
 -- `flags_fit` meets its promise.
 use Rattle.words.proofs.Cases.{cases}
 use Rattle.packet.specs.Write.{flagsFit}
-use borrow.Author.Needs.{needs}
 use Rattle.packet.proofs.fit.flags_fit.Statement.{statement}
 use Rattle.packet.proofs.fit.flags_fit.Tie as tie
-use Rattle.packet.proofs.fit.flags_fit.Reads as reads
-use Rattle.packet.proofs.fit.flags_fit.Lts as lts
 
--- src/fit.rt:17:1
 returns : tie.Need-returns
 unfolding flagsFit
 returns c = search cases
 
--- src/fit.rt:17:1
 returns-2 : tie.Need-returns-2
 unfolding flagsFit
 returns-2 c = search cases

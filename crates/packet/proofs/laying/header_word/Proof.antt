@@ -5,75 +5,55 @@ use Rattle.packet.specs.Write.{headerWord}
 use borrow.Author.Needs.{needs}
 use Rattle.packet.proofs.laying.header_word.Statement.{statement}
 use Rattle.packet.proofs.laying.header_word.Tie as tie
-use Rattle.packet.proofs.laying.header_word.Reads as reads
-use Rattle.packet.proofs.laying.header_word.Lts as lts
-use Rattle.packet.proofs.laying.bit_of.Reads as bit-of-reads
 
--- src/laying.rt:24:9
 bit-of-requires : tie.Need-bit-of-requires
 bit-of-requires c κs = search needs
 
--- src/laying.rt:25:9
 bit-of-requires-2 : tie.Need-bit-of-requires-2
 bit-of-requires-2 c κs = search needs
 
--- src/laying.rt:26:9
 bit-of-requires-3 : tie.Need-bit-of-requires-3
 bit-of-requires-3 c κs = search needs
 
--- src/laying.rt:27:5
 mul-result : tie.Need-mul-result
 mul-result c = search needs
 
--- src/laying.rt:28:11
 mul-result-2 : tie.Need-mul-result-2
 mul-result-2 c = search needs
 
--- src/laying.rt:27:5
 add-result : tie.Need-add-result
 add-result c = search needs
 
--- src/laying.rt:29:11
 mul-result-3 : tie.Need-mul-result-3
 mul-result-3 c = search needs
 
--- src/laying.rt:27:5
 add-result-2 : tie.Need-add-result-2
 add-result-2 c = search needs
 
--- src/laying.rt:30:11
 mul-result-4 : tie.Need-mul-result-4
 mul-result-4 c = search needs
 
--- src/laying.rt:27:5
 add-result-3 : tie.Need-add-result-3
 add-result-3 c = search needs
 
--- src/laying.rt:31:11
 mul-result-5 : tie.Need-mul-result-5
 mul-result-5 c = search needs
 
--- src/laying.rt:27:5
 add-result-4 : tie.Need-add-result-4
 add-result-4 c = search needs
 
--- src/laying.rt:32:11
 mul-result-6 : tie.Need-mul-result-6
 mul-result-6 c = search needs
 
--- src/laying.rt:27:5
 add-result-5 : tie.Need-add-result-5
 add-result-5 c = search needs
 
--- src/laying.rt:33:11
 mul-result-7 : tie.Need-mul-result-7
 mul-result-7 c = search needs
 
--- src/laying.rt:27:5
 add-result-6 : tie.Need-add-result-6
 add-result-6 c = search needs
 
--- src/laying.rt:20:1
 returns : tie.Need-returns
 unfolding headerWord join
 returns c = omega arith

@@ -1,5 +1,5 @@
 -- `lay` meets its promise: parts that passed the checks fit and have room, and what is laid is the packet (`laid-packet`).
-use mathlib.Core.Path.{_≡_, sym, ap, _∙_}
+use mathlib.Core.Path.{_≡_, sym}
 use Prim.Native.Nat.{_+_}
 use native.Mathlib.Omega.{arith}
 use denote.Ref.{now}
@@ -11,11 +11,6 @@ use Rattle.packet.proofs.LayLaws.{prologue-length, trailer-length, laid
 use borrow.Author.Needs.{needs}
 use Rattle.packet.proofs.laying.lay.Statement.{statement}
 use Rattle.packet.proofs.laying.lay.Tie as tie
-use Rattle.packet.proofs.laying.lay.Reads as reads
-use Rattle.packet.proofs.laying.lay.Lts as lts
-use Rattle.packet.proofs.laying.header_word.Reads as header-word-reads
-use Rattle.packet.proofs.laying.lay_parts.Reads as lay-parts-reads
-use Rattle.packet.proofs.laying.size_for.Reads as size-for-reads
 
 -- nothing refuses the packet
 may : (c : tie.Start) → Writable (c .args .p) (now (c .args .body)) (length (now (c .args .out))) (c .args .at)
@@ -26,38 +21,32 @@ word : (c : tie.After-header-word)
     → c .header-word .result + c .before .size-for .result ≡ headerWord (c .before .before .before .before .args .p) (sizeFor (c .before .before .before .before .args .p) (length (now (c .before .before .before .before .args .body))))
 word c = rw (c .header-word .ensures .0, c .before .size-for .ensures .0) (sym (header-size _ _))
 
--- src/laying.rt:126:9
 size-for-requires : tie.Need-size-for-requires
 size-for-requires c κs = let m = may (c .before .before) in (m .fit, m .kind, omega arith)
 
--- src/laying.rt:127:13
 header-word-requires : tie.Need-header-word-requires
 header-word-requires c κs = let m = may (c .before .before .before) in omega (arith, m .kind, parts-fit _ (m .fit))
 
--- src/laying.rt:127:30
 cast-w : tie.Need-cast-w
 cast-w c = omega (arith, may (c .before .before .before .before) .small, c .before .size-for .ensures .0)
 
--- src/laying.rt:127:13
 add-w : tie.Need-add-w
 add-w c = omega (arith, may (c .before .before .before .before) .small, c .before .size-for .ensures .0)
 
--- src/laying.rt:128:5
 lay-parts-requires : tie.Need-lay-parts-requires
 lay-parts-requires c κs =
     let s = c .before .before .before .before .before in
     let m = may s in
     let p = s .args .p in
     let size = sizeFor p (length (now (s .args .body))) in
-    rw (word (c .before))
-    ( rw (classed-is p size (m .kind) (parts-fit p (m .fit)) (m .small)) (parts-fit p (m .fit) .class),
-      omega (arith, prologue-length (headerWord p size) p, trailer-length (headerWord p size) p, size-for-is p size (m .kind) (parts-fit p (m .fit)) (m .small) (length (now (s .args .body))), m .inside))
+    rw (word (c .before)) (
+      rw (classed-is p size (m .kind) (parts-fit p (m .fit)) (m .small)) (parts-fit p (m .fit) .class),
+      omega (arith, prologue-length (headerWord p size) p, trailer-length (headerWord p size) p, size-for-is p size (m .kind) (parts-fit p (m .fit)) (m .small) (length (now (s .args .body))), m .inside),
+    )
 
--- src/laying.rt:122:1
 same-length : tie.Need-same-length
 same-length c = search needs
 
--- src/laying.rt:122:1
 returns : tie.Need-returns
 returns c =
     let s = c .before .before .before .before .before .before .before .before in

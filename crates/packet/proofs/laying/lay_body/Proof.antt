@@ -7,19 +7,13 @@ use Rattle.words.proofs.LaidLaws.{sets-put}
 use borrow.Author.Needs.{needs}
 use Rattle.packet.proofs.laying.lay_body.Statement.{statement}
 use Rattle.packet.proofs.laying.lay_body.Tie as tie
-use Rattle.packet.proofs.laying.lay_body.Reads as reads
-use Rattle.packet.proofs.laying.lay_body.Lts as lts
-use Rattle.words.proofs.inner.copy_part.Reads as copy-part-reads
 
--- src/laying.rt:98:5
 copy-part-requires : tie.Need-copy-part-requires
 copy-part-requires c κs = search needs
 
--- src/laying.rt:93:1
 same-length : tie.Need-same-length
 same-length c = search needs
 
--- src/laying.rt:93:1
 returns : tie.Need-returns
 returns c =
     let a = c .before .before .before .before .before .before .args in

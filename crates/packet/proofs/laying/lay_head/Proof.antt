@@ -8,31 +8,22 @@ use Rattle.packet.proofs.LayLaws.{length-given, head-length}
 use borrow.Author.Needs.{needs}
 use Rattle.packet.proofs.laying.lay_head.Statement.{statement}
 use Rattle.packet.proofs.laying.lay_head.Tie as tie
-use Rattle.packet.proofs.laying.lay_head.Reads as reads
-use Rattle.packet.proofs.laying.lay_head.Lts as lts
-use Rattle.packet.proofs.header.has_stream.Reads as has-stream-reads
-use Rattle.packet.proofs.laying.lay_one.Reads as lay-one-reads
 
--- src/laying.rt:75:9
 lay-one-requires : tie.Need-lay-one-requires
 lay-one-requires c κs = let s = c .before .before in omega (arith, head-length (s .args .w) (s .args .p))
 
--- src/laying.rt:76:13
 has-stream-requires : tie.Need-has-stream-requires
 has-stream-requires c κs = search needs
 
--- src/laying.rt:76:5
 lay-one-requires-2 : tie.Need-lay-one-requires-2
 lay-one-requires-2 c κs =
     let s = c .before .before .before .before .before .before .before in
     let one = c .before .before .before .before .lay-one .ensures in
     rw (c .before .has-stream .ensures) (omega (arith, s .pre, head-length (s .args .w) (s .args .p), length-given (streamed (s .args .w)) (s .args .p .identifier ∷ []), one .past, laid-length one))
 
--- src/laying.rt:71:1
 same-length : tie.Need-same-length
 same-length c = search needs
 
--- src/laying.rt:71:1
 returns : tie.Need-returns
 unfolding headWords
 returns c = then (c .before .before .before .before .before .before .before .lay-one .ensures) (rw (← c .before .before .before .before .has-stream .ensures) (c .before .before .lay-one2 .ensures))

@@ -5,30 +5,22 @@ use native.Mathlib.Omega.{arith}
 use borrow.Author.Needs.{needs}
 use Rattle.packet.proofs.laying.lay_one.Statement.{statement}
 use Rattle.packet.proofs.laying.lay_one.Tie as tie
-use Rattle.packet.proofs.laying.lay_one.Reads as reads
-use Rattle.packet.proofs.laying.lay_one.Lts as lts
 
--- src/laying.rt:51:9
 mul-out : tie.Need-mul-out
 mul-out c = search needs
 
--- src/laying.rt:51:9
 slice-write-out : tie.Need-slice-write-out
 slice-write-out c = let h = rw (c .if1 .taken) at (c .before .pre) in omega arith
 
--- src/laying.rt:52:16
 add-result : tie.Need-add-result
 add-result c = search needs
 
--- src/laying.rt:52:9
 same-length : tie.Need-same-length
 same-length c = search needs
 
--- src/laying.rt:52:9
 returns : tie.Need-returns
 returns c = rw (c .if1 .taken) (record { past = refl; kept = refl })
 
--- src/laying.rt:46:1
 returns-2 : tie.Need-returns-2
 returns-2 c = rw (c .if1 .left) (record { past = sym (add-zero _); kept = refl })
 

@@ -3,89 +3,64 @@ use Rattle.words.proofs.LaidLaws.{then, lend}
 use borrow.Author.Needs.{needs}
 use Rattle.packet.proofs.laying.lay_parts.Statement.{statement}
 use Rattle.packet.proofs.laying.lay_parts.Tie as tie
-use Rattle.packet.proofs.laying.lay_parts.Reads as reads
-use Rattle.packet.proofs.laying.lay_parts.Lts as lts
-use Rattle.packet.proofs.laying.lay_body.Reads as lay-body-reads
-use Rattle.packet.proofs.laying.lay_prologue.Reads as lay-prologue-reads
-use Rattle.packet.proofs.laying.lay_trailer.Reads as lay-trailer-reads
 
--- src/laying.rt:116:37
 mul-lay-prologue : tie.Need-mul-lay-prologue
 mul-lay-prologue c = search needs
 
--- src/laying.rt:116:37
 sub-lay-prologue : tie.Need-sub-lay-prologue
 sub-lay-prologue c = search needs
 
--- src/laying.rt:116:37
 part-lay-prologue-start : tie.Need-part-lay-prologue-start
 part-lay-prologue-start c = search needs
 
--- src/laying.rt:116:37
 part-lay-prologue-end : tie.Need-part-lay-prologue-end
 part-lay-prologue-end c = search needs
 
--- src/laying.rt:116:18
 lay-prologue-requires : tie.Need-lay-prologue-requires
 lay-prologue-requires c κs = search needs
 
--- src/laying.rt:116:13
 add-a : tie.Need-add-a
 add-a c = search needs
 
--- src/laying.rt:117:32
 mul-lay-body : tie.Need-mul-lay-body
 mul-lay-body c = search needs
 
--- src/laying.rt:117:32
 sub-lay-body : tie.Need-sub-lay-body
 sub-lay-body c = search needs
 
--- src/laying.rt:117:32
 part-lay-body-start : tie.Need-part-lay-body-start
 part-lay-body-start c = search needs
 
--- src/laying.rt:117:32
 part-lay-body-end : tie.Need-part-lay-body-end
 part-lay-body-end c = search needs
 
--- src/laying.rt:117:17
 lay-body-requires : tie.Need-lay-body-requires
 lay-body-requires c κs = search needs
 
--- src/laying.rt:117:13
 add-b : tie.Need-add-b
 add-b c = search needs
 
--- src/laying.rt:118:27
 mul-lay-trailer : tie.Need-mul-lay-trailer
 mul-lay-trailer c = search needs
 
--- src/laying.rt:118:27
 sub-lay-trailer : tie.Need-sub-lay-trailer
 sub-lay-trailer c = search needs
 
--- src/laying.rt:118:27
 part-lay-trailer-start : tie.Need-part-lay-trailer-start
 part-lay-trailer-start c = search needs
 
--- src/laying.rt:118:27
 part-lay-trailer-end : tie.Need-part-lay-trailer-end
 part-lay-trailer-end c = search needs
 
--- src/laying.rt:118:9
 lay-trailer-requires : tie.Need-lay-trailer-requires
 lay-trailer-requires c κs = search needs
 
--- src/laying.rt:118:5
 add-result : tie.Need-add-result
 add-result c = search needs
 
--- src/laying.rt:111:1
 same-length : tie.Need-same-length
 same-length c = search needs
 
--- src/laying.rt:111:1
 returns : tie.Need-returns
 returns c =
     let t = c .before .before in

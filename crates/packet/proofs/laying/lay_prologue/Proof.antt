@@ -6,18 +6,11 @@ use Rattle.packet.specs.Write.{prologueWords}
 use borrow.Author.Needs.{needs}
 use Rattle.packet.proofs.laying.lay_prologue.Statement.{statement}
 use Rattle.packet.proofs.laying.lay_prologue.Tie as tie
-use Rattle.packet.proofs.laying.lay_prologue.Reads as reads
-use Rattle.packet.proofs.laying.lay_prologue.Lts as lts
-use Rattle.packet.proofs.laying.lay_class.Reads as lay-class-reads
-use Rattle.packet.proofs.laying.lay_head.Reads as lay-head-reads
-use Rattle.packet.proofs.laying.lay_time.Reads as lay-time-reads
 
--- src/laying.rt:112:9
 lay-head-requires : tie.Need-lay-head-requires
 unfolding prologueWords
 lay-head-requires c κs = let h = simp length-append at (c .before .before .pre .1) in omega arith
 
--- src/laying.rt:113:9
 lay-class-requires : tie.Need-lay-class-requires
 unfolding prologueWords
 lay-class-requires c κs =
@@ -25,7 +18,6 @@ lay-class-requires c κs =
     let head = c .before .before .before .lay-head .ensures in
     (s .pre .0, omega (arith, simp length-append at (s .pre .1), head .past, laid-length head))
 
--- src/laying.rt:114:5
 lay-time-requires : tie.Need-lay-time-requires
 unfolding prologueWords
 lay-time-requires c κs =
@@ -33,11 +25,9 @@ lay-time-requires c κs =
     let both = then (c .before .before .before .before .before .before .before .lay-head .ensures) (c .before .before .before .lay-class .ensures) in
     omega (arith, simp length-append at (s .pre .1), simp length-append at (both .past), laid-length both)
 
--- src/laying.rt:108:1
 same-length : tie.Need-same-length
 same-length c = search needs
 
--- src/laying.rt:108:1
 returns : tie.Need-returns
 unfolding prologueWords
 returns c = then (then (c .before .before .before .before .before .before .before .before .before .before .lay-head .ensures) (c .before .before .before .before .before .before .lay-class .ensures)) (c .before .before .lay-time .ensures)

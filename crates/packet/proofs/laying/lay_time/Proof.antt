@@ -9,36 +9,24 @@ use Rattle.packet.proofs.LayLaws.{length-given, time-length}
 use borrow.Author.Needs.{needs}
 use Rattle.packet.proofs.laying.lay_time.Statement.{statement}
 use Rattle.packet.proofs.laying.lay_time.Tie as tie
-use Rattle.packet.proofs.laying.lay_time.Reads as reads
-use Rattle.packet.proofs.laying.lay_time.Lts as lts
-use Rattle.packet.proofs.header.has_fraction.Reads as has-fraction-reads
-use Rattle.packet.proofs.header.has_seconds.Reads as has-seconds-reads
-use Rattle.packet.proofs.laying.lay_one.Reads as lay-one-reads
-use Rattle.packet.proofs.laying.lay_two.Reads as lay-two-reads
 
--- src/laying.rt:101:16
 cast-high : tie.Need-cast-high
 cast-high c = search needs
 
--- src/laying.rt:102:15
 cast-low : tie.Need-cast-low
 cast-low c = search needs
 
--- src/laying.rt:103:21
 has-seconds-requires : tie.Need-has-seconds-requires
 has-seconds-requires c κs = search needs
 
--- src/laying.rt:103:9
 lay-one-requires : tie.Need-lay-one-requires
 lay-one-requires c κs =
     let s = c .before .before .before in
     rw (c .before .has-seconds .ensures) (omega (arith, s .pre, time-length (s .args .w) (s .args .p), length-given (hasSeconds (s .args .w)) (s .args .p .seconds ∷ [])))
 
--- src/laying.rt:104:13
 has-fraction-requires : tie.Need-has-fraction-requires
 has-fraction-requires c κs = search needs
 
--- src/laying.rt:104:5
 lay-two-requires : tie.Need-lay-two-requires
 lay-two-requires c κs =
     let s = c .before .before .before .before .before .before .before .before in
@@ -46,11 +34,9 @@ lay-two-requires c κs =
     rw (c .before .has-fraction .ensures)
     (omega (arith, s .pre, time-length (s .args .w) (s .args .p), length-given (hasSeconds (s .args .w)) (s .args .p .seconds ∷ []), length-given (hasFraction (s .args .w)) (s .args .p .fraction / 2 ^ 32 ∷ s .args .p .fraction % 2 ^ 32 ∷ []), one .past, laid-length one))
 
--- src/laying.rt:96:1
 same-length : tie.Need-same-length
 same-length c = search needs
 
--- src/laying.rt:96:1
 returns : tie.Need-returns
 unfolding timeWords
 returns c =

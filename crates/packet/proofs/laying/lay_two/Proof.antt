@@ -7,42 +7,31 @@ use lib.ListN.{length-set}
 use borrow.Author.Needs.{needs}
 use Rattle.packet.proofs.laying.lay_two.Statement.{statement}
 use Rattle.packet.proofs.laying.lay_two.Tie as tie
-use Rattle.packet.proofs.laying.lay_two.Reads as reads
-use Rattle.packet.proofs.laying.lay_two.Lts as lts
 
--- src/laying.rt:63:9
 mul-out : tie.Need-mul-out
 mul-out c = search needs
 
--- src/laying.rt:63:9
 slice-write-out : tie.Need-slice-write-out
 slice-write-out c = let h = rw (c .if1 .taken) at (c .before .pre) in omega arith
 
--- src/laying.rt:64:13
 add-out : tie.Need-add-out
 add-out c = search needs
 
--- src/laying.rt:64:9
 mul-out-2 : tie.Need-mul-out-2
 mul-out-2 c = search needs
 
--- src/laying.rt:64:9
 slice-write-out-2 : tie.Need-slice-write-out-2
 slice-write-out-2 c = let h = rw (c .if1 .taken) at (c .before .pre) in simp length-set (omega arith)
 
--- src/laying.rt:65:16
 add-result : tie.Need-add-result
 add-result c = search needs
 
--- src/laying.rt:65:9
 same-length : tie.Need-same-length
 same-length c = search needs
 
--- src/laying.rt:65:9
 returns : tie.Need-returns
 returns c = rw (c .if1 .taken) (record { past = refl; kept = rw add-one })
 
--- src/laying.rt:58:1
 returns-2 : tie.Need-returns-2
 returns-2 c = rw (c .if1 .left) (record { past = sym (add-zero _); kept = refl })
 

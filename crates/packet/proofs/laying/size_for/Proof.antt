@@ -6,38 +6,25 @@ use Rattle.packet.proofs.FitLaws.{parts-fit}
 use borrow.Author.Needs.{needs}
 use Rattle.packet.proofs.laying.size_for.Statement.{statement}
 use Rattle.packet.proofs.laying.size_for.Tie as tie
-use Rattle.packet.proofs.laying.size_for.Reads as reads
-use Rattle.packet.proofs.laying.size_for.Lts as lts
-use Rattle.packet.proofs.header.body_at.Reads as body-at-reads
-use Rattle.packet.proofs.header.has_trailer.Reads as has-trailer-reads
-use Rattle.packet.proofs.laying.header_word.Reads as header-word-reads
-use Rattle.words.proofs.inner.when_so.Reads as when-so-reads
 
--- src/laying.rt:41:9
 header-word-requires : tie.Need-header-word-requires
 header-word-requires c κs = omega (arith, c .pre .1, parts-fit _ (c .pre .0))
 
--- src/laying.rt:42:5
 body-at-requires : tie.Need-body-at-requires
 body-at-requires c κs = search needs
 
--- src/laying.rt:42:5
 add-result : tie.Need-add-result
 add-result c = search needs
 
--- src/laying.rt:42:59
 has-trailer-requires : tie.Need-has-trailer-requires
 has-trailer-requires c κs = search needs
 
--- src/laying.rt:42:37
 when-so-requires : tie.Need-when-so-requires
 when-so-requires c κs = search needs
 
--- src/laying.rt:42:5
 add-result-2 : tie.Need-add-result-2
 add-result-2 c = search needs
 
--- src/laying.rt:37:1
 returns : tie.Need-returns
 unfolding sizeFor
 returns c = (rw (c .when-so .ensures .0, c .before .has-trailer .ensures, c .before .before .body-at .ensures .0, c .before .before .before .header-word .ensures .0), omega (arith, c .before .before .body-at .ensures .0, body-past (c .before .before .before .header-word .result)))

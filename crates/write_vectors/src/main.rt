@@ -1,0 +1,203 @@
+// Runs the cases of standard input with `packet::write`, `packet::read` and `packet::trailer_word`, and writes what they answer and leave.
+// A case begins with a word that says what is asked: 1 to write, 2 to read, write again and read again, 3 to make a trailer word.
+use packet::Parsed;
+use packet::Parts;
+use packet::TrailerWord;
+use packet::Written;
+
+// The sum of the words, modulo 2^32.
+fn sum_of(words: &[u32]) -> u32 {
+    let mut sum: u32 = 0;
+    let mut i = 0;
+    while i < words.len() {
+        sum = std::num::wrapping_add_u32(sum, words[i]);
+        i += 1;
+    }
+    sum
+}
+
+// The line of a buffer: its words where they are few, and else their sum.
+fn show_buffer(words: &[u32]) {
+    if words.len() <= 300 {
+        wordio::inner::text(b"  words");
+        wordio::inner::list(words);
+    } else {
+        wordio::inner::text(b"  sum ");
+        wordio::inner::number(sum_of(words) as u64);
+    }
+    wordio::inner::text(b"\n");
+}
+
+// The line of what was answered; whether it was accepted.
+fn show_written(answer: Written) -> bool {
+    match answer {
+        Written::Accepted(n) => {
+            wordio::inner::named(b"wrote", n as u64);
+            wordio::inner::text(b"\n");
+            true
+        }
+        Written::Refused(n) => {
+            wordio::inner::named(b"refused", n as u64);
+            wordio::inner::text(b"\n");
+            false
+        }
+    }
+}
+
+// The parts of the next case.
+fn next_parts() -> Parts {
+    let kind = wordio::inner::word();
+    let classed = wordio::inner::word() != 0;
+    let trailed = wordio::inner::word() != 0;
+    let tsm = wordio::inner::word() != 0;
+    let tsi = wordio::inner::word();
+    let tsf = wordio::inner::word();
+    let count = wordio::inner::word();
+    let identifier = wordio::inner::word();
+    let oui = wordio::inner::word();
+    let information = wordio::inner::word();
+    let packet = wordio::inner::word();
+    let seconds = wordio::inner::word();
+    let high = wordio::inner::word();
+    let low = wordio::inner::word();
+    let trailer = wordio::inner::word();
+    Parts {
+        kind,
+        classed,
+        trailed,
+        tsm,
+        tsi,
+        tsf,
+        count,
+        identifier,
+        oui,
+        information,
+        packet,
+        seconds,
+        fraction: words::inner::high_first(high, low),
+        trailer,
+    }
+}
+
+// Writes some parts and a body at a place of a buffer, and shows the answer and the buffer; whether it was accepted.
+fn write(parts: Parts, body: &[u32], out: &mut [u32], at: usize) -> bool {
+    wordio::inner::pattern(out);
+    let written = show_written(packet::write(parts, body, out, at));
+    show_buffer(out);
+    written
+}
+
+// Shows the packet at a place of a buffer.
+fn show_again(words: &[u32], at: usize) {
+    if words.len() < at {
+        return;
+    }
+    let answer = packet::read(&words[at..]);
+    if let Parsed::Accepted(p) = answer {
+        wordio::inner::text(b" ");
+        packet_lines::inner::show(p);
+    }
+}
+
+// A case that writes.
+fn write_case(body: &mut [u32], out: &mut [u32]) {
+    let parts = next_parts();
+    let at = wordio::inner::word() as usize;
+    let room = wordio::inner::word() as usize;
+    let n = wordio::inner::word() as usize;
+    if body.len() < n {
+        return;
+    }
+    if out.len() < room {
+        return;
+    }
+    wordio::inner::fill(&mut body[0..n]);
+    write(parts, &body[0..n], &mut out[0..room], at);
+}
+
+// A packet that was read, written again at a place of a buffer and read again.
+fn write_again(answer: Parsed, words: &[u32], out: &mut [u32], at: usize) {
+    match answer {
+        Parsed::Refused(n) => {
+            wordio::inner::named(b"refused", n as u64);
+            wordio::inner::text(b"\n");
+        }
+        Parsed::Accepted(p) => {
+            let body = p.body;
+            let length = p.length;
+            if words.len() < body {
+                return;
+            }
+            if words.len() - body < length {
+                return;
+            }
+            let end = body + length;
+            if write(p.parts, &words[body..end], out, at) {
+                show_again(out, at);
+            }
+        }
+    }
+}
+
+// A case that reads, writes again and reads again.
+fn again_case(words: &mut [u32], out: &mut [u32]) {
+    let at = wordio::inner::word() as usize;
+    let room = wordio::inner::word() as usize;
+    let n = wordio::inner::word() as usize;
+    if words.len() < n {
+        return;
+    }
+    if out.len() < room {
+        return;
+    }
+    wordio::inner::fill(&mut words[0..n]);
+    let given = &words[0..n];
+    write_again(packet::read(given), given, &mut out[0..room], at);
+}
+
+// A case that makes a trailer word.
+fn trailer_case() {
+    let enables = wordio::inner::word();
+    let indicators = wordio::inner::word();
+    let e = wordio::inner::word();
+    let associated = wordio::inner::word();
+    let answer = packet::trailer_word(enables, indicators, e, associated);
+    match answer {
+        TrailerWord::Accepted(w) => wordio::inner::named(b"trailer", w as u64),
+        TrailerWord::Refused(n) => wordio::inner::named(b"refused", n as u64),
+    }
+    wordio::inner::text(b"\n");
+}
+
+// Runs case k; whether there was one.
+fn one_case(k: u64, words: &mut [u32], out: &mut [u32]) -> bool {
+    let next = wordio::inner::next_word();
+    let wordio::inner::Input::Word(op) = next else {
+        return false;
+    };
+    wordio::inner::number(k);
+    if op == 1 {
+        write_case(words, out);
+    } else if op == 2 {
+        again_case(words, out);
+    } else {
+        trailer_case();
+    }
+    true
+}
+
+// A packet has at most 65,535 words; a body may be longer by a little, to be refused.
+fn main() {
+    let mut body_space = [0u32; 65600];
+    let mut out_space = [0u32; 65600];
+    let words: &mut [u32] = &mut body_space;
+    let out: &mut [u32] = &mut out_space;
+    let mut k: u64 = 0;
+    while k < 0xFFFF_FFFF {
+        if one_case(k, words, out) {
+            k += 1;
+        } else {
+            return;
+        }
+    }
+}
