@@ -1,13 +1,13 @@
 -- What the checks of writing tell once they found nothing: each number fits its bits, and there is room.
-use mathlib.Core.Path.{_≡_, refl, sym, _∙_}
-use mathlib.Core.Bool.{Bool, true, false, not}
+use mathlib.Core.Path.{_≡_}
+use mathlib.Core.Bool.{true, false, not}
 use mathlib.Core.List.{List}
-use Prim.Native.Nat.{ℕ, _+_, _≤_, _<_, _^_}
+use Prim.Native.Nat.{ℕ, _+_, _≤_, _<_}
 use native.Mathlib.Omega.{arith}
 use borrow.Author.Tests.{ltb-true, ltb-false, not-false}
 use lib.Dec.{eqb, ltb}
 use lib.ListN.{length}
-use Rattle.words.specs.Tests.{pick, both}
+use Rattle.words.specs.Tests.{both}
 use Rattle.words.specs.Outcome.{accepted}
 use Rattle.words.proofs.Cases.{both-left, both-right, passed, after-passed}
 use Rattle.packet.specs.declared.Parts.{Parts}

@@ -1,23 +1,22 @@
 -- The header of a packet to be written, read again. The idea: the header is the join of its fields, so splitting it gives them back (`split-join`),
--- and a part by the numbers of its bits is one of these fields (`split-at`). So what is there of a packet does not hang on its size.
+-- and a part by the numbers of its bits is one of these fields (`split-from`). So what is there of a packet does not hang on its size.
 use mathlib.Core.Path.{_≡_, refl, sym, ap, _∙_}
 use mathlib.Core.Bool.{Bool, true, false, not}
 use mathlib.Core.List.{List, [], _∷_}
-use Prim.Native.Nat.{ℕ, zero, suc, _+_, _*_, _/_, _%_, _^_, _≤_, _<_}
+use Prim.Native.Nat.{ℕ, _+_, _*_, _/_, _%_, _^_, _<_}
 use native.Mathlib.Omega.{arith}
-use borrow.Author.Tests.{lt-ltb, le-ltb}
 use lib.Dec.{eqb, ltb, lit<}
-use lib.ListN.{length, getD, take}
+use lib.ListN.{getD}
 use lib.Pow.{mod-pow-add, shr-shr}
 use Rattle.words.specs.Tests.{pick, when}
-use Rattle.words.specs.Word.{has, join, split, total}
+use Rattle.words.specs.Word.{has, join, split}
 use Rattle.words.proofs.Cases.{true-is-false}
-use Rattle.words.proofs.WordLaws.{split-join, split-at}
+use Rattle.words.proofs.WordLaws.{fieldsFrom, split-join, split-from}
 use Rattle.packet.specs.declared.Parts.{Parts}
 use Rattle.packet.specs.Header.{typeOf, classed, trailed, tsmOf, reservedOf, tsiOf, tsfOf, countOf, sizeOf}
 use Rattle.packet.specs.Parts.{streamed, hasSeconds, hasFraction, classAt, secondsAt, fractionAt, bodyAt}
-use Rattle.packet.specs.Write.{bit, headerWidths, headerWord, sizeFor, flagsFit, partsFit}
-use Rattle.packet.proofs.FitLaws.{Fits, parts-fit}
+use Rattle.packet.specs.Write.{bit, headerWidths, headerWord, sizeFor, flagsFit}
+use Rattle.packet.proofs.FitLaws.{Fits}
 
 -- ---- bits
 
@@ -30,7 +29,7 @@ bit-set true = refl
 bit-set false = refl
 
 -- two bits beside each other
-two-bits : (w k : ℕ) → w / 2 ^ k % 4 ≡ w / 2 ^ (k + 1) % 2 * 2 + w / 2 ^ k % 2
+pub two-bits : (w k : ℕ) → w / 2 ^ k % 4 ≡ w / 2 ^ (k + 1) % 2 * 2 + w / 2 ^ k % 2
 two-bits w k = mod-pow-add (w / 2 ^ k) 1 1 ∙ ap (λ (n : ℕ). n % 2 * 2 + w / 2 ^ k % 2) (shr-shr w k 1)
 
 -- T and TSM are those of the type
@@ -66,36 +65,33 @@ module _ (p : Parts) (size : ℕ) (kind : p .kind < 6) (fits : Fits p) (small : 
       split-join headerWidths values
       (small, (fits .count, (fits .tsf, (fits .tsi, (bit-small (p .tsm), (lit< tt, (bit-small (p .trailed), (bit-small (p .classed), (omega arith, tt)))))))))
 
-  header-field : (i : ℕ) → i < 9 → W / 2 ^ total (take i headerWidths) % 2 ^ getD headerWidths i 0 ≡ getD values i 0
-  header-field i h = sym (split-at headerWidths W i h) ∙ ap (λ (l : List ℕ). getD l i 0) header-fields
+  -- the same by the numbers of its bits
+  header-bits : fieldsFrom 0 headerWidths W ≡ values
+  header-bits = sym (split-from headerWidths W) ∙ header-fields
+
+  header-field : (i : ℕ) → getD (fieldsFrom 0 headerWidths W) i 0 ≡ getD values i 0
+  header-field i = ap (λ (l : List ℕ). getD l i 0) header-bits
 
   pub type-is : typeOf W ≡ p .kind
-  unfolding total
-  type-is = header-field 8 (lit< tt)
+  type-is = header-field 8
 
   pub classed-is : classed W ≡ p .classed
-  unfolding total
-  classed-is = ap (λ (n : ℕ). eqb n 1) (header-field 7 (lit< tt)) ∙ bit-set (p .classed)
+  classed-is = ap (λ (n : ℕ). eqb n 1) (header-field 7) ∙ bit-set (p .classed)
 
   pub tsi-is : tsiOf W ≡ p .tsi
-  unfolding total
-  tsi-is = header-field 3 (lit< tt)
+  tsi-is = header-field 3
 
   pub tsf-is : tsfOf W ≡ p .tsf
-  unfolding total
-  tsf-is = header-field 2 (lit< tt)
+  tsf-is = header-field 2
 
   pub count-is : countOf W ≡ p .count
-  unfolding total
-  count-is = header-field 1 (lit< tt)
+  count-is = header-field 1
 
   high-bit : has W 26 ≡ p .trailed
-  unfolding total
-  high-bit = ap (λ (n : ℕ). eqb n 1) (header-field 6 (lit< tt)) ∙ bit-set (p .trailed)
+  high-bit = ap (λ (n : ℕ). eqb n 1) (header-field 6) ∙ bit-set (p .trailed)
 
   low-bit : has W 24 ≡ p .tsm
-  unfolding total
-  low-bit = ap (λ (n : ℕ). eqb n 1) (header-field 4 (lit< tt)) ∙ bit-set (p .tsm)
+  low-bit = ap (λ (n : ℕ). eqb n 1) (header-field 4) ∙ bit-set (p .tsm)
 
   by-type : (pick (ltb (p .kind) 4) (p .trailed) false ≡ p .trailed) × (pick (ltb (p .kind) 4) false (p .tsm) ≡ p .tsm) × (pick (ltb (p .kind) 4) (p .tsm) (p .trailed) ≡ false)
   unfolding flagsFit
@@ -115,9 +111,9 @@ module _ (p : Parts) (size : ℕ) (kind : p .kind < 6) (fits : Fits p) (small : 
 
   -- bits 25-24 of types 0 to 3, 26-25 of types 4 and 5
   pub reserved-is : reservedOf W ≡ 0
-  unfolding reservedOf total
+  unfolding reservedOf
   reserved-is =
-      rw (type-is, two-bits W 24, two-bits W 25, header-field 5 (lit< tt), header-field 4 (lit< tt), header-field 6 (lit< tt))
+      rw (type-is, two-bits W 24, two-bits W 25, header-field 5, header-field 4, header-field 6)
       (reserved-clear (ltb (p .kind) 4) (p .tsm) (p .trailed) (by-type .2))
 
 -- ---- what is there of a packet does not hang on its size

@@ -9,7 +9,7 @@ use borrow.Author.Tests.{ltb-true}
 use lib.Dec.{ltb}
 use lib.ListN.{length, take, drop, length-append}
 use lib.Seq.{sets, sets-eq}
-use Rattle.words.specs.Tests.{when, both}
+use Rattle.words.specs.Tests.{when}
 use Rattle.words.specs.Word.{join}
 use Rattle.words.specs.Laid.{Laid}
 use Rattle.words.proofs.Cases.{both-left, both-right}

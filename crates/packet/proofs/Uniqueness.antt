@@ -2,14 +2,20 @@
 use mathlib.Core.Path.{_≡_, refl, sym, _∙_}
 use mathlib.Core.List.{List}
 use Prim.Native.Nat.{ℕ}
-use Rattle.words.specs.Outcome.{Outcome, refused, accepted}
-use Rattle.words.proofs.Once.{once}
+use Rattle.words.specs.Outcome.{Outcome, refused, accepted, Meets}
+use Rattle.words.proofs.Once.{once, meets-once}
 use Rattle.packet.specs.declared.Packet.{Packet}
 use Rattle.packet.specs.declared.Parsed.{Parsed}
 use Rattle.packet.specs.declared.Parsed.the-variants.{Accepted, Refused}
+use Rattle.packet.specs.declared.Parts.{Parts}
 use Rattle.packet.specs.declared.Trailer.{Trailer}
+use Rattle.packet.specs.declared.TrailerWord.{TrailerWord}
+use Rattle.packet.specs.declared.TrailerWord.the-variants as TrailerV
+use Rattle.packet.specs.declared.Written.{Written}
+use Rattle.packet.specs.declared.Written.the-variants as WrittenV
 use Rattle.packet.specs.Read.{paper, readOf}
-use Rattle.packet.specs.Trailer.{trailerOf}
+use Rattle.packet.specs.Trailer.{trailerOf, trailerWordOf, trailerPaper}
+use Rattle.packet.specs.Write.{writeOf, writtenPaper}
 
 parsedBack : Outcome Packet → Parsed
 parsedBack (refused n) = Refused n
@@ -23,5 +29,31 @@ parsed-back (Accepted p) = refl
 pub read-once : (ws : List ℕ) {a b : Parsed} → paper a ≡ readOf ws → paper b ≡ readOf ws → a ≡ b
 read-once ws = once paper parsedBack parsed-back
 
+writtenBack : Outcome ℕ → Written
+writtenBack (refused n) = WrittenV.Refused n
+writtenBack (accepted n) = WrittenV.Accepted n
+
+written-back : (a : Written) → writtenBack (writtenPaper a) ≡ a
+unfolding writtenBack
+written-back (WrittenV.Refused n) = refl
+written-back (WrittenV.Accepted n) = refl
+
+pub write-once : (p : Parts) (body out after after′ : List ℕ) (at : ℕ) (a b : Written) → Meets writtenPaper (writeOf p body out at) out a after
+    → Meets writtenPaper (writeOf p body out at) out b after′ → (a ≡ b) × (after ≡ after′)
+write-once p body out after after′ at a b = meets-once writtenPaper writtenBack written-back
+
 pub trailer-parts-once : (word : ℕ) {a b : Trailer} → a ≡ trailerOf word → b ≡ trailerOf word → a ≡ b
 trailer-parts-once word p q = p ∙ sym q
+
+trailerBack : Outcome ℕ → TrailerWord
+trailerBack (refused n) = TrailerV.Refused n
+trailerBack (accepted w) = TrailerV.Accepted w
+
+trailer-back : (a : TrailerWord) → trailerBack (trailerPaper a) ≡ a
+unfolding trailerBack
+trailer-back (TrailerV.Refused n) = refl
+trailer-back (TrailerV.Accepted w) = refl
+
+pub trailer-word-once : (enables indicators e associated : ℕ) {a b : TrailerWord} → trailerPaper a ≡ trailerWordOf enables indicators e associated
+    → trailerPaper b ≡ trailerWordOf enables indicators e associated → a ≡ b
+trailer-word-once enables indicators e associated = once trailerPaper trailerBack trailer-back

@@ -67,6 +67,25 @@ packetWords p body =
     let w = headerWord p (sizeFor p (length body)) in
     prologueWords w p ++ body ++ trailerWords w p
 
+-- "absent parts are ignored and read back as zero": the parts as they are read back, under the header word w
+unfoldable pub plainParts : ℕ → Parts → Parts
+plainParts w p = record {
+  kind = p .kind;
+  classed = p .classed;
+  trailed = p .trailed;
+  tsm = p .tsm;
+  tsi = p .tsi;
+  tsf = p .tsf;
+  count = p .count;
+  identifier = when (streamed w) (p .identifier);
+  oui = when (classed w) (p .oui);
+  information = when (classed w) (p .information);
+  packet = when (classed w) (p .packet);
+  seconds = when (hasSeconds w) (p .seconds);
+  fraction = when (hasFraction w) (p .fraction);
+  trailer = when (trailed w) (p .trailer);
+}
+
 -- ---- VALUE: "a number to be written .. does not fit its bits or type"; "absent parts are ignored"
 
 -- TSI and TSF have two bits, the count four

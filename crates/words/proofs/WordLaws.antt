@@ -1,12 +1,11 @@
--- A word and its fields, once over any widths: joined and split again, split and joined again, and a field read by the numbers of its bits.
+-- A word and its fields, once over any widths: joined and split again, split and joined again, and the fields by the numbers of their bits.
 use mathlib.Core.Path.{_≡_, refl, sym, ap, _∙_}
 use mathlib.Core.List.{List, [], _∷_}
-use Prim.Native.Nat.{ℕ, zero, suc, _+_, _*_, _/_, _%_, _^_, _<_}
-use native.Mathlib.Nat.{mul-comm, add-comm, not-suc-le-zero, le-of-suc-le-suc, div-one}
+use Prim.Native.Nat.{ℕ, _+_, _*_, _/_, _%_, _^_, _<_}
+use native.Mathlib.Nat.{mul-comm, add-comm, div-one}
 use lib.Arith.{lt-one}
 use lib.Pow.{shr-lt, shr-shr, high, low}
 use lib.Pow as Pow
-use lib.ListN.{length, getD, take}
 use Rattle.words.specs.Word.{join, split, total, Within}
 
 pub join-split : (ws : List ℕ) (n : ℕ) → n < 2 ^ total ws → join ws (split ws n) ≡ n
@@ -27,11 +26,15 @@ split-join (w ∷ ws) (f ∷ fs) h =
     let e : f + 2 ^ w * join ws fs ≡ join ws fs * 2 ^ w + f = add-comm f (2 ^ w * join ws fs) ∙ ap (λ (k : ℕ). k + f) (mul-comm (2 ^ w) (join ws fs)) in
     rw (e, low (join ws fs) w (h .0), high (join ws fs) w (h .0)) (ap (λ (l : List ℕ). f ∷ l) (split-join ws fs (h .1)))
 
--- field i stands above the widths before it
-pub split-at : (ws : List ℕ) (n i : ℕ) → i < length ws → getD (split ws n) i 0 ≡ n / 2 ^ total (take i ws) % 2 ^ getD ws i 0
-unfolding split total
-split-at [] n i h = absurd (not-suc-le-zero h)
-split-at (w ∷ ws) n zero h = rw (div-one n)
-split-at (w ∷ ws) n (suc i) h =
-    split-at ws (n / 2 ^ w) i (le-of-suc-le-suc h)
-    ∙ ap (λ (k : ℕ). k % 2 ^ getD ws i 0) (shr-shr n w (total (take i ws)))
+-- the fields by the numbers of their bits, the first from bit k on
+abbrev pub fieldsFrom : ℕ → List ℕ → ℕ → List ℕ
+fieldsFrom k [] n = []
+fieldsFrom k (w ∷ ws) n = n / 2 ^ k % 2 ^ w ∷ fieldsFrom (k + w) ws n
+
+pub split-fields : (ws : List ℕ) (n k : ℕ) → split ws (n / 2 ^ k) ≡ fieldsFrom k ws n
+unfolding split
+split-fields [] n k = refl
+split-fields (w ∷ ws) n k = ap (λ (l : List ℕ). n / 2 ^ k % 2 ^ w ∷ l) (ap (split ws) (shr-shr n k w) ∙ split-fields ws n (k + w))
+
+pub split-from : (ws : List ℕ) (n : ℕ) → split ws n ≡ fieldsFrom 0 ws n
+split-from ws n = ap (split ws) (sym (div-one n)) ∙ split-fields ws n 0

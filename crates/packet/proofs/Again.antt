@@ -1,0 +1,247 @@
+-- Demand 2: "An accepted packet written again gives the same words." The idea: the header that reading took apart joins to itself, each part stands
+-- where reading found it, so the pieces of the packet written again are the first words of what was read, one after the other (`one-more`,
+-- `two-more`). The words are those of 32-bit slices, below 2 ^ 32.
+use mathlib.Core.Path.{_≡_, refl, sym, ap, _∙_}
+use mathlib.Core.Bool.{Bool, true, false, not}
+use mathlib.Core.List.{List, [], _∷_, _++_, append-nil, append-assoc}
+use Prim.Native.Nat.{ℕ, zero, suc, _+_, _-_, _*_, _/_, _%_, _^_, _≤_, _<_}
+use native.Mathlib.Nat.{add-zero, mod-lt, div-one, le-refl}
+use native.Mathlib.Numerals.{add-one}
+use native.Mathlib.Omega.{arith}
+use borrow.Author.Tests.{eqb-true, not-false, ltb-false, lt-ltb, le-ltb, ne-eqb}
+use lib.Dec.{eqb, ltb, lit<}
+use lib.ListN.{length, getD, take, drop}
+use lib.Seq.{take-suc, take-add, append-snoc}
+use Rattle.words.specs.Tests.{pick, when, both}
+use Rattle.words.specs.Word.{bits, has, highFirst, join, total}
+use Rattle.words.specs.Part.{part}
+use Rattle.words.specs.Outcome.{accepted}
+use Rattle.words.proofs.Cases.{passed}
+use Rattle.words.proofs.PartLaws.{part-length}
+use Rattle.words.proofs.WordLaws.{fieldsFrom, join-split, split-from}
+use Rattle.packet.specs.declared.Parts.{Parts}
+use Rattle.packet.specs.declared.Packet.{Packet}
+use Rattle.packet.specs.Header.{typeOf, classed, trailed, tsmOf, reservedOf, tsiOf, tsfOf, countOf, sizeOf}
+use Rattle.packet.specs.Parts.{streamed, hasSeconds, hasFraction, classAt, secondsAt, fractionAt, bodyAt, requiredOf, bodyLength, wordIf, classHigh, classLow, fractionOf, partsOf, bodyOf, packetOf}
+use Rattle.packet.specs.Read.{headerChecks, timeOver, prologueChecks, bodyChecks, readOf}
+use Rattle.packet.specs.Write.{bit, headerWidths, headerWord, sizeFor, given, classWord, headWords, classWords, timeWords, prologueWords, trailerWords, packetWords, codesFit, flagsFit, classFits, partsFit, partsChecks, measureChecks, roomChecks, writeChecks, writeOf}
+use Rattle.packet.proofs.RoomLaws.{Room, room}
+use Rattle.packet.proofs.ReadLaws.{Passed, sized, read-accepts}
+use Rattle.packet.proofs.FitLaws.{parts-fit}
+use Rattle.packet.proofs.HeaderLaws.{two-bits, size-for-is}
+
+-- ---- the header
+
+bit-again : (n : ℕ) → n < 2 → bit (eqb n 1) ≡ n
+bit-again zero h = refl
+bit-again (suc zero) h = refl
+bit-again (suc (suc n)) h = absurd (omega arith)
+
+-- T and TSM by the type, where the reserved bits are clear
+flags-again : (young : Bool) (high middle low : ℕ) → high < 2 → low < 2 → pick young (middle * 2 + low) (high * 2 + middle) ≡ 0
+    → (bit (pick young false (eqb low 1)) ≡ low) × (0 ≡ middle) × (bit (pick young (eqb high 1) false) ≡ high)
+flags-again true high middle low h l e = (omega arith, omega arith, bit-again high h)
+flags-again false high middle low h l e = (bit-again low l, omega arith, omega arith)
+
+pub header-passed : (w : ℕ) → headerChecks w ≡ accepted tt → (typeOf w ≤ 5) × (reservedOf w ≡ 0)
+unfolding headerChecks
+header-passed w e =
+    let t = passed (ltb 5 (typeOf w)) _ _ tt e in
+    let b = passed (not (eqb (reservedOf w) 0)) _ _ tt (t .1) in
+    (ltb-false 5 (typeOf w) (t .0), eqb-true (reservedOf w) 0 (not-false _ (b .0)))
+
+pub header-again : (w : ℕ) (ws : List ℕ) → w < 2 ^ 32 → reservedOf w ≡ 0 → headerWord (partsOf w ws) (sizeOf w) ≡ w
+unfolding headerWord partsOf reservedOf trailed tsmOf total
+header-again w ws h e =
+    let f = flags-again (ltb (typeOf w) 4) (w / 2 ^ 26 % 2) (w / 2 ^ 25 % 2) (w / 2 ^ 24 % 2) (mod-lt _ (lit< tt)) (mod-lt _ (lit< tt)) (rw (two-bits w 24, two-bits w 25) at e) in
+    let c : bit (classed w) ≡ w / 2 ^ 27 % 2 = bit-again (w / 2 ^ 27 % 2) (mod-lt _ (lit< tt)) in
+    let size : sizeOf w ≡ w / 2 ^ 0 % 2 ^ 16 = rw (div-one w) in
+    let same : sizeOf w ∷ countOf w ∷ tsfOf w ∷ tsiOf w ∷ bit (tsmOf w) ∷ 0 ∷ bit (trailed w) ∷ bit (classed w) ∷ typeOf w ∷ [] ≡ fieldsFrom 0 headerWidths w =
+    cc (size, f .0, f .1, f .2, c) in
+    ap (join headerWidths) (same ∙ sym (split-from headerWidths w)) ∙ join-split headerWidths w h
+
+-- ---- one part more
+
+one-more : (ws : List ℕ) (n : ℕ) (t : Bool) → n + when t 1 ≤ length ws → take n ws ++ given t (wordIf t n ws ∷ []) ≡ take (n + when t 1) ws
+unfolding wordIf
+one-more ws n true h = rw add-one (sym (take-suc ws n 0 (omega arith)))
+one-more ws n false h = append-nil (take n ws) ∙ ap (λ (k : ℕ). take k ws) (sym (add-zero n))
+
+two-more : (ws : List ℕ) (n : ℕ) (t : Bool) → n + when t 2 ≤ length ws
+    → take n ws ++ given t (wordIf t n ws ∷ wordIf t (n + 1) ws ∷ []) ≡ take (n + when t 2) ws
+unfolding wordIf
+two-more ws n true h =
+    sym (append-snoc (take n ws) (getD ws n 0) (getD ws (n + 1) 0 ∷ []))
+    ∙ ap (λ (l : List ℕ). l ++ (getD ws (n + 1) 0 ∷ [])) (one-more ws n true (omega arith))
+    ∙ one-more ws (n + 1) true (omega arith)
+    ∙ ap (λ (k : ℕ). take k ws) {x = n + 1 + 1} {y = n + 2} (omega arith)
+two-more ws n false h = append-nil (take n ws) ∙ ap (λ (k : ℕ). take k ws) (sym (add-zero n))
+
+-- the trailer is the last word of the size
+last-more : (ws : List ℕ) (n size : ℕ) (t : Bool) → n + when t 1 ≡ size → size ≤ length ws → take n ws ++ given t (wordIf t (size - 1) ws ∷ []) ≡ take size ws
+last-more ws n size true e h =
+    let k : size - 1 ≡ n = omega arith in
+    rw k (one-more ws n true (omega arith)) ∙ ap (λ (m : ℕ). take m ws) e
+last-more ws n size false e h = append-nil (take n ws) ∙ ap (λ (m : ℕ). take m ws) {x = n} {y = size} (omega arith)
+
+first-word : (ws : List ℕ) → 0 < length ws → getD ws 0 0 ∷ [] ≡ take 1 ws
+first-word [] h = absurd (omega arith)
+first-word (x ∷ ws) h = refl
+
+-- ---- words that were taken apart, put together
+
+word-small : (t : Bool) (at : ℕ) (ws : List ℕ) → ((i : ℕ) → getD ws i 0 < 2 ^ 32) → wordIf t at ws < 2 ^ 32
+unfolding wordIf
+word-small true at ws h = h at
+word-small false at ws h = lit< tt
+
+class-again : (high low : ℕ) → high < 2 ^ 32 → low < 2 ^ 32 → bits 31 24 high ≡ 0 → (bits 23 0 high ≡ high) × (classWord (bits 31 16 low) (bits 15 0 low) ≡ low)
+unfolding classWord join
+class-again high low h l e = (omega arith, omega arith)
+
+fraction-again : (high low : ℕ) → low < 2 ^ 32 → (highFirst high low / 2 ^ 32 ≡ high) × (highFirst high low % 2 ^ 32 ≡ low)
+fraction-again high low l = (omega arith, omega arith)
+
+-- ---- parts that were read fit their bits
+
+flags-read : (young t m : Bool) → pick young (not (pick young false m)) (not (pick young t false)) ≡ true
+flags-read true t m = refl
+flags-read false t m = refl
+
+class-read : (t : Bool) (high low : ℕ) → classFits t (bits 23 0 high) (bits 31 16 low) (bits 15 0 low) ≡ true
+unfolding classFits
+class-read true high low = rw (lt-ltb (bits 23 0 high) (2 ^ 24) (mod-lt _ (lit< tt)), lt-ltb (bits 31 16 low) (2 ^ 16) (mod-lt _ (lit< tt)), lt-ltb (bits 15 0 low) (2 ^ 16) (mod-lt _ (lit< tt)))
+class-read false high low = refl
+
+pub parts-read : (w : ℕ) (ws : List ℕ) → partsFit (partsOf w ws) ≡ true
+unfolding partsFit partsOf codesFit flagsFit trailed tsmOf
+parts-read w ws =
+    rw (lt-ltb (tsiOf w) 4 (mod-lt _ (lit< tt)), lt-ltb (tsfOf w) 4 (mod-lt _ (lit< tt)), lt-ltb (countOf w) 16 (mod-lt _ (lit< tt)), flags-read (ltb (typeOf w) 4) (has w 26) (has w 24))
+    (class-read (classed w) (classHigh w ws) (classLow w ws))
+
+-- a type 4 packet that was read has its indicator word
+indicator-read : (t : Bool) (n : ℕ) → when t 1 ≤ n → both t (eqb n 0) ≡ false
+indicator-read true n h = ne-eqb n 0 (omega arith)
+indicator-read false n h = refl
+
+-- ---- the words of an accepted packet, written again
+module _ (ws : List ℕ) (small : (i : ℕ) → getD ws i 0 < 2 ^ 32) (p : Packet) (e : readOf ws ≡ accepted p) where
+  abbrev w : ℕ
+  w = getD ws 0 0
+
+  abbrev P : Parts
+  P = partsOf w ws
+
+  passes : Passed w ws
+  passes = read-accepts ws p e .passes
+
+  inside : sizeOf w ≤ length ws
+  inside = sized w (length ws) (passes .size) .1
+
+  lies : Room w (length ws)
+  lies = room w (length ws) (sized w (length ws) (passes .size) .0) inside
+
+  fills : Room w (sizeOf w)
+  fills = room w (sizeOf w) (sized w (length ws) (passes .size) .0) (le-refl (sizeOf w))
+
+  class-clear : bits 31 24 (classHigh w ws) ≡ 0
+  unfolding prologueChecks
+  class-clear = eqb-true _ 0 (not-false _ (passed (not (eqb (bits 31 24 (classHigh w ws)) 0)) _ _ tt (passes .prologue) .0))
+
+  head-again : headWords w P ≡ take (classAt w) ws
+  unfolding headWords partsOf classAt
+  head-again = ap (λ (l : List ℕ). l ++ given (streamed w) (wordIf (streamed w) 1 ws ∷ [])) (first-word ws (read-accepts ws p e .some)) ∙ one-more ws 1 (streamed w) (lies .identifier)
+
+  class-words-again : take (classAt w) ws ++ classWords w P ≡ take (secondsAt w) ws
+  unfolding classWords partsOf secondsAt classHigh classLow
+  class-words-again =
+      let c = class-again (classHigh w ws) (classLow w ws) (word-small (classed w) (classAt w) ws small) (word-small (classed w) (classAt w + 1) ws small) class-clear in
+      rw (c .0, c .1) (two-more ws (classAt w) (classed w) (lies .class))
+
+  time-words-again : take (secondsAt w) ws ++ timeWords w P ≡ take (bodyAt w) ws
+  unfolding timeWords partsOf fractionAt bodyAt fractionOf
+  time-words-again =
+      let high = wordIf (hasFraction w) (fractionAt w) ws in
+      let low = wordIf (hasFraction w) (fractionAt w + 1) ws in
+      let f = fraction-again high low (word-small (hasFraction w) (fractionAt w + 1) ws small) in
+      rw (f .0, f .1)
+      (sym (append-assoc (take (secondsAt w) ws) (given (hasSeconds w) (wordIf (hasSeconds w) (secondsAt w) ws ∷ [])) (given (hasFraction w) (high ∷ low ∷ [])))
+      ∙ ap (λ (l : List ℕ). l ++ given (hasFraction w) (high ∷ low ∷ [])) (one-more ws (secondsAt w) (hasSeconds w) (lies .seconds))
+      ∙ two-more ws (fractionAt w) (hasFraction w) (lies .fraction))
+
+  prologue-again : prologueWords w P ≡ take (bodyAt w) ws
+  unfolding prologueWords
+  prologue-again =
+      ap (λ (l : List ℕ). l ++ classWords w P ++ timeWords w P) head-again
+      ∙ ap (λ (l : List ℕ). l ++ timeWords w P) class-words-again
+      ∙ time-words-again
+
+  rest-again : take (bodyAt w) ws ++ bodyOf w ws ++ trailerWords w P ≡ take (sizeOf w) ws
+  unfolding bodyOf part trailerWords partsOf bodyLength
+  rest-again =
+      ap (λ (l : List ℕ). l ++ trailerWords w P) (sym (take-add (bodyAt w) (bodyLength w) ws))
+      ∙ last-more ws (bodyAt w + bodyLength w) (sizeOf w) (trailed w) (omega (arith, fills .around)) inside
+
+  header-is : headerWord P (sizeOf w) ≡ w
+  header-is = header-again w ws (small 0) (header-passed w (passes .header) .1)
+
+  kind-small : P .kind < 6
+  unfolding partsOf
+  kind-small = omega (arith, header-passed w (passes .header) .0)
+
+  size-small : sizeOf w < 65536
+  size-small = mod-lt w (lit< tt)
+
+  body-length : length (bodyOf w ws) ≡ bodyLength w
+  unfolding bodyOf
+  body-length = part-length (bodyAt w) (bodyLength w) ws (lies .body)
+
+  size-again : sizeFor P (length (bodyOf w ws)) ≡ sizeOf w
+  unfolding bodyLength
+  size-again =
+      size-for-is P (sizeOf w) kind-small (parts-fit P (parts-read w ws)) size-small (length (bodyOf w ws))
+      ∙ rw (header-is, body-length) (omega (arith, fills .around))
+
+  -- the packet's words, written again, are those that were read
+  pub packet-again : packetWords (p .parts) (part (p .body) (p .length) ws) ≡ take (p .size) ws
+  unfolding packetWords packetOf bodyOf
+  packet-again =
+      rw (← read-accepts ws p e .says)
+      (ap (λ (h : ℕ). prologueWords h P ++ bodyOf w ws ++ trailerWords h P) (ap (headerWord P) size-again ∙ header-is)
+      ∙ ap (λ (l : List ℕ). l ++ bodyOf w ws ++ trailerWords w P) prologue-again
+      ∙ rest-again)
+
+  time-passed : timeOver (tsfOf w) (fractionOf w ws) ≡ false
+  unfolding prologueChecks
+  time-passed = passed (timeOver (tsfOf w) (fractionOf w ws)) _ _ tt (passed (not (eqb (bits 31 24 (classHigh w ws)) 0)) _ _ tt (passes .prologue) .1) .0
+
+  has-indicator : when (eqb (typeOf w) 4) 1 ≤ length (bodyOf w ws)
+  unfolding requiredOf bodyLength
+  has-indicator = omega (arith, body-length, sized w (length ws) (passes .size) .0)
+
+  -- nothing refuses it, where there is room
+  parts-again : partsChecks P ≡ accepted tt
+  unfolding partsChecks
+  parts-again = rw (le-ltb 5 (P .kind) (omega (arith, kind-small)), parts-read w ws)
+
+  measure-again : measureChecks P (length (bodyOf w ws)) ≡ accepted tt
+  unfolding measureChecks partsOf
+  measure-again =
+      rw (indicator-read (eqb (typeOf w) 4) (length (bodyOf w ws)) has-indicator, size-again, le-ltb 65535 (sizeOf w) (omega (arith, size-small)), time-passed)
+
+  body-again : bodyChecks (P .kind) (bodyOf w ws) ≡ accepted tt
+  unfolding partsOf
+  body-again = passes .body
+
+  may-again : (room at : ℕ) → at + sizeOf w ≤ room → writeChecks P (bodyOf w ws) room at ≡ accepted tt
+  unfolding writeChecks roomChecks
+  may-again room at h = rw (parts-again, measure-again, body-again, size-again, le-ltb room (at + sizeOf w) h)
+
+  -- written again anywhere where there is room, it gives its words
+  pub written-again : (out : List ℕ) (at : ℕ) → at + p .size ≤ length out
+      → writeOf (p .parts) (part (p .body) (p .length) ws) out at ≡ accepted (record { says = p .size; leaves = take at out ++ take (p .size) ws ++ drop (at + p .size) out })
+  unfolding writeOf packetOf bodyOf
+  written-again out at h =
+      let says = read-accepts ws p e .says in
+      let words = rw (← says) at packet-again in
+      rw (← says) (rw (may-again (length out) at (rw (← says) at h), size-again, words))

@@ -1,0 +1,220 @@
+-- What was written reads back as the same parts and body, absent parts zero. The idea: the header that was written says the same again
+-- (HeaderLaws), so each part is looked for where it was laid (`found-one`, `found-two`), whatever words follow the packet.
+use mathlib.Core.Path.{_≡_, refl, sym, ap, _∙_}
+use mathlib.Core.Bool.{Bool, true, false}
+use mathlib.Core.List.{List, [], _∷_, _++_, append-assoc}
+use Prim.Native.Nat.{ℕ, zero, suc, _+_, _-_, _/_, _%_, _^_, _≤_, _<_, zero-le}
+use native.Mathlib.Omega.{arith}
+use borrow.Author.Tests.{ltb-true, le-ltb}
+use lib.Dec.{eqb, ltb}
+use lib.ListN.{length, getD, take, drop, length-append}
+use lib.Seq.{getD-at, drop-at, take-at, length-take-le}
+use Rattle.words.specs.Tests.{when, both}
+use Rattle.words.specs.Word.{bits, highFirst, join}
+use Rattle.words.specs.Part.{part}
+use Rattle.words.specs.Outcome.{accepted, Done}
+use Rattle.words.proofs.Cases.{true-is-false, both-left, both-right, both-no, after-passed, accepted-same}
+use Rattle.packet.specs.declared.Parts.{Parts}
+use Rattle.packet.specs.Header.{classed, trailed, sizeOf}
+use Rattle.packet.specs.Parts.{streamed, hasSeconds, hasFraction, classAt, secondsAt, fractionAt, bodyAt, requiredOf, bodyLength, wordIf, classHigh, classLow, fractionOf, partsOf, bodyOf, packetOf}
+use Rattle.packet.specs.Read.{headerChecks, sizeChecks, timeOver, prologueChecks, checksOf, readOf}
+use Rattle.packet.specs.Write.{headerWord, sizeFor, given, classWord, headWords, classWords, timeWords, prologueWords, trailerWords, packetWords, plainParts, classFits, writeChecks, writeOf}
+use Rattle.packet.proofs.FitLaws.{Fits, parts-fit, Writable, writable}
+use Rattle.packet.proofs.RoomLaws.{body-past}
+use Rattle.packet.proofs.ReadLaws.{accepts-read}
+use Rattle.packet.proofs.HeaderLaws.{type-is, classed-is, trailed-is, tsm-is, tsi-is, tsf-is, count-is, size-is, reserved-is, size-for-is}
+use Rattle.packet.proofs.LayLaws.{length-given, head-length, class-length, prologue-length, packet-length}
+
+-- ---- an optional part, found where it was laid
+
+found-one : (ws before rest : List ℕ) (t : Bool) (x n : ℕ) → ws ≡ before ++ (given t (x ∷ []) ++ rest) → length before ≡ n → wordIf t n ws ≡ when t x
+unfolding wordIf
+found-one ws before rest true x n e l = rw e (getD-at before x rest 0 n l)
+found-one ws before rest false x n e l = refl
+
+found-two : (ws before rest : List ℕ) (t : Bool) (x y n : ℕ) → ws ≡ before ++ (given t (x ∷ y ∷ []) ++ rest) → length before ≡ n
+    → (wordIf t n ws ≡ when t x) × (wordIf t (n + 1) ws ≡ when t y)
+unfolding wordIf
+found-two ws before rest true x y n e l = (
+  rw e (getD-at before x (y ∷ rest) 0 n l),
+  rw (e, ← append-assoc before (x ∷ []) (y ∷ rest)) (getD-at (before ++ (x ∷ [])) y rest 0 (n + 1) (simp length-append (omega arith))),
+)
+found-two ws before rest false x y n e l = (refl, refl)
+
+-- the trailer, the last word of the size
+found-last : (ws before rest : List ℕ) (t : Bool) (x size : ℕ) → ws ≡ before ++ (given t (x ∷ []) ++ rest) → length before + when t 1 ≡ size → wordIf t (size - 1) ws ≡ when t x
+unfolding wordIf
+found-last ws before rest true x size e l = found-one ws before rest true x (size - 1) e (omega arith)
+found-last ws before rest false x size e l = refl
+
+-- ---- the numbers of two words, back from the words
+
+class-back : (t : Bool) (oui information packet : ℕ) → classFits t oui information packet ≡ true
+    → (bits 31 24 (when t oui) ≡ 0) × (bits 23 0 (when t oui) ≡ when t oui)
+    × (bits 31 16 (when t (classWord information packet)) ≡ when t information) × (bits 15 0 (when t (classWord information packet)) ≡ when t packet)
+unfolding classFits classWord join
+class-back true oui information packet e =
+    let o = ltb-true oui (2 ^ 24) (both-left (ltb oui (2 ^ 24)) _ e) in
+    let rest = both-right (ltb oui (2 ^ 24)) _ e in
+    let i = ltb-true information (2 ^ 16) (both-left (ltb information (2 ^ 16)) _ rest) in
+    let k = ltb-true packet (2 ^ 16) (both-right (ltb information (2 ^ 16)) _ rest) in
+    (omega arith, omega arith, omega arith, omega arith)
+class-back false oui information packet e = (refl, refl, refl, refl)
+
+fraction-back : (t : Bool) (fraction : ℕ) → highFirst (when t (fraction / 2 ^ 32)) (when t (fraction % 2 ^ 32)) ≡ when t fraction
+fraction-back true fraction = omega arith
+fraction-back false fraction = refl
+
+-- ---- tests that a packet to be written passed, and that it passes when it is read
+
+indicator-back : (t : Bool) (n : ℕ) → both t (eqb n 0) ≡ false → when t 1 ≤ n
+indicator-back true zero e = absurd (true-is-false e)
+indicator-back true (suc n) e = omega arith
+indicator-back false n e = zero-le
+
+time-back : (t : Bool) (tsf fraction : ℕ) → timeOver tsf fraction ≡ false → timeOver tsf (when t fraction) ≡ false
+unfolding timeOver
+time-back true tsf fraction e = e
+time-back false tsf fraction e = both-no (eqb tsf 2)
+
+-- ---- a packet that may be written, followed by any words
+module _ (p : Parts) (body more : List ℕ) (room at : ℕ) (may : Writable p body room at) where
+  abbrev size : ℕ
+  size = sizeFor p (length body)
+
+  abbrev W : ℕ
+  W = headerWord p size
+
+  abbrev Ws : List ℕ
+  Ws = packetWords p body ++ more
+
+  fits : Fits p
+  fits = parts-fit p (may .fit)
+
+  class-fits : classFits (classed W) (p .oui) (p .information) (p .packet) ≡ true
+  class-fits = rw (classed-is p size (may .kind) fits (may .small)) (fits .class)
+
+  first-is : getD Ws 0 0 ≡ W
+  unfolding packetWords prologueWords headWords
+  first-is = refl
+
+  identifier-back : wordIf (streamed W) 1 Ws ≡ when (streamed W) (p .identifier)
+  unfolding packetWords prologueWords headWords
+  identifier-back =
+      found-one Ws (W ∷ []) (classWords W p ++ (timeWords W p ++ (body ++ (trailerWords W p ++ more)))) (streamed W) (p .identifier) 1 (simp append-assoc) refl
+
+  head-at : length (headWords W p) ≡ classAt W
+  unfolding classAt
+  head-at = head-length W p
+
+  class-words-back : (classHigh W Ws ≡ when (classed W) (p .oui)) × (classLow W Ws ≡ when (classed W) (classWord (p .information) (p .packet)))
+  unfolding classHigh classLow packetWords prologueWords classWords
+  class-words-back =
+      found-two Ws (headWords W p) (timeWords W p ++ (body ++ (trailerWords W p ++ more))) (classed W) (p .oui) (classWord (p .information) (p .packet)) (classAt W) (simp append-assoc) head-at
+
+  class-at : length (headWords W p ++ classWords W p) ≡ secondsAt W
+  unfolding secondsAt
+  class-at = simp length-append (omega (arith, head-at, class-length W p))
+
+  seconds-back : wordIf (hasSeconds W) (secondsAt W) Ws ≡ when (hasSeconds W) (p .seconds)
+  unfolding packetWords prologueWords timeWords
+  seconds-back =
+      found-one Ws (headWords W p ++ classWords W p) (given (hasFraction W) (p .fraction / 2 ^ 32 ∷ p .fraction % 2 ^ 32 ∷ []) ++ (body ++ (trailerWords W p ++ more)))
+      (hasSeconds W) (p .seconds) (secondsAt W) (simp append-assoc) class-at
+
+  seconds-at : length (headWords W p ++ classWords W p ++ given (hasSeconds W) (p .seconds ∷ [])) ≡ fractionAt W
+  unfolding fractionAt
+  seconds-at = length-append (headWords W p ++ classWords W p) (given (hasSeconds W) (p .seconds ∷ [])) ∙ omega (arith, class-at, length-given (hasSeconds W) (p .seconds ∷ []))
+
+  fraction-words-back : (wordIf (hasFraction W) (fractionAt W) Ws ≡ when (hasFraction W) (p .fraction / 2 ^ 32))
+      × (wordIf (hasFraction W) (fractionAt W + 1) Ws ≡ when (hasFraction W) (p .fraction % 2 ^ 32))
+  unfolding packetWords prologueWords timeWords
+  fraction-words-back =
+      found-two Ws (headWords W p ++ classWords W p ++ given (hasSeconds W) (p .seconds ∷ [])) (body ++ (trailerWords W p ++ more))
+      (hasFraction W) (p .fraction / 2 ^ 32) (p .fraction % 2 ^ 32) (fractionAt W) (simp append-assoc) seconds-at
+
+  fraction-is : fractionOf W Ws ≡ when (hasFraction W) (p .fraction)
+  unfolding fractionOf
+  fraction-is = rw (fraction-words-back .0, fraction-words-back .1) (fraction-back (hasFraction W) (p .fraction))
+
+  size-parts : size ≡ bodyAt W + length body + when (trailed W) 1
+  size-parts = size-for-is p size (may .kind) fits (may .small) (length body)
+
+  size-of : sizeOf W ≡ size
+  size-of = size-is p size (may .kind) fits (may .small)
+
+  trailer-back : wordIf (trailed W) (sizeOf W - 1) Ws ≡ when (trailed W) (p .trailer)
+  unfolding packetWords trailerWords
+  trailer-back =
+      found-last Ws (prologueWords W p ++ body) more (trailed W) (p .trailer) (sizeOf W) (simp append-assoc)
+      (rw (length-append (prologueWords W p) body, prologue-length W p, size-of) (sym size-parts))
+
+  parts-back : partsOf W Ws ≡ plainParts W p
+  unfolding partsOf plainParts
+  parts-back =
+      let c = class-back (classed W) (p .oui) (p .information) (p .packet) class-fits in
+      let k = may .kind in
+      let z = may .small in
+      rw (identifier-back, class-words-back .0, class-words-back .1, c .1, c .2, c .3, seconds-back, fraction-is, trailer-back, type-is p size k fits z, trailed-is p size k fits z, tsm-is p size k fits z, tsi-is p size k fits z, tsf-is p size k fits z, count-is p size k fits z, classed-is p size k fits z)
+
+  length-back : bodyLength W ≡ length body
+  unfolding bodyLength
+  length-back = rw size-of (omega (arith, size-parts))
+
+  -- the body is found where it was laid
+  pub body-back : part (bodyAt W) (length body) Ws ≡ body
+  unfolding part packetWords
+  body-back =
+      ap (λ (l : List ℕ). take (length body) (drop (bodyAt W) l)) {x = Ws} {y = prologueWords W p ++ (body ++ (trailerWords W p ++ more))} (simp append-assoc)
+      ∙ ap (take (length body)) (drop-at (prologueWords W p) (body ++ (trailerWords W p ++ more)) (bodyAt W) (prologue-length W p))
+      ∙ take-at body (trailerWords W p ++ more) (length body) refl
+
+  -- nothing refuses it
+  header-passes : headerChecks W ≡ accepted tt
+  unfolding headerChecks
+  header-passes =
+      rw (type-is p size (may .kind) fits (may .small), le-ltb 5 (p .kind) (omega (arith, may .kind)), reserved-is p size (may .kind) fits (may .small))
+
+  size-passes : sizeChecks W (length Ws) ≡ accepted tt
+  unfolding sizeChecks requiredOf
+  size-passes =
+      let i = indicator-back (eqb (p .kind) 4) (length body) (may .indicator) in
+      let long : length Ws ≡ size + length more = length-append (packetWords p body) more ∙ ap (λ (n : ℕ). n + length more) (packet-length p body room at may) in
+      rw (size-of, type-is p size (may .kind) fits (may .small), le-ltb size (bodyAt W + when (trailed W) 1 + when (eqb (p .kind) 4) 1) (omega (arith, size-parts)), le-ltb (length Ws) size (omega arith))
+
+  prologue-passes : prologueChecks W Ws ≡ accepted tt
+  unfolding prologueChecks
+  prologue-passes =
+      let c = class-back (classed W) (p .oui) (p .information) (p .packet) class-fits in
+      rw (class-words-back .0, c .0, fraction-is, tsf-is p size (may .kind) fits (may .small), time-back (hasFraction W) (p .tsf) (p .fraction) (may .time))
+
+  body-is : bodyOf W Ws ≡ body
+  unfolding bodyOf
+  body-is = rw length-back body-back
+
+  pub checks-back : checksOf W Ws ≡ accepted tt
+  unfolding checksOf
+  checks-back = rw (header-passes, size-passes, prologue-passes, body-is, type-is p size (may .kind) fits (may .small)) (may .context)
+
+  -- it is read back, absent parts zero
+  pub read-back : readOf Ws ≡ accepted (record { parts = plainParts W p; size = size; body = bodyAt W; length = length body })
+  unfolding packetOf
+  read-back =
+      let some : 0 < length Ws = omega (arith, length-append (packetWords p body) more, packet-length p body room at may, size-parts, body-past W) in
+      accepts-read Ws _ some (rw first-is checks-back) (rw (first-is, parts-back, size-of, length-back))
+
+-- ---- what writing leaves, read from its place on
+pub written-back : (p : Parts) (body out : List ℕ) (at : ℕ) (d : Done ℕ (List ℕ)) → writeOf p body out at ≡ accepted d
+    → let w = headerWord p (sizeFor p (length body)) in
+    (readOf (drop at (d .leaves)) ≡ accepted (record { parts = plainParts w p; size = d .says; body = bodyAt w; length = length body }))
+    × (part (bodyAt w) (length body) (drop at (d .leaves)) ≡ body)
+unfolding writeOf
+written-back p body out at d e =
+    let size = sizeFor p (length body) in
+    let k = after-passed (writeChecks p body (length out) at) _ d e in
+    let may = writable p body (length out) at (k .1) in
+    let done = accepted-same (k .2) in
+    let past : drop at (take at out ++ packetWords p body ++ drop (at + size) out) ≡ packetWords p body ++ drop (at + size) out =
+    ap (drop at) (append-assoc (take at out) (packetWords p body) (drop (at + size) out))
+    ∙ drop-at (take at out) (packetWords p body ++ drop (at + size) out) at (length-take-le at out (omega (arith, may .inside))) in
+    rw (← done, past) (read-back p body (drop (at + size) out) (length out) at may, body-back p body (drop (at + size) out) (length out) at may)
