@@ -12,4 +12,5 @@ test:
 # makes the vectors and what they should give again, from the reference
 vectors:
 	python3 -B tools/reference/read_vectors.py crates/read_vectors/stdin crates/read_vectors/stdout
+	python3 -B tools/reference/write_vectors.py crates/write_vectors/stdin crates/write_vectors/stdout
 	python3 -B tools/reference/sample_packets.py samples/packets

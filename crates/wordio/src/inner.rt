@@ -96,3 +96,14 @@ pub fn list(words: &[u32]) {
         i += 1;
     }
 }
+
+// The sum of the words, modulo 2^32.
+pub fn sum_of(words: &[u32]) -> u32 {
+    let mut sum: u32 = 0;
+    let mut i = 0;
+    while i < words.len() {
+        sum = std::num::wrapping_add_u32(sum, words[i]);
+        i += 1;
+    }
+    sum
+}

@@ -5,17 +5,6 @@ use packet::Parts;
 use packet::TrailerWord;
 use packet::Written;
 
-// The sum of the words, modulo 2^32.
-fn sum_of(words: &[u32]) -> u32 {
-    let mut sum: u32 = 0;
-    let mut i = 0;
-    while i < words.len() {
-        sum = std::num::wrapping_add_u32(sum, words[i]);
-        i += 1;
-    }
-    sum
-}
-
 // The line of a buffer: its words where they are few, and else their sum.
 fn show_buffer(words: &[u32]) {
     if words.len() <= 300 {
@@ -23,7 +12,7 @@ fn show_buffer(words: &[u32]) {
         wordio::inner::list(words);
     } else {
         wordio::inner::text(b"  sum ");
-        wordio::inner::number(sum_of(words) as u64);
+        wordio::inner::number(wordio::inner::sum_of(words) as u64);
     }
     wordio::inner::text(b"\n");
 }

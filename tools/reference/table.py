@@ -1,0 +1,327 @@
+"""A reference table of streams: it starts, plays packets and is well made or not.
+
+It is written from document 01 and from nothing else.  Reading a packet, its
+fields and the field rules are those of vrt49.py.  Words are whole numbers from 0
+to 2^32 - 1 in a list; the sentences in quotation marks are document 01's own.
+
+A table is a list of dictionaries, one for each stream in the order of the list:
+
+    identifier  the stream's identifier
+    counts      for each of the types 1, 3, 4 and 5 a dictionary of seen, missing
+                and last, which is None while the count has not started
+    held        for each field that is held, by its bit, the field's words
+
+The words of a table are word 0, the number of streams S, and S records of 88
+words: identifier; held indicator; for types 1, 3, 4, 5 in this order three words
+each, seen, missing, and the last count plus one or 0 if it has not started; then
+74 words, the fields 30 to 10 in this order, zero where a field is not held.
+"""
+
+import vrt49
+from vrt49 import FIELD_RULES, FIXED_WORDS, bits
+
+# "Numbers given back", those of the table.
+STREAM = 11
+LIST = 12
+ROOM = 13
+TABLE = 18
+
+# "Types 1, 3, 4 and 5 are counted apart within a stream."
+COUNTED_TYPES = (1, 3, 4, 5)
+
+# "each field from bits 30 to 10"; "Bits 31, 9 and 8 are not held."
+HELD_BITS = tuple(range(30, 9, -1))
+
+# identifier, held indicator, four counts of three words, 74 words of fields
+RECORD_WORDS = 2 + 3 * len(COUNTED_TYPES) + sum(FIXED_WORDS.values())
+
+
+def layout_length(streams):
+    """The words of the layout of so many streams."""
+    return 1 + RECORD_WORDS * streams
+
+
+# Starting.
+
+
+def fresh_stream(identifier):
+    # "it starts as zeroed words apart from the list"
+    return {
+        "identifier": identifier,
+        "counts": {kind: {"seen": 0, "missing": 0, "last": None} for kind in COUNTED_TYPES},
+        "held": {},
+    }
+
+
+def list_refused(ids):
+    # "0 or over 32 identifiers, or one twice"
+    return len(ids) == 0 or len(ids) > 32 or len(set(ids)) != len(ids)
+
+
+def start(ids, room):
+    """('refused', number) or ('started', table), for a lent table of so many
+    words."""
+    # "Start: LIST, ROOM."
+    if list_refused(ids):
+        return ("refused", LIST)
+    # "a buffer to be written is too short"
+    if room < layout_length(len(ids)):
+        return ("refused", ROOM)
+    return ("started", [fresh_stream(identifier) for identifier in ids])
+
+
+# Playing.
+
+
+def stream_of(table, packet):
+    """The number of the stream that a packet is of, or None."""
+    # "no identifier (types 0, 2), one not declared"
+    if packet.type not in COUNTED_TYPES:
+        return None
+    # "stream number (place in the list, from 0)"
+    for place, stream in enumerate(table):
+        if stream["identifier"] == packet.identifier:
+            return place
+    return None
+
+
+def missing_added(count, number):
+    """What a packet with this number adds to the missing of its count."""
+    # "The first packet adds nothing to missing; later ones add (count - last -
+    # 1) modulo 16.  An equal count adds 15."
+    if count["last"] is None:
+        return 0
+    return (number - count["last"] - 1) % 16
+
+
+def play(table, words):
+    """('refused', number) or ('played', size, type, stream, missing added).  A
+    packet that is played changes the table."""
+    # "Play: TABLE, read order, STREAM."  These dictionaries are those of a
+    # well-made table.
+    answer, packet = vrt49.read(words)
+    if answer == "refused":
+        return ("refused", packet)
+    place = stream_of(table, packet)
+    if place is None:
+        return ("refused", STREAM)
+    stream = table[place]
+    # "Each has seen and missing, both kept modulo 2^32, and the last count."
+    count = stream["counts"][packet.type]
+    added = missing_added(count, packet.count)
+    count["seen"] = (count["seen"] + 1) % 2**32
+    count["missing"] = (count["missing"] + added) % 2**32
+    count["last"] = packet.count
+    # "An accepted Context packet replaces each field from bits 30 to 10 that it
+    # carries, whole.  Bits 31, 9 and 8 are not held."
+    if packet.type == 4:
+        body = words[packet.body : packet.body + packet.length]
+        for bit, at, length in vrt49.fields(body):
+            if bit in HELD_BITS:
+                stream["held"][bit] = body[at : at + length]
+    # "Play answers size, type, stream number (place in the list, from 0) and
+    # missing added."
+    return ("played", packet.size, packet.type, place, added)
+
+
+# The words of a table.
+
+
+def record_of(stream):
+    """The 88 words of one stream."""
+    words = [stream["identifier"], sum(2**bit for bit in stream["held"])]
+    for kind in COUNTED_TYPES:
+        count = stream["counts"][kind]
+        # "seen, missing, last plus one or 0 if not started"
+        words += [count["seen"], count["missing"]]
+        words.append(0 if count["last"] is None else count["last"] + 1)
+    for bit in HELD_BITS:
+        words += stream["held"].get(bit, [0] * FIXED_WORDS[bit])
+    return words
+
+
+def layout(table):
+    """The words of a table."""
+    words = [len(table)]
+    for stream in table:
+        words += record_of(stream)
+    return words
+
+
+# Words that are to be a table.
+
+
+def records(words):
+    """The records of the words, when the whole layout is there."""
+    return [
+        words[layout_length(place) : layout_length(place + 1)] for place in range(words[0])
+    ]
+
+
+def count_words(record):
+    """The three words of each count of a record, by type."""
+    return {
+        kind: record[2 + 3 * place : 5 + 3 * place] for place, kind in enumerate(COUNTED_TYPES)
+    }
+
+
+def slots(record):
+    """The words of each of the fields 30 to 10 of a record, held or not, by
+    bit."""
+    found = {}
+    place = 2 + 3 * len(COUNTED_TYPES)
+    for bit in HELD_BITS:
+        found[bit] = record[place : place + FIXED_WORDS[bit]]
+        place = place + FIXED_WORDS[bit]
+    return found
+
+
+def held_bit(record, bit):
+    return bits(record[1], bit, bit) == 1
+
+
+# What well made means, rule by rule.  The first two take all the words and say
+# whether the rule is kept; the others take the records.
+
+
+def whole_layout(words):
+    # "the whole layout is there"
+    return len(words) >= 1 and len(words) >= layout_length(words[0])
+
+
+def right_number(words):
+    # "a valid list": not "0 or over 32 identifiers"
+    return len(words) >= 1 and 1 <= words[0] <= 32
+
+
+def different_identifiers(found):
+    # "a valid list": not "one twice"
+    return len({record[0] for record in found}) == len(found)
+
+
+def only_fields_held(found):
+    # "Bits 31, 9 and 8 are not held", and bits 7 to 0 have no field: "words of
+    # no stated meaning zero"
+    return all(
+        not held_bit(record, bit)
+        for record in found
+        for bit in range(32)
+        if bit not in HELD_BITS
+    )
+
+
+def unheld_zero(found):
+    # "unheld fields ... zero"
+    return all(
+        held_bit(record, bit) or not any(field)
+        for record in found
+        for bit, field in slots(record).items()
+    )
+
+
+def held_kept(found):
+    # "held fields obey their rules"
+    return all(
+        FIELD_RULES[bit](field)
+        for record in found
+        for bit, field in slots(record).items()
+        if held_bit(record, bit) and bit in FIELD_RULES
+    )
+
+
+def not_started_zero(found):
+    # "a count not started has zeros"
+    return all(
+        last_plus_one != 0 or (seen == 0 and missing == 0)
+        for record in found
+        for seen, missing, last_plus_one in count_words(record).values()
+    )
+
+
+def last_at_most_15(found):
+    # "a last count is at most 15"
+    return all(
+        last_plus_one <= 16
+        for record in found
+        for _, _, last_plus_one in count_words(record).values()
+    )
+
+
+def held_after_start(found):
+    # "no field held unless type 4 has started"
+    return all(
+        count_words(record)[4][2] != 0 or not any(held_bit(record, bit) for bit in HELD_BITS)
+        for record in found
+    )
+
+
+RULES_OF_WORDS = (
+    ("layout", whole_layout),
+    ("number", right_number),
+)
+RULES_OF_RECORDS = (
+    ("identifiers", different_identifiers),
+    ("indicator", only_fields_held),
+    ("unheld", unheld_zero),
+    ("field", held_kept),
+    ("not started", not_started_zero),
+    ("last", last_at_most_15),
+    ("type 4", held_after_start),
+)
+
+
+def broken_rules(words):
+    """The names of the rules that a lent table breaks.  The records are looked
+    at when the layout is there and the number of streams is right."""
+    # "words past it are neither read nor changed"
+    broken = [name for name, kept in RULES_OF_WORDS if not kept(words)]
+    if not broken:
+        found = records(words)
+        broken = [name for name, kept in RULES_OF_RECORDS if not kept(found)]
+    return broken
+
+
+def well_made(words):
+    return broken_rules(words) == []
+
+
+def table_of(words):
+    """The table that well-made words are."""
+    table = []
+    for record in records(words):
+        counts = {}
+        for kind, (seen, missing, last_plus_one) in count_words(record).items():
+            last = None if last_plus_one == 0 else last_plus_one - 1
+            counts[kind] = {"seen": seen, "missing": missing, "last": last}
+        held = {bit: field for bit, field in slots(record).items() if held_bit(record, bit)}
+        table.append({"identifier": record[0], "counts": counts, "held": held})
+    return table
+
+
+# The same with the words of a lent table.
+
+
+def start_lent(ids, lent):
+    """('refused', number) or ('started', words of the layout), and the lent
+    table afterwards."""
+    answer, what = start(ids, len(lent))
+    # "A refusal returns its number alone and writes nothing."
+    if answer == "refused":
+        return (answer, what), list(lent)
+    words = layout(what)
+    return (answer, len(words)), words + lent[len(words) :]
+
+
+def play_lent(lent, words):
+    """The answer of play, and the lent table afterwards."""
+    # "Play: TABLE, read order, STREAM."
+    if not well_made(lent):
+        return ("refused", TABLE), list(lent)
+    table = table_of(lent)
+    answer = play(table, words)
+    if answer[0] == "refused":
+        return answer, list(lent)
+    # "A lent table may be longer than its layout: words past it are neither
+    # read nor changed."
+    after = layout(table)
+    return answer, after + lent[len(after) :]

@@ -1,0 +1,274 @@
+"""Document 01's "Samples from the bench" that concern the table, and its
+sentences on starting, playing and what is well made, held against the reference.
+The expectations are document 01's own."""
+
+import copy
+import unittest
+
+import table
+import vrt49
+
+PATTERN = 0xA5A5A5A5
+ONES = 0xFFFFFFFF
+
+
+def started(*ids):
+    answer, found = table.start(list(ids), table.layout_length(len(ids)))
+    assert answer == "started", (answer, found)
+    return found
+
+
+def data(count, identifier=7, kind=1):
+    """A packet of a type other than 4, with no body."""
+    return [kind * 2**28 + count * 2**16 + 2, identifier]
+
+
+def context(count, indicator, words=(), identifier=7):
+    return [0x40000003 + count * 2**16 + len(words), identifier, indicator, *words]
+
+
+def added(found, *counts):
+    """What each packet of type 1 with these counts adds to missing."""
+    return [table.play(found, data(count))[4] for count in counts]
+
+
+class List(unittest.TestCase):
+    # "32 identifiers pass; 33 is LIST."
+
+    def test_32_and_33(self):
+        answer, found = table.start(list(range(32)), 2900)
+        self.assertEqual((answer, len(found)), ("started", 32))
+        self.assertEqual(table.start(list(range(33)), 2900), ("refused", table.LIST))
+
+    def test_none_and_one_twice(self):
+        # "0 or over 32 identifiers, or one twice"
+        for ids in ([], [7, 7], [1, 2, 3, 1], [0, 5, 0]):
+            self.assertEqual(table.start(ids, 2900), ("refused", table.LIST))
+
+    def test_list_before_room(self):
+        # "Start: LIST, ROOM."
+        for ids in ([], [7, 7], list(range(33))):
+            self.assertEqual(table.start(ids, 0), ("refused", table.LIST))
+        self.assertEqual(table.start([7], 0), ("refused", table.ROOM))
+
+
+class Room(unittest.TestCase):
+    # "at most 2,900 words"
+
+    def test_lengths(self):
+        self.assertEqual(table.RECORD_WORDS, 88)
+        self.assertEqual(table.layout_length(1), 89)
+        self.assertEqual(table.layout_length(32), 2817)
+        self.assertLessEqual(table.layout_length(32), 2900)
+
+    def test_edges(self):
+        for n in range(1, 33):
+            ids = list(range(100, 100 + n))
+            need = 1 + 88 * n
+            self.assertEqual(table.start(ids, need - 1), ("refused", table.ROOM))
+            self.assertEqual(table.start(ids, need)[0], "started")
+            self.assertEqual(table.start(ids, need + 1)[0], "started")
+
+    def test_lent_words(self):
+        # "it starts as zeroed words apart from the list"; "words past it are
+        # neither read nor changed"
+        answer, after = table.start_lent([5, 9], [PATTERN] * 180)
+        self.assertEqual(answer, ("started", 177))
+        self.assertEqual(after[0], 2)
+        self.assertEqual((after[1], after[89]), (5, 9))
+        self.assertEqual(sum(after[:177]), 2 + 5 + 9)
+        self.assertEqual(after[177:], [PATTERN] * 3)
+        answer, after = table.start_lent([5, 9], [PATTERN] * 176)
+        self.assertEqual(answer, ("refused", table.ROOM))
+        self.assertEqual(after, [PATTERN] * 176)
+
+
+class Missing(unittest.TestCase):
+    # "last 14, then 2: missing 3.  Last 2, then 2: 15."
+
+    def test_14_then_2(self):
+        self.assertEqual(added(started(7), 14, 2), [0, 3])
+
+    def test_2_then_2(self):
+        self.assertEqual(added(started(7), 2, 2), [0, 15])
+
+    def test_first_packet(self):
+        # "The first packet adds nothing to missing"
+        for count in range(16):
+            self.assertEqual(added(started(7), count), [0])
+
+    def test_next_count(self):
+        self.assertEqual(added(started(7), *range(16), *range(16)), [0] * 32)
+
+    def test_every_gap(self):
+        for last in range(16):
+            for gap in range(16):
+                self.assertEqual(added(started(7), last, (last + 1 + gap) % 16), [0, gap])
+
+    def test_program_sample(self):
+        # "at 2 type 1 stream 0 missing 0", "at 7 type 1 stream 0 missing 2"
+        found = started(7)
+        self.assertEqual(
+            table.play(found, [0x140F0005, 7, 0xABCDEF12, 0x30000000, 0]), ("played", 5, 1, 0, 0)
+        )
+        self.assertEqual(table.play(found, [0x14020005, 7, 0, 0, 0]), ("played", 5, 1, 0, 2))
+        self.assertEqual(table.layout(found)[:6], [1, 7, 0, 2, 2, 3])
+
+    def test_modulo_2_32(self):
+        # "Each has seen and missing, both kept modulo 2^32"
+        found = started(7)
+        found[0]["counts"][1] = {"seen": ONES, "missing": ONES - 4, "last": 2}
+        self.assertEqual(added(found, 2), [15])
+        self.assertEqual(found[0]["counts"][1], {"seen": 0, "missing": 10, "last": 2})
+        # A started count may have seen 0.
+        self.assertEqual(added(found, 4), [1])
+        self.assertEqual(found[0]["counts"][1], {"seen": 1, "missing": 11, "last": 4})
+
+
+class CountedApart(unittest.TestCase):
+    # "Types 1, 3, 4 and 5 are counted apart within a stream."
+
+    def test_types(self):
+        found = started(7)
+        for round_ in range(3):
+            for kind in (1, 3, 4, 5):
+                count = (4 * kind + 2 * round_) % 16
+                packet = context(count, 0) if kind == 4 else data(count, kind=kind)
+                answer = table.play(found, packet)
+                self.assertEqual(answer[2:], (kind, 0, 0 if round_ == 0 else 1))
+        for kind in (1, 3, 4, 5):
+            count = found[0]["counts"][kind]
+            self.assertEqual((count["seen"], count["missing"]), (3, 2))
+
+    def test_streams(self):
+        found = started(7, 8)
+        self.assertEqual(table.play(found, data(3)), ("played", 2, 1, 0, 0))
+        self.assertEqual(table.play(found, data(9, 8)), ("played", 2, 1, 1, 0))
+        self.assertEqual(table.play(found, data(4)), ("played", 2, 1, 0, 0))
+        self.assertEqual(table.play(found, data(9, 8)), ("played", 2, 1, 1, 15))
+
+
+class Held(unittest.TestCase):
+    # "An accepted Context packet replaces each field from bits 30 to 10 that it
+    # carries, whole."
+
+    def test_replaced_whole(self):
+        found = started(7)
+        table.play(found, context(0, 1 << 14, range(1, 12)))
+        table.play(found, context(1, 1 << 14, [5] + [0] * 10))
+        self.assertEqual(found[0]["held"], {14: [5] + [0] * 10})
+
+    def test_kept(self):
+        # "Easy misreadings": "Zeroing a held field that a later packet does not
+        # carry."
+        found = started(7)
+        table.play(found, context(0, 1 << 30 | 1 << 10, [3, 4]))
+        table.play(found, context(1, 1 << 23, [9]))
+        table.play(found, context(2, 1 << 31))
+        table.play(found, data(3, kind=5))
+        self.assertEqual(found[0]["held"], {30: [3], 10: [4], 23: [9]})
+
+    def test_not_held(self):
+        # "Bits 31, 9 and 8 are not held."
+        found = started(7)
+        packet = context(0, 1 << 31 | 1 << 10 | 1 << 9 | 1 << 8, [6, 0, 1, 2, 1, 0, 3])
+        self.assertEqual(table.play(found, packet), ("played", 10, 4, 0, 0))
+        self.assertEqual(found[0]["held"], {10: [6]})
+        self.assertEqual(table.layout(found)[2], 1 << 10)
+
+    def test_places(self):
+        # "Bits 30 to 10 are 21 fields of 74 words together", and field 30 first.
+        found = started(7)
+        table.play(found, context(0, 1 << 30 | 1 << 10, [3, 4]))
+        words = table.layout(found)
+        self.assertEqual((len(words), words[15], words[88]), (89, 3, 4))
+        self.assertEqual(sum(words[15:]), 7)
+
+
+class Refusals(unittest.TestCase):
+    # "A refusal returns its number alone and writes nothing."
+
+    def refused(self, words, number):
+        found = started(7, 0)
+        table.play(found, data(3))
+        before = copy.deepcopy(found)
+        self.assertEqual(table.play(found, words), ("refused", number))
+        self.assertEqual(found, before)
+
+    def test_stream(self):
+        # "no identifier (types 0, 2), one not declared"
+        self.refused(data(4, kind=0), table.STREAM)
+        self.refused(data(4, kind=2), table.STREAM)
+        self.refused(data(4, 8), table.STREAM)
+
+    def test_read_order_before_stream(self):
+        self.refused([], vrt49.EMPTY)
+        self.refused(context(4, 1 << 24, [ONES], 8), vrt49.FIELD)
+        self.refused(context(4, 1 << 30 | 1 << 24, [5, ONES]), vrt49.FIELD)
+
+    def test_table_first(self):
+        lent = table.layout(started(7)) + [PATTERN]
+        lent[5] = 17
+        for words in ([], data(4), data(4, 8)):
+            self.assertEqual(table.play_lent(lent, words), (("refused", table.TABLE), lent))
+
+
+class WellMade(unittest.TestCase):
+    # "Well made: the whole layout is there; a valid list; unheld fields and
+    # words of no stated meaning zero; held fields obey their rules; a count not
+    # started has zeros; a last count is at most 15; no field held unless type 4
+    # has started."
+
+    def broken(self, stores, ids=(7,), past=0):
+        words = table.layout(started(*ids)) + [PATTERN] * past
+        for place, word in stores.items():
+            words[place] = word
+        return table.broken_rules(words)
+
+    def test_started(self):
+        for n in (1, 2, 32):
+            self.assertEqual(self.broken({}, range(n)), [])
+            self.assertEqual(self.broken({}, range(n), past=3), [])
+
+    def test_layout(self):
+        for n in (1, 2, 32):
+            words = table.layout(started(*range(n)))
+            self.assertEqual(table.broken_rules(words[:-1]), ["layout"])
+        self.assertEqual(table.broken_rules([]), ["layout", "number"])
+
+    def test_list(self):
+        self.assertEqual(self.broken({0: 0}), ["number"])
+        self.assertEqual(self.broken({0: 33}, past=2816), ["number"])
+        self.assertEqual(self.broken({89: 7}, (7, 8)), ["identifiers"])
+        self.assertEqual(self.broken({89: 6}, (7, 8)), [])
+
+    def test_fields(self):
+        # Type 4 has started with the last count 0.
+        self.assertEqual(self.broken({11: 1, 15: 1}), ["unheld"])
+        self.assertEqual(self.broken({11: 1, 2: 1 << 30, 15: 1}), [])
+        self.assertEqual(self.broken({2: 1 << 30, 15: 1}), ["type 4"])
+        self.assertEqual(self.broken({11: 1, 2: 1 << 24, 26: 0x10000}), ["field"])
+        self.assertEqual(self.broken({11: 1, 2: 1 << 24, 26: 0xFFFF}), [])
+        for bit in (31, 9, 8, 7, 0):
+            self.assertEqual(self.broken({11: 1, 2: 1 << bit}), ["indicator"])
+
+    def test_counts(self):
+        for place in (3, 6, 9, 12):
+            self.assertEqual(self.broken({place: 1}), ["not started"])
+            self.assertEqual(self.broken({place + 1: 1}), ["not started"])
+            self.assertEqual(self.broken({place + 2: 17}), ["last"])
+            self.assertEqual(self.broken({place: ONES, place + 1: ONES, place + 2: 16}), [])
+            # A started count may have seen 0.
+            self.assertEqual(self.broken({place + 1: 9, place + 2: 1}), [])
+
+    def test_words_and_back(self):
+        found = started(7, 8)
+        table.play(found, data(3))
+        table.play(found, context(15, 1 << 29 | 1 << 12, [1, 2, *range(13)], 8))
+        words = table.layout(found)
+        self.assertTrue(table.well_made(words))
+        self.assertEqual(table.table_of(words), found)
+
+
+if __name__ == "__main__":
+    unittest.main()
