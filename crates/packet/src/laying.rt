@@ -4,6 +4,7 @@ ghost use mathlib.Core.Bool.{true};
 ghost use mathlib.Core.List.{[], _∷_, _++_};
 ghost use Prim.Native.Nat.{_+_, _*_, _%_, _^_, _≤_, _<_};
 ghost use lib.ListN.{length, take, drop};
+ghost use Rattle.words.specs.Tests.{when};
 ghost use Rattle.words.specs.Outcome.{accepted};
 ghost use Rattle.words.specs.Laid.{Laid};
 ghost use Rattle.packet.specs.Header.{classed};
@@ -44,7 +45,7 @@ pub fn size_for(p: crate::Parts, n: usize) -> usize
 
 // One word, if it is there; answers the place past it.
 fn lay_one(present: bool, word: u32, out: &mut [u32], at: usize) -> usize
-    requires { ⌜ at + length (given present (word ∷ [])) ≤ length (now out) ⌝ }
+    requires { ⌜ at + when present 1 ≤ length (now out) ⌝ }
     ensures { λ r. ⌜ Laid (now (out .entry)) at (given present (word ∷ [])) r (now (out .exit)) ⌝ }
 {
     if present {
@@ -56,7 +57,7 @@ fn lay_one(present: bool, word: u32, out: &mut [u32], at: usize) -> usize
 
 // Two words, if they are there; answers the place past them.
 fn lay_two(present: bool, high: u32, low: u32, out: &mut [u32], at: usize) -> usize
-    requires { ⌜ at + length (given present (high ∷ low ∷ [])) ≤ length (now out) ⌝ }
+    requires { ⌜ at + when present 2 ≤ length (now out) ⌝ }
     ensures { λ r. ⌜ Laid (now (out .entry)) at (given present (high ∷ low ∷ [])) r (now (out .exit)) ⌝ }
 {
     if present {

@@ -1,6 +1,7 @@
 -- `lay_class` meets its promise: where there is a class, its second word is the join of the two codes (`class-second`).
+use native.Mathlib.Omega.{arith}
 use Rattle.packet.specs.Write.{classWords}
-use Rattle.packet.proofs.LayLaws.{class-second}
+use Rattle.packet.proofs.LayLaws.{class-length, class-second}
 use borrow.Author.Needs.{needs}
 use Rattle.packet.proofs.laying.lay_class.Statement.{statement}
 use Rattle.packet.proofs.laying.lay_class.Tie as tie
@@ -12,10 +13,9 @@ has-class-requires : tie.Need-has-class-requires
 has-class-requires c κs = search needs
 
 lay-two-requires : tie.Need-lay-two-requires
-unfolding classWords
 lay-two-requires c κs =
     let s = c .before .before .before .before in
-    rw (c .before .has-class .ensures, class-second _ _ _ _ _ (s .pre .0) (c .before .before .class-word .ensures)) (s .pre .1)
+    rw (c .before .has-class .ensures) (omega (arith, s .pre .1, class-length (s .args .w) (s .args .p)))
 
 same-length : tie.Need-same-length
 same-length c = search needs

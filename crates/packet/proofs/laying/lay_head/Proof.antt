@@ -1,10 +1,8 @@
 -- `lay_head` meets its promise: the header, and then the identifier where the first call ended.
 use native.Mathlib.Omega.{arith}
-use mathlib.Core.List.{[], _∷_}
 use Rattle.words.proofs.LaidLaws.{then, laid-length}
 use Rattle.packet.specs.Write.{headWords}
-use Rattle.packet.specs.Parts.{streamed}
-use Rattle.packet.proofs.LayLaws.{length-given, head-length}
+use Rattle.packet.proofs.LayLaws.{head-length}
 use borrow.Author.Needs.{needs}
 use Rattle.packet.proofs.laying.lay_head.Statement.{statement}
 use Rattle.packet.proofs.laying.lay_head.Tie as tie
@@ -19,7 +17,7 @@ lay-one-requires-2 : tie.Need-lay-one-requires-2
 lay-one-requires-2 c κs =
     let s = c .before .before .before .before .before .before .before in
     let one = c .before .before .before .before .lay-one .ensures in
-    rw (c .before .has-stream .ensures) (omega (arith, s .pre, head-length (s .args .w) (s .args .p), length-given (streamed (s .args .w)) (s .args .p .identifier ∷ []), one .past, laid-length one))
+    rw (c .before .has-stream .ensures) (omega (arith, s .pre, head-length (s .args .w) (s .args .p), one .past, laid-length one))
 
 same-length : tie.Need-same-length
 same-length c = search needs

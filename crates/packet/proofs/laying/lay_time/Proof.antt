@@ -1,10 +1,9 @@
 -- `lay_time` meets its promise: the seconds, and then the fraction where the first call ended.
-use Prim.Native.Nat.{_/_, _%_, _^_}
 use native.Mathlib.Omega.{arith}
 use mathlib.Core.List.{[], _∷_}
 use Rattle.words.proofs.LaidLaws.{then, laid-length}
 use Rattle.packet.specs.Write.{timeWords}
-use Rattle.packet.specs.Parts.{hasSeconds, hasFraction}
+use Rattle.packet.specs.Parts.{hasSeconds}
 use Rattle.packet.proofs.LayLaws.{length-given, time-length}
 use borrow.Author.Needs.{needs}
 use Rattle.packet.proofs.laying.lay_time.Statement.{statement}
@@ -22,7 +21,7 @@ has-seconds-requires c κs = search needs
 lay-one-requires : tie.Need-lay-one-requires
 lay-one-requires c κs =
     let s = c .before .before .before in
-    rw (c .before .has-seconds .ensures) (omega (arith, s .pre, time-length (s .args .w) (s .args .p), length-given (hasSeconds (s .args .w)) (s .args .p .seconds ∷ [])))
+    rw (c .before .has-seconds .ensures) (omega (arith, s .pre, time-length (s .args .w) (s .args .p)))
 
 has-fraction-requires : tie.Need-has-fraction-requires
 has-fraction-requires c κs = search needs
@@ -32,7 +31,7 @@ lay-two-requires c κs =
     let s = c .before .before .before .before .before .before .before .before in
     let one = rw (c .before .before .before .before .before .before .has-seconds .ensures) at (c .before .before .before .before .lay-one .ensures) in
     rw (c .before .has-fraction .ensures)
-    (omega (arith, s .pre, time-length (s .args .w) (s .args .p), length-given (hasSeconds (s .args .w)) (s .args .p .seconds ∷ []), length-given (hasFraction (s .args .w)) (s .args .p .fraction / 2 ^ 32 ∷ s .args .p .fraction % 2 ^ 32 ∷ []), one .past, laid-length one))
+    (omega (arith, s .pre, time-length (s .args .w) (s .args .p), length-given (hasSeconds (s .args .w)) (s .args .p .seconds ∷ []), one .past, laid-length one))
 
 same-length : tie.Need-same-length
 same-length c = search needs

@@ -1,4 +1,6 @@
 -- `lay_trailer` meets its promise.
+use native.Mathlib.Omega.{arith}
+use Rattle.packet.proofs.LayLaws.{trailer-length}
 use Rattle.packet.specs.Write.{trailerWords}
 use borrow.Author.Needs.{needs}
 use Rattle.packet.proofs.laying.lay_trailer.Statement.{statement}
@@ -8,8 +10,9 @@ has-trailer-requires : tie.Need-has-trailer-requires
 has-trailer-requires c κs = search needs
 
 lay-one-requires : tie.Need-lay-one-requires
-unfolding trailerWords
-lay-one-requires c κs = rw (c .before .has-trailer .ensures) (search needs)
+lay-one-requires c κs =
+    let s = c .before .before .before in
+    rw (c .before .has-trailer .ensures) (omega (arith, trailer-length (s .args .w) (s .args .p)))
 
 same-length : tie.Need-same-length
 same-length c = search needs

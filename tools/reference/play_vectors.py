@@ -1,0 +1,1352 @@
+"""Writes recordings to be played into a table and the reference's answers to
+them.
+
+    python3 tools/reference/play_vectors.py INPUT EXPECTED
+
+README.md gives the form of both files.  Each recording and each packet that is
+built for one answer says which answer that is, and each table that is built not
+to be well made says which rule it breaks; where the reference says another, the
+program ends without writing.  So it does where a table's words at the end are
+not those that follow from the packets that were played, taken together.
+"""
+
+import sys
+
+sys.dont_write_bytecode = True
+
+import read_vectors
+import table
+import vrt49
+from read_vectors import (
+    FIXED, FIXED_BITS, FORMAT, ONES, TERA, Numbers, all_fixed, context, counted, format_word,
+    lists_of, packet, plain, random_field, random_packet,
+)
+from table import LIST, ROOM, STREAM, TABLE
+from vrt49 import BITS, CLASS, CUT, EMPTY, FIELD, INDICATOR, LAYOUT, SHORT, TIME, TYPE
+
+STARTED = 0
+PATTERN = 0xA5A5A5A5
+MOST_ROOM = 2900
+MOST_STREAMS = 40
+MOST_STORES = 200
+MOST_PACKETS = 400
+MOST_WORDS = 4096
+
+COUNTED = (1, 3, 4, 5)
+READ_ORDER = (EMPTY, TYPE, BITS, SHORT, CUT, CLASS, TIME, INDICATOR, LAYOUT, FIELD)
+
+# Where each word of a record is, from the record's start.
+INDICATOR_PLACE = 1
+COUNT_PLACES = {1: 2, 3: 5, 4: 8, 5: 11}
+SLOT_PLACES = {
+    30: 14, 29: 15, 28: 17, 27: 19, 26: 21, 25: 23, 24: 25, 23: 26, 22: 27, 21: 28, 20: 30,
+    19: 32, 18: 33, 17: 34, 16: 36, 15: 37, 14: 39, 13: 50, 12: 61, 11: 74, 10: 87,
+}
+SIZES = dict(FIXED)
+
+recordings = []
+
+# Refusals of which one packet has both faults, the earlier one first.
+both_faults = set()
+
+
+class Recording:
+    """One recording, with the answer of start that it is built for.  The packets
+    are pairs of their words and what they are meant to be answered: the number
+    of a refusal, or type, stream and missing of a packet that is played, or
+    None.  The stores are pairs of place and word.  Broken names the rules that
+    the table then breaks, and beside the rule that a well-made table is just
+    within.  After has words that are meant to be in the table at the end, by
+    their place."""
+
+    def __init__(self, ids, packets, answer, room, stores, broken, beside, after):
+        self.ids = list(ids)
+        self.packets = packets
+        self.answer = answer
+        self.room = room
+        self.stores = stores
+        self.broken = broken
+        self.beside = beside
+        self.after = after
+
+
+def recording(
+    ids, packets=(), answer=STARTED, room=None, stores=(), broken=(), beside=None, after=None
+):
+    """If no room is named there is enough, with two words left after."""
+    if room is None:
+        room = 1 + 88 * len(ids) + 2
+    if isinstance(stores, dict):
+        stores = stores.items()
+    recordings.append(
+        Recording(ids, list(packets), answer, room, list(stores), broken, beside, after or {})
+    )
+
+
+def record_place(stream):
+    return 1 + 88 * stream
+
+
+def count_place(kind, stream=0):
+    return record_place(stream) + COUNT_PLACES[kind]
+
+
+def slot_place(bit, stream=0):
+    return record_place(stream) + SLOT_PLACES[bit]
+
+
+def indicator_place(stream=0):
+    return record_place(stream) + INDICATOR_PLACE
+
+
+def at_places(place, words):
+    return {place + i: word for i, word in enumerate(words)}
+
+
+def gap(last, count):
+    """The counts that are passed over from last to count."""
+    passed = 0
+    number = 0 if last == 15 else last + 1
+    while number != count:
+        passed += 1
+        number = 0 if number == 15 else number + 1
+    return passed
+
+
+def short_packet(kind, identifier, count, **rest):
+    """A packet of few words."""
+    body = [0x80000000] if kind == 4 else []
+    return packet(kind, body, identifier=identifier, count=count, **rest)
+
+
+# Starting.
+
+
+def starts():
+    # The number of identifiers.
+    for room in (0, 1, 2, 89, MOST_ROOM):
+        recording([], answer=LIST, room=room)
+    for n in (33, 34, 40):
+        recording(range(100, 100 + n), answer=LIST, room=MOST_ROOM)
+    # LIST before ROOM.
+    for ids in (range(33), range(40), [7, 7], [1, 2, 3, 2], [5] * 32, [5] * 33):
+        for room in (0, 1, 88, 176):
+            recording(ids, answer=LIST, room=room)
+    # One twice: every pair of places among four, and some among 32.
+    for first in range(4):
+        for second in range(first + 1, 4):
+            ids = [10, 11, 12, 13]
+            ids[second] = ids[first]
+            recording(ids, answer=LIST)
+    for first, second in ((0, 31), (30, 31), (0, 1), (15, 16), (7, 24)):
+        ids = [0x1000 * i for i in range(32)]
+        ids[second] = ids[first]
+        recording(ids, answer=LIST, room=MOST_ROOM)
+    for identifier in (0, 1, 1 << 31, ONES, PATTERN):
+        recording([identifier, identifier], answer=LIST)
+        recording([identifier, 5, identifier], answer=LIST)
+    recording([9] * 32, answer=LIST, room=MOST_ROOM)
+    recording([*range(32), 0], answer=LIST, room=MOST_ROOM)
+    # Identifiers that differ in one bit.
+    for bit in (0, 1, 7, 8, 15, 16, 24, 31):
+        recording([0x5A5A5A5A, 0x5A5A5A5A ^ 1 << bit], answer=STARTED)
+    recording([0, ONES], after={0: 2, 1: 0, 89: ONES})
+    recording([ONES, 0])
+    # The room.
+    for n in (1, 2, 3, 31, 32):
+        need = 1 + 88 * n
+        ids = [0xC0000000 + 3 * i for i in range(n)]
+        for room in (need - 1, need - 88, 0):
+            recording(ids, answer=ROOM, room=room)
+    for n in (1, 2, 3):
+        need = 1 + 88 * n
+        ids = [0xC0000000 + 3 * i for i in range(n)]
+        for room in (need, need + 1, need + 88, need + 200):
+            recording(ids, room=room, after={0: n, 1: 0xC0000000})
+    recording(range(32), room=2816, answer=ROOM)
+    recording(range(32), room=2817, after={0: 32, 1 + 88 * 31: 31})
+    recording(range(32), room=MOST_ROOM, after={0: 32, 1 + 88 * 31: 31})
+    # What follows a list that is refused.
+    follow = [(short_packet(1, 7, 3), None), ([], None)]
+    recording([7, 7], follow, answer=LIST, stores=[(5, 17), (0, 1)])
+    recording([7], follow, answer=ROOM, room=88, stores=[(5, 17), (87, 0)])
+    recording(range(33), follow, answer=LIST, room=MOST_ROOM, stores=[(2899, 0)])
+
+
+# Document 01's own samples.
+
+
+def samples():
+    recording(
+        [7],
+        [
+            ([0x140F0005, 7, 0xABCDEF12, 0x30000000, 0], (1, 0, 0)),
+            ([0x14020005, 7, 0, 0, 0], (1, 0, 2)),
+        ],
+        room=89,
+        after={0: 1, 1: 7, 2: 0, 3: 2, 4: 2, 5: 3, 6: 0, 7: 0, 8: 0},
+    )
+    recording(
+        [7],
+        [(short_packet(1, 7, 14), (1, 0, 0)), (short_packet(1, 7, 2), (1, 0, 3))],
+        after={3: 2, 4: 3, 5: 3},
+    )
+    recording(
+        [7],
+        [(short_packet(1, 7, 2), (1, 0, 0)), (short_packet(1, 7, 2), (1, 0, 15))],
+        after={3: 2, 4: 15, 5: 3},
+    )
+    # "Indicator 0x21200000 then asks 5 words."
+    recording(
+        [7],
+        [([0x4065000B, 7, 100, 0, 200, 0x21200000, 0, 1, 2, 0, 3], (4, 0, 0))],
+        after={2: 0x21200000, 9: 1, 10: 0, 11: 6, 16: 0, 17: 1, 26: 2, 29: 0, 30: 3},
+    )
+    # No packets.
+    recording([7], room=89, after={0: 1, 1: 7})
+
+
+# The counts.
+
+
+def every_pair():
+    """The counts 0 to 15 so that each follows each, itself too, once."""
+    order = []
+    for first in range(16):
+        order.append(first)
+        for second in range(first + 1, 16):
+            order += [first, second]
+    return order + order[:1]
+
+
+def gaps():
+    """Each type with each count after each, in one recording for each type."""
+    order = every_pair()
+    for turn, kind in enumerate(COUNTED):
+        # Another place of the circle to begin with for each type.
+        start = 61 * turn
+        circle = order[start:-1] + order[:start]
+        circle.append(circle[0])
+        packets = []
+        total = 0
+        for place, count in enumerate(circle):
+            missing = gap(circle[place - 1], count) if place else 0
+            total += missing
+            packets.append((short_packet(kind, 7, count), (kind, 0, missing)))
+        recording(
+            [7], packets, room=89,
+            after=at_places(count_place(kind), [257, total, circle[-1] + 1]),
+        )
+
+
+def first_counts():
+    """Each type's first packet at each count, in a stream of its own."""
+    packets = [
+        (short_packet(kind, 0x80 + count, count), (kind, count, 0))
+        for count in range(16)
+        for kind in COUNTED
+    ]
+    packets += [
+        (short_packet(kind, 0x80 + count, count), (kind, count, 15))
+        for count in range(15, -1, -1)
+        for kind in COUNTED
+    ]
+    after = {}
+    for count in range(16):
+        for kind in COUNTED:
+            after.update(at_places(count_place(kind, count), [2, 15, count + 1]))
+    recording(range(0x80, 0x90), packets, after=after)
+
+
+def wraps():
+    for kind in COUNTED:
+        # 14, 15, 0, 1: nothing is missing.
+        packets = [
+            (short_packet(kind, 7, count), (kind, 0, 0)) for count in (13, 14, 15, 0, 1, 2)
+        ]
+        # Round and round.
+        packets += [(short_packet(kind, 7, n % 16), (kind, 0, 0)) for n in range(3, 40)]
+        # Over the end with 1, 7 and 14 missing, and one back.
+        for last, count, missing in ((7, 9, 1), (9, 1, 7), (1, 0, 14), (0, 15, 14), (15, 0, 0)):
+            packets.append((short_packet(kind, 7, count), (kind, 0, missing)))
+        recording(
+            [7], packets, after=at_places(count_place(kind), [len(packets), 36, 1])
+        )
+
+
+def counted_apart():
+    # One stream, the types in turn, each with its own counts.
+    packets = []
+    for turn in range(6):
+        for kind, first, step in ((1, 3, 1), (3, 15, 2), (4, 8, 3), (5, 0, 16)):
+            count = (first + turn * step) % 16
+            packets.append((short_packet(kind, 7, count), (kind, 0, (step - 1) if turn else 0)))
+    recording(
+        [7], packets,
+        after={
+            **at_places(count_place(1), [6, 0, 9]),
+            **at_places(count_place(3), [6, 5, 10]),
+            **at_places(count_place(4), [6, 10, 8]),
+            **at_places(count_place(5), [6, 75, 1]),
+        },
+    )
+    # Each two types, in turn with the same counts.
+    for first in COUNTED:
+        for second in COUNTED:
+            if first != second:
+                packets = []
+                for count in (4, 5, 6, 9):
+                    missing = 2 if count == 9 else 0
+                    packets.append((short_packet(first, 7, count), (first, 0, missing)))
+                    packets.append((short_packet(second, 7, count), (second, 0, missing)))
+                after = {**at_places(count_place(first), [4, 2, 10])}
+                after.update(at_places(count_place(second), [4, 2, 10]))
+                recording([7], packets, after=after)
+    # Three streams in turn with the same counts, the second not at all.
+    packets = []
+    for count in (1, 2, 3, 3):
+        missing = 15 if len(packets) == 6 else 0
+        packets.append((short_packet(1, 0x21, count), (1, 0, missing)))
+        packets.append((short_packet(1, 0x23, count), (1, 2, missing)))
+    after = {**at_places(count_place(1), [4, 15, 4])}
+    after.update(at_places(count_place(1, 2), [4, 15, 4]))
+    after.update(at_places(record_place(1), [0x22] + [0] * 87))
+    recording([0x21, 0x22, 0x23], packets, after=after)
+
+
+def many_missing():
+    """Missing of more than one turn of the counts, and more than a byte."""
+    packets = [(short_packet(3, 7, 9), (3, 0, 0))]
+    packets += [(short_packet(3, 7, 9), (3, 0, 15))] * 40
+    recording([7], packets, after=at_places(count_place(3), [41, 600, 10]))
+
+
+# Words that are near 2^32.
+
+
+def past_2_32():
+    for kind in COUNTED:
+        place = count_place(kind)
+        for seen, missing, last, count, after in (
+            (ONES, 0, 3, 4, [0, 0, 5]),
+            (ONES, ONES, 3, 4, [0, ONES, 5]),
+            (ONES - 1, ONES, 3, 5, [ONES, 0, 6]),
+            (5, ONES - 14, 2, 2, [6, 0, 3]),
+            (5, ONES - 15, 2, 2, [6, ONES, 3]),
+            (5, ONES - 7, 14, 2, [6, ONES - 4, 3]),
+            (5, ONES - 2, 14, 2, [6, 0, 3]),
+            (5, ONES, 15, 15, [6, 14, 16]),
+            (ONES, ONES, 15, 15, [0, 14, 16]),
+            (1 << 31, 1 << 31, 15, 0, [(1 << 31) + 1, 1 << 31, 1]),
+            ((1 << 31) - 1, (1 << 31) - 1, 0, 2, [1 << 31, 1 << 31, 3]),
+        ):
+            recording(
+                [7],
+                [(short_packet(kind, 7, count), (kind, 0, gap(last, count)))],
+                stores=at_places(place, [seen, missing, last + 1]),
+                after=at_places(place, after),
+            )
+        # A started count that has seen 0 goes on as any other.
+        recording(
+            [7],
+            [
+                (short_packet(kind, 7, 3), (kind, 0, 15)),
+                (short_packet(kind, 7, 5), (kind, 0, 1)),
+            ],
+            stores=at_places(place, [0, 0, 4]),
+            after=at_places(place, [2, 16, 6]),
+        )
+        # Seen passes 2^32, and the next packet is not the first.
+        recording(
+            [7],
+            [
+                (short_packet(kind, 7, 9), (kind, 0, 0)),
+                (short_packet(kind, 7, 9), (kind, 0, 15)),
+                (short_packet(kind, 7, 8), (kind, 0, 14)),
+            ],
+            stores=at_places(place, [ONES, ONES - 20, 9]),
+            after=at_places(place, [2, 8, 9]),
+        )
+
+
+# The fields that are held.
+
+
+def other(bit):
+    """Words of a field that differ in each word from those of plain, its rule
+    kept."""
+    n = SIZES[bit]
+    if bit == 15:
+        return [format_word(code=1, packing=12, item=12), 0x00030004]
+    if bit == 16:
+        return [0x00010011]
+    if bit == 17:
+        return [0x00FFFFFF, 0x0000FFFF]
+    if bit in (24, 18):
+        return [0xFFFF]
+    if bit in (29, 21):
+        return [0x7FFFFFFF, ONES]
+    return [ONES - i for i in range(n)]
+
+
+def each_field():
+    for bit, n in FIXED:
+        place = slot_place(bit)
+        words, others = plain(bit, n), other(bit)
+        beside = 22 if bit == 23 else 23
+        extra = slot_place(beside)
+        held = context(1 << bit, words, identifier=7)
+        again = context(1 << bit, others, identifier=7, count=1)
+        without = context(1 << beside, [0xFEED], identifier=7, count=2)
+        indicator = {indicator_place(): 1 << bit}
+        both = {indicator_place(): 1 << bit | 1 << beside, extra: 0xFEED}
+        # Held.
+        recording([7], [(held, (4, 0, 0))], after={**indicator, **at_places(place, words)})
+        # Held in the second of two streams, and not in the first.
+        second = context(1 << bit, others, identifier=8, count=15)
+        recording(
+            [7, 8], [(second, (4, 1, 0))],
+            after={
+                indicator_place(0): 0, indicator_place(1): 1 << bit,
+                **at_places(place, [0] * n), **at_places(slot_place(bit, 1), others),
+            },
+        )
+        # Replaced, then kept when others are carried, or none.
+        empty = context(0, identifier=7, count=3)
+        changed = context(1 << 31, identifier=7, count=4)
+        recording(
+            [7],
+            [(held, (4, 0, 0)), (again, (4, 0, 0)), (without, (4, 0, 0)), (empty, (4, 0, 0)),
+             (changed, (4, 0, 0))],
+            after={**both, **at_places(place, others)},
+        )
+        # Replaced by zeros and by the first words again: zero words may be held.
+        if bit != 15:
+            zero = context(1 << bit, [0] * n, identifier=7, count=2)
+            recording(
+                [7], [(again, (4, 0, 0)), (zero, (4, 0, 0))],
+                after={**indicator, **at_places(place, [0] * n)},
+            )
+        # Each word of a field of more words replaced: only the last one differs.
+        if n > 1 and bit not in (17, 15):
+            last = context(1 << bit, words[:-1] + [0x55], identifier=7, count=1)
+            recording(
+                [7], [(held, (4, 0, 0)), (last, (4, 0, 0))],
+                after={**indicator, **at_places(place, words[:-1] + [0x55])},
+            )
+        # Not held by a packet of another type that has the same words.
+        packets = [(held, (4, 0, 0))]
+        for kind in (1, 3, 5):
+            packets.append((packet(kind, [1 << bit, *others], identifier=7), (kind, 0, 0)))
+        recording([7], packets, after={**indicator, **at_places(place, words)})
+        # Every field but this one.
+        rest = [word for b, size in FIXED if b != bit for word in other(b)]
+        all_but = context(FIXED_BITS ^ 1 << bit, rest, identifier=7, count=7)
+        recording(
+            [7], [(all_but, (4, 0, 0))],
+            after={indicator_place(): FIXED_BITS ^ 1 << bit, **at_places(place, [0] * n)},
+        )
+        recording(
+            [7], [(held, (4, 0, 0)), (all_but, (4, 0, 6))],
+            after={indicator_place(): FIXED_BITS, **at_places(place, words)},
+        )
+
+
+def all_fields():
+    others = [word for bit, _ in FIXED for word in other(bit)]
+    tail = [0x00ABCDEF, 1, 7] + lists_of(0, 2) + [8, 9]
+    slots = record_place(0) + 14
+    for indicator, words in (
+        (FIXED_BITS, all_fixed()),
+        (1 << 31 | FIXED_BITS, all_fixed()),
+        (FIXED_BITS | 3 << 8, all_fixed() + tail),
+        (ONES - 0xFF, all_fixed() + tail),
+    ):
+        first = context(indicator, words, identifier=7)
+        recording(
+            [7], [(first, (4, 0, 0))], room=89,
+            after={indicator_place(): FIXED_BITS, **at_places(slots, all_fixed())},
+        )
+        second = context(FIXED_BITS, others, identifier=7, count=1)
+        recording(
+            [7], [(first, (4, 0, 0)), (second, (4, 0, 0))],
+            after={indicator_place(): FIXED_BITS, **at_places(slots, others)},
+        )
+    # One field after another until all are held.
+    for order in (FIXED, FIXED[::-1]):
+        packets = [
+            (context(1 << bit, other(bit), identifier=7, count=i % 16), (4, 0, 0))
+            for i, (bit, _) in enumerate(order)
+        ]
+        recording(
+            [7], packets,
+            after={indicator_place(): FIXED_BITS, **at_places(slots, others)},
+        )
+
+
+def not_held():
+    """Fields 9 and 8, and bit 31."""
+    ascii_words = [0x00ABCDEF, 3, 0x24475047, ONES, 1]
+    list_words = lists_of(1, 1, 1, 1, 1) + counted(5, 0x111)
+    before = (context(1 << 30 | 1 << 10, [5, 6], identifier=7), (4, 0, 0))
+    for changed in (0, 1 << 31):
+        for choice, words in (
+            (0, []),
+            (1 << 9, ascii_words),
+            (1 << 9, [0, 0]),
+            (1 << 8, list_words),
+            (1 << 8, [0, 0]),
+            (3 << 8, ascii_words + list_words),
+        ):
+            alone = context(changed | choice, words, identifier=7)
+            recording(
+                [7], [(alone, (4, 0, 0))],
+                after={indicator_place(): 0, **at_places(slot_place(30), [0] * 74)},
+            )
+            again = context(changed | choice, words, identifier=7, count=1)
+            recording(
+                [7], [before, (again, (4, 0, 0))],
+                after={
+                    indicator_place(): 1 << 30 | 1 << 10, slot_place(30): 5, slot_place(10): 6,
+                },
+            )
+            ten = context(changed | 1 << 10 | choice, [0xAAAA, *words], identifier=7, count=1)
+            recording(
+                [7], [before, (ten, (4, 0, 0))],
+                after={
+                    indicator_place(): 1 << 30 | 1 << 10, slot_place(30): 5,
+                    slot_place(10): 0xAAAA,
+                },
+            )
+
+
+def other_parts():
+    """A Context packet with every choice of optional parts, and words beyond its
+    size."""
+    packets = []
+    for choice in range(16):
+        c, m, seconds, fraction = (choice >> i & 1 for i in (3, 2, 1, 0))
+        words = context(
+            1 << 29 | 1 << 18, [choice, 0x100 + choice, 0x200 + choice], identifier=9, c=c, m=m,
+            tsi=(1 + choice % 3) * seconds, tsf=(1 + choice // 3 % 3) * fraction, count=choice,
+        )
+        packets.append((words + [ONES] * (choice % 4), (4, 1, 0)))
+        after = {
+            indicator_place(1): 1 << 29 | 1 << 18, slot_place(18, 1): 0x200 + choice,
+            **at_places(slot_place(29, 1), [choice, 0x100 + choice]),
+        }
+        recording([8, 9], packets[-1:], after=after)
+    recording([8, 9], packets, after=after)
+    for kind in (1, 3):
+        words = packet(
+            kind, counted(5), identifier=9, c=1, t=1, tsi=3, tsf=2, count=12, trailer=ONES,
+        )
+        recording(
+            [8, 9], [(words, (kind, 1, 0)), (words + [7] * 9, (kind, 1, 15))],
+            after=at_places(count_place(kind, 1), [2, 15, 13]),
+        )
+
+
+def long_packets():
+    recording(
+        [8, 9],
+        [
+            (packet(1, counted(2046), identifier=9, count=4), (1, 1, 0)),
+            (context(3 << 9, [5, 0, 700] + counted(700), identifier=9), (4, 1, 0)),
+            (packet(1, counted(254), identifier=9, count=5), (1, 1, 0)),
+            (packet(1, counted(253), identifier=9, count=6), (1, 1, 0)),
+        ],
+        after={indicator_place(1): 1 << 10, slot_place(10, 1): 5},
+    )
+
+
+# Packets that are refused.
+
+
+def refused_packets(identifier, count=5):
+    """For each refusal of reading, packets that it alone applies to, but for
+    STREAM if the identifier is not declared."""
+    given = dict(identifier=identifier, count=count)
+    return [
+        ([], EMPTY),
+        (packet(6, [identifier, 1], count=count), TYPE),
+        (packet(15, [identifier, 0], count=count), TYPE),
+        (packet(1, [1], reserved=1 << 25, **given), BITS),
+        (packet(4, [0], reserved=1 << 26, **given), BITS),
+        ([0x10000001 | count << 16, identifier], SHORT),
+        ([0x40000002 | count << 16, identifier, 0], SHORT),
+        (packet(3, counted(3), **given)[:-1], CUT),
+        (context(1 << 30, [5], **given)[:-1], CUT),
+        (packet(1, [1], c=1, oui=1 << 24, **given), CLASS),
+        (packet(5, [1], c=1, oui=1 << 31, **given), CLASS),
+        (packet(1, [1], tsf=2, fraction=TERA, **given), TIME),
+        (context(1 << 30, [5], tsf=2, fraction=TERA, **given), TIME),
+        (context(0x00000001, **given), INDICATOR),
+        (context(1 << 30 | 0x80, [5], **given), INDICATOR),
+        (context(1 << 30, **given), LAYOUT),
+        (context(1 << 30, [5, 6], **given), LAYOUT),
+        (context(1 << 30 | 1 << 24, [5, 0x10000], **given), FIELD),
+        (context(1 << 30 | 1 << 15, [5, ONES, 0], **given), FIELD),
+        (context(1 << 30 | 1 << 9, [5, 1 << 24, 0], **given), FIELD),
+        (context(1 << 30 | 1 << 8, [5, 1 << 9, 0], **given), FIELD),
+    ]
+
+
+def no_stream_packets(identifier, count=5):
+    """Packets that STREAM alone applies to; the identifier is not declared.  In
+    types 0 and 2 the word after the header is no identifier, whatever it is."""
+    return [
+        (packet(0, [7, 7], count=count), STREAM),
+        (packet(2, [7, 7], count=count), STREAM),
+        (packet(0, [], count=count), STREAM),
+        (packet(2, [], count=count), STREAM),
+        (packet(0, [7], c=1, t=1, tsi=1, tsf=2, count=count, trailer=7), STREAM),
+        *[(short_packet(kind, identifier, count), STREAM) for kind in COUNTED],
+        (context(1 << 30, [5], identifier=identifier, count=count), STREAM),
+    ]
+
+
+def refusals():
+    begin = [
+        (short_packet(1, 7, 3), (1, 0, 0)),
+        (short_packet(3, 7, 3), (3, 0, 0)),
+        (context(1 << 30, [0xF1E1D], identifier=7, count=3), (4, 0, 0)),
+        (short_packet(5, 7, 3), (5, 0, 0)),
+    ]
+    # Their counts would be missing had a refused packet been counted.
+    end = [(short_packet(kind, 7, 4), (kind, 0, 0)) for kind in COUNTED]
+    after = {indicator_place(): 1 << 30, slot_place(30): 0xF1E1D}
+    for kind in COUNTED:
+        after.update(at_places(count_place(kind), [2, 0, 5]))
+    # Each alone, and all of them; as the first packet too.
+    every = refused_packets(7) + no_stream_packets(8)
+    for one in every:
+        recording([7], begin + [one] + end, after=after)
+    recording([7], begin + every + end, after=after)
+    fresh = {0: 1, **at_places(1, [7] + [0] * 87)}
+    recording([7], every, after=fresh)
+    # The refusals of reading before STREAM.
+    undeclared = refused_packets(8)
+    recording([7], undeclared, after=fresh)
+    for words, number in undeclared:
+        if words:
+            both_faults.add((number, STREAM))
+    no_identifier = [
+        (packet(0, [7], reserved=1 << 24), BITS),
+        ([0x04000001], SHORT),
+        (packet(2, [7, 7])[:-1], CUT),
+        (packet(0, [7], c=1, oui=1 << 24), CLASS),
+        (packet(2, [], tsf=2, fraction=TERA), TIME),
+    ]
+    recording([7], no_identifier, after=fresh)
+    # No identifier reads as zero, which may be declared.
+    recording(
+        [0], no_stream_packets(8) + [(short_packet(1, 0, 5), (1, 0, 0))],
+        after=at_places(count_place(1), [1, 0, 6]),
+    )
+    # Identifiers beside those that are declared.
+    near = [0x10, 0x12, 0x80000011, 0x00110000, 0x11000000, 0, ONES, 1, 2, 3]
+    recording(
+        [0x11, 0x13],
+        [(short_packet(kind, identifier, 0), STREAM) for identifier in near for kind in COUNTED],
+        after={2: 0, 3: 0, 90: 0, 91: 0},
+    )
+    # The first and the last of the list, and one past it in memory.
+    ids = [0x20 + i for i in range(32)]
+    recording(
+        ids,
+        [
+            (short_packet(1, 0x20, 1), (1, 0, 0)),
+            (short_packet(1, 0x3F, 1), (1, 31, 0)),
+            (short_packet(1, 0x40, 1), STREAM),
+            (short_packet(1, PATTERN, 1), STREAM),
+            (short_packet(1, 0x30, 1), (1, 16, 0)),
+        ],
+    )
+
+
+# Tables that are not well made, and their neighbours that are.
+
+
+START_4 = {count_place(4) + 2: 1}
+
+
+def probes(identifier):
+    """Packets that a well-made table plays, and each refusal; a table that is
+    not well made answers TABLE to all of them."""
+    return [
+        short_packet(1, identifier, 0),
+        context(FIXED_BITS, all_fixed(), identifier=identifier),
+        *[words for words, _ in refused_packets(identifier)[::5]],
+        short_packet(3, 0x0BADBAD0, 0),
+        packet(0, [identifier]),
+    ]
+
+
+def not_made(stores, *broken, ids=(7,), probe=None, **rest):
+    """A table that breaks these rules."""
+    words = probes(ids[-1] if probe is None else probe)
+    # All the probes in every eighth recording, two of them in the others.
+    turn = len(recordings)
+    if turn % 8:
+        words = [words[turn % 2], words[turn % len(words)]]
+    recording(
+        ids, [(one, TABLE) for one in words], stores=stores, broken=broken,
+        after=dict(stores), **rest,
+    )
+
+
+def neighbour(stores, beside, ids=(7,), stream=0, **rest):
+    """A table just within the rule that a neighbour breaks; a packet of each type
+    is played into one of its streams."""
+    packets = []
+    for kind in COUNTED:
+        last = dict(stores).get(count_place(kind, stream) + 2, 0)
+        missing = gap(last - 1, 6) if last else 0
+        packets.append((short_packet(kind, ids[stream], 6), (kind, stream, missing)))
+    recording(ids, packets, stores=stores, beside=beside, **rest)
+
+
+def every_refusal_after_table():
+    """TABLE before each refusal that there is."""
+    packets = refused_packets(7) + no_stream_packets(8)
+    stores = {count_place(5) + 2: 17}
+    recording(
+        [7], [(words, TABLE) for words, _ in packets], stores=stores, broken=("last",),
+        after=stores,
+    )
+    for _, number in packets:
+        both_faults.add((TABLE, number))
+
+
+def wrong_numbers():
+    not_made({0: 0}, "number")
+    not_made({0: 0}, "number", ids=(7, 8, 9))
+    # 33 records do not fit into 2,900 words, so two rules are broken.
+    for number in (33, 34, 64, 1 << 16, 1 << 31, ONES):
+        not_made({0: number}, "layout", "number", ids=(7, 8))
+    not_made({0: 33}, "layout", "number", ids=range(32), room=MOST_ROOM)
+    # Lengths that come out right if they wrap at 2^32, or a number of which only
+    # the lowest bits are looked at.
+    for number in (
+        1 << 29, (1 << 29) + 1, (1 << 29) + 2, 3 << 29, 0x101, 0x10001, (1 << 31) + 1,
+    ):
+        not_made({0: number}, "layout", "number")
+    # A smaller number, the words past its records being what they may.
+    neighbour({0: 1}, "number", ids=(7, 8))
+    neighbour({0: 2}, "number", ids=(7, 8, 9), stream=1)
+    neighbour({0: 31}, "number", ids=range(32), stream=30)
+    wild = {0: 1, **at_places(89, [7, ONES, 1, 2, 0, 5, 6, 17])}
+    neighbour(wild, "number", ids=(7, 8))
+    recording(
+        [7, 8], [(short_packet(1, 8, 6), STREAM), (short_packet(1, 7, 6), (1, 0, 0))],
+        stores=wild, beside="layout", after=wild,
+    )
+
+
+def wrong_layouts():
+    # Two records where the words of one are, and then those of both but one.
+    not_made({0: 2}, "layout", room=89)
+    not_made({0: 32}, "layout")
+    zeros = at_places(89, [8] + [0] * 87)
+    short = {place: word for place, word in zeros.items() if place < 176}
+    not_made({0: 2, **short}, "layout", room=176)
+    neighbour({0: 2, **zeros}, "layout", room=177)
+    neighbour({0: 2, **zeros}, "layout", room=178)
+    recording(
+        [7], [(short_packet(1, 8, 6), (1, 1, 0)), (short_packet(1, 7, 6), (1, 0, 0))],
+        stores={0: 2, **zeros}, room=177, beside="layout",
+        after={0: 2, **at_places(91, [1, 0, 7])},
+    )
+    not_made({0: 3}, "layout", ids=(7, 8), room=264)
+    # The whole of a second record, but of words that were not stored.
+    not_made({0: 2}, "indicator", "unheld", "field", "last", room=177, probe=PATTERN)
+    neighbour({89: 7, 90: ONES}, "layout", room=177)
+
+
+def wrong_lists():
+    for ids, places in (
+        ((7, 8), (0, 1)), ((7, 8), (1, 0)), ((7, 8, 9), (0, 2)), ((7, 8, 9), (1, 2)),
+        ((0, 5), (1, 0)), ((7, 8, 9, 10), (0, 3)), ((ONES, 1), (1, 0)),
+    ):
+        to, source = places
+        not_made({record_place(to): ids[source]}, "identifiers", ids=ids)
+        for bit in (0, 31):
+            near = ids[source] ^ 1 << bit
+            if near not in ids:
+                gone = (short_packet(1, ids[to], 0), STREAM)
+                there = (short_packet(1, near, 3), (1, to, 0))
+                recording(
+                    ids, [gone, there], stores={record_place(to): near}, beside="identifiers"
+                )
+    not_made({record_place(31): 0}, "identifiers", ids=range(32))
+    not_made({record_place(30): 31}, "identifiers", ids=range(32))
+
+
+def wrong_indicators():
+    for bit in (31, *range(10)):
+        not_made({**START_4, indicator_place(): 1 << bit}, "indicator")
+    for bit in (31, 9, 8, 0):
+        # Among fields that are held, and with type 4 not started.
+        fields = at_places(slot_place(30), all_fixed())
+        stores = {**START_4, indicator_place(): FIXED_BITS | 1 << bit, **fields}
+        not_made(stores, "indicator")
+        not_made({indicator_place(): 1 << bit}, "indicator")
+        second = {indicator_place(1): 1 << bit, count_place(4, 1) + 2: 16}
+        not_made(second, "indicator", ids=(7, 8))
+    not_made({**START_4, indicator_place(): 0x800003FF}, "indicator")
+    for bit, _ in FIXED:
+        neighbour(
+            {**START_4, indicator_place(): 1 << bit, slot_place(bit): 0}, "indicator",
+            after={indicator_place(): 1 << bit},
+        )
+
+
+def wrong_unheld():
+    # Each word of each field.
+    for bit, n in FIXED:
+        for i in range(n):
+            word = (1, 1 << 31, ONES, PATTERN)[(bit + i) % 4]
+            not_made({**START_4, slot_place(bit) + i: word}, "unheld")
+    # Among all the others held.
+    fields = at_places(slot_place(30), all_fixed())
+    for bit, _ in FIXED:
+        stores = {**START_4, indicator_place(): FIXED_BITS ^ 1 << bit, **fields}
+        not_made(stores, "unheld")
+        without = {**stores, **at_places(slot_place(bit), [0] * SIZES[bit])}
+        neighbour(without, "unheld", after={slot_place(bit): 0})
+    # In other streams, and with type 4 not started.
+    for stream in range(3):
+        not_made({slot_place(10, stream): 1}, "unheld", ids=(7, 8, 9), probe=7)
+        not_made({slot_place(30, stream): 1 << 31}, "unheld", ids=(7, 8, 9), probe=9)
+    everything = {**START_4, indicator_place(): FIXED_BITS, **fields}
+    neighbour(everything, "unheld", after={indicator_place(): FIXED_BITS, **fields})
+    # Field 10's word is the layout's last; the word past it is free.
+    neighbour({89: 5}, "unheld", after={88: 0})
+
+
+# For each field with a rule, words that break it and words just within it.
+FIELD_EDGES = {
+    29: (
+        [[1 << 31, 0], [ONES, ONES]],
+        [[0x7FFFFFFF, ONES], [0, 1 << 31]],
+    ),
+    24: (
+        [[1 << place] for place in range(16, 32)] + [[0xFFFFFF80]],
+        [[0xFFFF], [0x8000]],
+    ),
+    21: (
+        [[1 << 31, 0], [ONES, 0]],
+        [[0x7FFFFFFF, ONES], [0, 1 << 31]],
+    ),
+    18: (
+        [[1 << place] for place in range(16, 32)] + [[0xFFFFFFE0]],
+        [[0xFFFF], [0x8000]],
+    ),
+    17: (
+        [[1 << place, 0] for place in range(24, 32)]
+        + [[0, 1 << place] for place in range(16, 32)],
+        [[0x00FFFFFF, 0xFFFF], [1 << 23, 1 << 15]],
+    ),
+    16: (
+        [[1 << place] for place in (23, 22, 21, 20, 11, 10, 9, 8)],
+        [[0xFF0FF0FF], [1 << 24 | 1 << 19], [1 << 12 | 1 << 7]],
+    ),
+    15: (
+        [[FORMAT | 1 << place, 0] for place in (12, 13, 14, 15)]
+        + [[format_word(complexity=3), 0]]
+        + [[format_word(code=code), 0] for code in (7, 8, 13, 23, 31)]
+        + [[format_word(code=14, packing=64, item=item), 0] for item in (31, 33)]
+        + [[format_word(code=15, packing=64, item=63), 0]]
+        + [[format_word(packing=16, item=17), 0]]
+        + [[format_word(packing=16, item=16, event=1), 0]]
+        + [[format_word(packing=16, item=16, channel=1), 0]]
+        + [[format_word(packing=64, item=43, event=7, channel=15), ONES]],
+        [[format_word(complexity=2, rest=1 << 31 | 1 << 23), ONES]]
+        + [[format_word(code=code), 0] for code in (6, 16, 22)]
+        + [[format_word(code=14, packing=32, item=32), 0]]
+        + [[format_word(code=15, packing=64, item=64), 0]]
+        + [[format_word(packing=16, item=15, event=1), 0]]
+        + [[format_word(packing=16, item=15, channel=1), 0]]
+        + [[format_word(packing=64, item=42, event=7, channel=15), 0], [0, 0]],
+    ),
+}
+
+
+def wrong_fields():
+    for bit, (wrong, right) in FIELD_EDGES.items():
+        held = {**START_4, indicator_place(): 1 << bit}
+        for words in wrong:
+            not_made({**held, **at_places(slot_place(bit), words)}, "field")
+        for words in right:
+            after = at_places(slot_place(bit), words)
+            neighbour({**held, **after}, "field", after=after)
+        # Among all the fields, in the second of two streams.
+        fields = at_places(slot_place(30, 1), all_fixed())
+        fields.update(at_places(slot_place(bit, 1), wrong[-1]))
+        stores = {count_place(4, 1) + 2: 16, indicator_place(1): FIXED_BITS, **fields}
+        not_made(stores, "field", ids=(7, 8), probe=7)
+    # Fields without a rule.
+    fields = {}
+    indicator = 0
+    for bit, n in FIXED:
+        if bit not in FIELD_EDGES:
+            indicator |= 1 << bit
+            fields.update(at_places(slot_place(bit), [ONES] * n))
+    neighbour({**START_4, indicator_place(): indicator, **fields}, "field", after=fields)
+
+
+def wrong_counts():
+    for kind in COUNTED:
+        place = count_place(kind)
+        # Not started.
+        for word in (1, 1 << 31, ONES):
+            not_made({place: word}, "not started")
+            not_made({place + 1: word}, "not started")
+        not_made({place: 1, place + 1: 1}, "not started")
+        # The other types have started.
+        others = {count_place(one) + 2: 16 for one in COUNTED if one != kind}
+        not_made({**others, place: 1}, "not started")
+        for seen, missing in ((0, 0), (1, 0), (0, 1), (ONES, ONES)):
+            neighbour(at_places(place, [seen, missing, 1]), "not started")
+        # The last count.
+        for last_plus_one in (17, 18, 32, 33, 256, 1 << 16, 1 << 31, ONES):
+            not_made({place + 2: last_plus_one}, "last")
+        not_made(at_places(place, [4, 5, 17]), "last")
+        for last_plus_one in range(1, 17):
+            neighbour(at_places(place, [4, 5, last_plus_one]), "last")
+        for stream in (0, 1, 2):
+            not_made({count_place(kind, stream) + 2: 17}, "last", ids=(7, 8, 9), probe=8)
+            not_made({count_place(kind, stream): 1}, "not started", ids=(7, 8, 9), probe=8)
+    not_made({count_place(5, 31) + 2: 17}, "last", ids=range(32), probe=0)
+
+
+def wrong_starts():
+    for bit, n in FIXED:
+        # The field's words zero, and not.
+        not_made({indicator_place(): 1 << bit}, "type 4")
+        not_made(
+            {indicator_place(): 1 << bit, **at_places(slot_place(bit), other(bit))}, "type 4"
+        )
+    fields = at_places(slot_place(30), all_fixed())
+    not_made({indicator_place(): FIXED_BITS, **fields}, "type 4")
+    # The other types have started, or type 4 of the other stream.
+    others = {count_place(kind) + 2: 5 for kind in (1, 3, 5)}
+    not_made({**others, indicator_place(): 1 << 10}, "type 4")
+    not_made({count_place(4, 1) + 2: 5, indicator_place(0): 1 << 10}, "type 4", ids=(7, 8))
+    not_made({count_place(4, 0) + 2: 5, indicator_place(1): 1 << 10}, "type 4", ids=(7, 8))
+    for last_plus_one in (1, 16):
+        stores = {count_place(4) + 2: last_plus_one, indicator_place(): FIXED_BITS, **fields}
+        neighbour(stores, "type 4", after={indicator_place(): FIXED_BITS, **fields})
+    # Type 4 has started and nothing is held.
+    neighbour(START_4, "type 4", after={indicator_place(): 0})
+    neighbour(
+        {count_place(4, 1) + 2: 5, indicator_place(1): 1 << 10}, "type 4", ids=(7, 8), stream=1
+    )
+
+
+# Pseudo-random recordings.
+
+
+def random_ids(numbers, n):
+    """Identifiers that are near to each other, or not."""
+    way = numbers.below(3)
+    found = []
+    while len(found) < n:
+        if way == 0:
+            one = numbers.word()
+        elif way == 1:
+            one = 0x40000000 + numbers.below(2 * n)
+        else:
+            one = numbers.below(64) << 26 | 7
+        if one not in found:
+            found.append(one)
+    return found
+
+
+def random_play(numbers, ids, chance):
+    """A packet of one of the streams, or one with no identifier; with a chance of
+    one in so many it is of another identifier, or damaged, or followed by other
+    words, and with a smaller one there are no words."""
+    if numbers.below(10 * chance) == 0:
+        return []
+    words = random_packet(numbers)
+    while words[0] >> 28 in (0, 2) and numbers.below(3):
+        words = random_packet(numbers)
+    if words[0] >> 28 in COUNTED:
+        words[1] = ids[numbers.below(len(ids))]
+        if numbers.below(chance) == 0:
+            words[1] ^= 1 << numbers.below(32)
+    if numbers.below(chance) == 0:
+        words = read_vectors.damaged(numbers, words)
+    if numbers.below(chance) == 0:
+        words = words + numbers.some(1 + numbers.below(3))
+    return words
+
+
+def random_recordings():
+    numbers = Numbers(4949)
+    for n in range(1, 33):
+        ids = random_ids(numbers, n)
+        packets = [(random_play(numbers, ids, 10), None) for _ in range(12 + 2 * n)]
+        recording(ids, packets, room=1 + 88 * n + numbers.below(3))
+    for _ in range(24):
+        n = 1 + numbers.below(4)
+        ids = random_ids(numbers, n)
+        packets = [(random_play(numbers, ids, 6), None) for _ in range(40)]
+        recording(ids, packets, room=1 + 88 * n + numbers.below(90))
+    # A stream as a receiver sends it: data in order with a loss now and then, and
+    # context of a few fields.
+    for _ in range(6):
+        identifier = numbers.word()
+        lasts = {}
+        packets = []
+        for _ in range(120):
+            kind = (1, 1, 1, 1, 1, 3, 4, 5)[numbers.below(8)]
+            lost = numbers.below(15) if numbers.below(8) == 0 else 0
+            last = lasts.get(kind)
+            count = numbers.below(16) if last is None else (last + 1 + lost) % 16
+            body = random_few(numbers) if kind == 4 else numbers.some(numbers.below(4))
+            words = packet(kind, body, identifier=identifier, count=count)
+            packets.append((words, (kind, 0, 0 if last is None else lost)))
+            lasts[kind] = count
+        recording([identifier], packets)
+    # Any well-made table to begin with, and one word of it changed.
+    for turn in range(60):
+        n = 1 + numbers.below(2)
+        ids = random_ids(numbers, n)
+        stores = random_stores(numbers, n)
+        if turn % 2:
+            place = numbers.below(1 + 88 * n)
+            word = (numbers.below(20), 1 << numbers.below(32), numbers.word())[numbers.below(3)]
+            stores[place] = word
+        packets = [(random_play(numbers, ids, 6), None) for _ in range(8)]
+        recording(ids, packets, stores=stores, broken=None if turn % 2 else ())
+
+
+def random_few(numbers):
+    """The body of a Context packet with a few fields."""
+    body = [0]
+    for bit, n in FIXED:
+        if n < 3 and numbers.below(6) == 0:
+            body[0] |= 1 << bit
+            body += random_field(numbers, bit, n)
+    return body
+
+
+def random_stores(numbers, n):
+    stores = {}
+    for stream in range(n):
+        for kind in COUNTED:
+            if numbers.below(4):
+                count = [numbers.word(), numbers.word(), 1 + numbers.below(16)]
+                stores.update(at_places(count_place(kind, stream), count))
+        if count_place(4, stream) in stores:
+            indicator = 0
+            for bit, size in FIXED:
+                if numbers.below(3) == 0:
+                    indicator |= 1 << bit
+                    words = random_field(numbers, bit, size)
+                    stores.update(at_places(slot_place(bit, stream), words))
+            stores[indicator_place(stream)] = indicator
+    return stores
+
+
+# The two files.
+
+
+def carried(words, found):
+    """The fields 30 to 10 that a packet carries, by bit."""
+    place = found.body + 1
+    fields = {}
+    for bit, n in FIXED:
+        if words[found.body] >> bit & 1:
+            fields[bit] = words[place : place + n]
+            place += n
+    return fields
+
+
+def check_together(k, before, after, played):
+    """The table's words at the end against the packets that were played, taken
+    together, each stream and type by itself."""
+    streams = before[0]
+    expected = list(before)
+    for stream in range(streams):
+        for kind in COUNTED:
+            place = count_place(kind, stream)
+            counts = [p.count for s, p, _ in played if s == stream and p.type == kind]
+            if not counts:
+                continue
+            if before[place + 2]:
+                steps = [before[place + 2] - 1, *counts]
+            else:
+                steps = counts
+            missing = sum(gap(last, count) for last, count in zip(steps, steps[1:]))
+            expected[place] = (before[place] + len(counts)) & ONES
+            expected[place + 1] = (before[place + 1] + missing) & ONES
+            expected[place + 2] = counts[-1] + 1
+        contexts = [carried(w, p) for s, p, w in played if s == stream and p.type == 4]
+        for bit, n in FIXED:
+            values = [fields[bit] for fields in contexts if bit in fields]
+            if values:
+                place = slot_place(bit, stream)
+                expected[place : place + n] = values[-1]
+                expected[indicator_place(stream)] |= 1 << bit
+    if after != expected:
+        sys.exit(f"recording {k} has a table that does not follow from its packets")
+
+
+class Coverage:
+    """What has been seen in the recordings, beside the number of each answer."""
+
+    def __init__(self):
+        self.tally = {}
+        self.streams = set()
+        self.starts = set()
+        self.firsts = set()
+        self.follows = set()
+        self.fields = set()
+        self.bits = set()
+        self.broken = {}
+        self.beside = {}
+        self.past_2_32 = set()
+        self.no_identifier = set()
+
+    def add(self, label):
+        self.tally[label] = self.tally.get(label, 0) + 1
+
+
+def note_played(cover, before, after, found, stream):
+    """What one packet that is played covers."""
+    place = count_place(found.type, stream)
+    last = before[place + 2]
+    if last == 0:
+        cover.firsts.add((found.type, found.count))
+    else:
+        cover.follows.add((found.type, last - 1, found.count))
+    if after[place] < before[place]:
+        cover.past_2_32.add((found.type, "seen"))
+    if after[place + 1] < before[place + 1]:
+        cover.past_2_32.add((found.type, "missing"))
+
+
+def note_fields(cover, before, after, words, found, stream):
+    indicator = words[found.body]
+    for bit in (31, 9, 8):
+        if indicator >> bit & 1:
+            cover.bits.add(bit)
+    if indicator & FIXED_BITS == FIXED_BITS:
+        cover.bits.add("all")
+    held = before[indicator_place(stream)]
+    for bit, n in FIXED:
+        place = slot_place(bit, stream)
+        old, new = before[place : place + n], after[place : place + n]
+        if indicator >> bit & 1:
+            if not held >> bit & 1:
+                cover.fields.add((bit, "held"))
+            elif all(one != two for one, two in zip(old, new)):
+                cover.fields.add((bit, "replaced"))
+        elif held >> bit & 1 and any(old):
+            cover.fields.add((bit, "kept"))
+        if after[indicator_place(stream)] >> bit & 1 and not any(new):
+            cover.fields.add((bit, "held and zero"))
+
+
+def of_recording(k, one, cover):
+    """The words of a recording in the input, and its lines."""
+    if one.room > MOST_ROOM or len(one.ids) > MOST_STREAMS:
+        sys.exit(f"recording {k} has a room or a list that is too large")
+    if len(one.stores) > MOST_STORES or len(one.packets) > MOST_PACKETS:
+        sys.exit(f"recording {k} has too many stores or packets")
+    if len({place for place, _ in one.stores}) != len(one.stores):
+        sys.exit(f"recording {k} stores twice at one place")
+    given = [one.room, len(one.ids), *one.ids, len(one.stores)]
+    for place, word in one.stores:
+        if place >= one.room:
+            sys.exit(f"recording {k} stores past its room")
+        given += [place, word]
+    given.append(len(one.packets))
+    for words, _ in one.packets:
+        if len(words) > MOST_WORDS:
+            sys.exit(f"recording {k} has a packet of over {MOST_WORDS} words")
+        given += [len(words), *words]
+    untouched = [PATTERN] * one.room
+    (answer, what), lent = table.start_lent(one.ids, untouched)
+    number = what if answer == "refused" else STARTED
+    if number != one.answer:
+        sys.exit(f"recording {k} is built for {one.answer}, the reference says {number}")
+    cover.starts.add((number, "S", len(one.ids)))
+    cover.starts.add((number, "room", one.room - (1 + 88 * len(one.ids))))
+    if number != STARTED:
+        if lent != untouched:
+            sys.exit(f"recording {k} is refused and has written")
+        cover.add(f"start refused {number}")
+        return given, [f"{k} refused {number}", f"  past {sum(lent) % 2**32}"]
+    cover.add("started")
+    length = what
+    if length != 1 + 88 * len(one.ids) or lent[length:] != untouched[length:]:
+        sys.exit(f"recording {k} has a layout of {length} words")
+    if table.broken_rules(lent) or sum(lent[:length]) != len(one.ids) + sum(one.ids):
+        sys.exit(f"recording {k} does not start well made, or not with zeros")
+    for place, word in one.stores:
+        lent[place] = word
+    broken = tuple(table.broken_rules(lent))
+    if one.broken is not None and broken != one.broken:
+        sys.exit(f"recording {k} is built to break {one.broken}, the reference says {broken}")
+    if broken:
+        cover.add("not well made")
+        cover.broken[broken] = cover.broken.get(broken, 0) + 1
+    else:
+        cover.streams.add(lent[0])
+        if one.beside is not None:
+            cover.beside[one.beside] = cover.beside.get(one.beside, 0) + 1
+    first = list(lent)
+    lines = [f"{k} started {length}"]
+    played = []
+    for j, (words, meant) in enumerate(one.packets):
+        before = lent
+        answer, lent = table.play_lent(before, words)
+        if answer[0] == "refused":
+            number = answer[1]
+            if lent != before:
+                sys.exit(f"recording {k} packet {j} is refused and has written")
+            if meant is not None and meant != number:
+                sys.exit(f"recording {k} packet {j} is meant for {meant}, not {number}")
+            cover.add(f"play refused {number}")
+            if number == STREAM:
+                cover.no_identifier.add(words[0] >> 28)
+            lines.append(f"  {j} refused {number}")
+            continue
+        _, size, kind, stream, missing = answer
+        if meant is not None and meant != (kind, stream, missing):
+            sys.exit(f"recording {k} packet {j} is meant for {meant}, not {answer}")
+        if not table.well_made(lent) or lent[0] != first[0] or size != words[0] & 0xFFFF:
+            sys.exit(f"recording {k} packet {j} has a wrong size or leaves a broken table")
+        found = vrt49.read(words)[1]
+        played.append((stream, found, words))
+        cover.add(f"played type {kind}")
+        note_played(cover, before, lent, found, stream)
+        if kind == 4:
+            note_fields(cover, before, lent, words, found, stream)
+        lines.append(f"  {j} type {kind} stream {stream} missing {missing} size {size}")
+    if broken and lent != first:
+        sys.exit(f"recording {k} has changed a table that is not well made")
+    if not broken:
+        check_together(k, first, lent, played)
+    for place, word in one.after.items():
+        if lent[place] != word:
+            sys.exit(f"recording {k} is meant to have {word} at {place}, not {lent[place]}")
+    lines.append("  table" + "".join(f" {word}" for word in lent[:length]))
+    lines.append(f"  past {sum(lent[length:]) % 2**32}")
+    return given, lines
+
+
+def build():
+    samples()
+    starts()
+    gaps()
+    first_counts()
+    wraps()
+    counted_apart()
+    many_missing()
+    past_2_32()
+    each_field()
+    all_fields()
+    not_held()
+    other_parts()
+    long_packets()
+    refusals()
+    every_refusal_after_table()
+    wrong_numbers()
+    wrong_layouts()
+    wrong_lists()
+    wrong_indicators()
+    wrong_unheld()
+    wrong_fields()
+    wrong_counts()
+    wrong_starts()
+    random_recordings()
+
+
+# Each answer, and the least number of its cases.
+LEAST = {
+    "started": 80,
+    f"start refused {LIST}": 12,
+    f"start refused {ROOM}": 12,
+    "not well made": 25,
+    **{f"played type {kind}": 300 for kind in COUNTED},
+    **{f"play refused {number}": 12 for number in (*READ_ORDER, STREAM, TABLE)},
+}
+
+RULES = [name for name, _ in table.RULES_OF_WORDS + table.RULES_OF_RECORDS]
+
+
+def fail(condition, message):
+    if condition:
+        sys.exit(message)
+
+
+def check(cover):
+    """The cases that there have to be."""
+    for label in cover.tally:
+        fail(label not in LEAST, f"{label}: not an answer that is asked for")
+    for label, n in LEAST.items():
+        found = cover.tally.get(label, 0)
+        fail(found < n, f"{label}: {found} cases, fewer than {n}")
+    # Where there are no words STREAM has nothing to apply to.
+    pairs = [(number, STREAM) for number in READ_ORDER if number != EMPTY]
+    pairs += [(TABLE, number) for number in (*READ_ORDER, STREAM)]
+    for wanted, found in (
+        ("streams", cover.streams == set(range(1, 33))),
+        ("first counts", len(cover.firsts) == 4 * 16),
+        ("counts after each other", len(cover.follows) == 4 * 256),
+        ("bits 31, 9, 8 and all fields", cover.bits == {31, 9, 8, "all"}),
+        ("seen and missing past 2^32", len(cover.past_2_32) == 4 * 2),
+        ("no stream by type", cover.no_identifier == set(range(6))),
+        ("pairs of faults", both_faults >= set(pairs)),
+    ):
+        fail(not found, f"{wanted}: not all of them are there")
+    for bit, _ in FIXED:
+        for what in ("held", "replaced", "kept", "held and zero"):
+            fail((bit, what) not in cover.fields, f"field {bit} is not {what}")
+    for edge in (
+        (LIST, "S", 0), (LIST, "S", 33), (LIST, "S", 40), (LIST, "S", 2), (LIST, "S", 32),
+        (STARTED, "S", 1), (STARTED, "S", 32), (ROOM, "S", 1), (ROOM, "S", 32),
+        (STARTED, "room", 0), (STARTED, "room", 1), (ROOM, "room", -1), (LIST, "room", -1),
+        (LIST, "room", 0),
+    ):
+        fail(edge not in cover.starts, f"no case at the edge {edge}")
+    for name in RULES:
+        fail(cover.broken.get((name,), 0) < 2, f"rule {name}: fewer than 2 break it alone")
+        fail(cover.beside.get(name, 0) < 2, f"rule {name}: fewer than 2 are beside it")
+
+
+def main():
+    if len(sys.argv) != 3:
+        sys.exit("usage: play_vectors.py INPUT EXPECTED")
+    build()
+    given = bytearray()
+    expected = []
+    cover = Coverage()
+    for k, one in enumerate(recordings):
+        words, lines = of_recording(k, one, cover)
+        for word in words:
+            given += word.to_bytes(4, "big")
+        expected += lines
+    check(cover)
+    text = "".join(line + "\n" for line in expected)
+    fail(len(given) > 600_000, f"the input has {len(given)} bytes, more than 600,000")
+    fail(len(text) > 1_000_000, f"the output has {len(text)} bytes, more than 1,000,000")
+    with open(sys.argv[1], "wb") as file:
+        file.write(given)
+    with open(sys.argv[2], "w", encoding="ascii", newline="\n") as file:
+        file.write(text)
+    for label in LEAST:
+        print(f"{label}: {cover.tally[label]}")
+    for name in RULES:
+        print(f"rule {name}: {cover.broken[(name,)]} broken, {cover.beside[name]} beside")
+    print(f"recordings {len(recordings)}")
+
+
+if __name__ == "__main__":
+    main()
