@@ -14,8 +14,10 @@ use Rattle.words.specs.Tests.{pick, both}
 use Rattle.words.specs.Word.{bits, has}
 use Rattle.words.specs.SetBits.{bitsOf, above}
 use Rattle.words.specs.Outcome.{accepted}
+use Rattle.words.specs.Part.{part}
 use Rattle.words.proofs.Cases.{passed, both-left, both-right, both-assoc}
 use Rattle.words.proofs.SetBitLaws.{bits-split}
+use Rattle.words.proofs.PartLaws.{part-is}
 use Rattle.fields.specs.Sizes.{sizeOf, sizesOf, wordsOf}
 use Rattle.fields.specs.Rules.{ruleOf}
 use Rattle.fields.specs.Layout.{spanOf, obeyed, carried, indicatorOf, bodyWords, placeOf, fieldOf, insideOf, foundOf, lowBitsSet, otherLength, ruleBroken, contextOf}
@@ -142,3 +144,10 @@ span-fixed b (x ∷ bs) ws h = fixed-step (ltb b x) b x (above b bs) ws h refl (
 pub place-fixed : (b : ℕ) (body : List ℕ) → 9 ≤ b → placeOf b body ≡ 1 + sizesOf (above b (carried (indicatorOf body)))
 unfolding placeOf
 place-fixed b body h = ap (λ (n : ℕ). 1 + n) (span-fixed b (carried (indicatorOf body)) (drop 1 body) h)
+
+-- and have the words of their rows
+pub field-fixed : (b : ℕ) (body : List ℕ) → 10 ≤ b → fieldOf b body ≡ part (1 + sizesOf (above b (carried (indicatorOf body)))) (sizeOf b) body
+unfolding fieldOf
+field-fixed b body h =
+    ap (λ (n : ℕ). take n (fromField b body)) (words-fixed b (fromField b body) h) ∙ sym (part-is (placeOf b body) (sizeOf b) body)
+    ∙ ap (λ (n : ℕ). part n (sizeOf b) body) (place-fixed b body (omega arith))

@@ -9,7 +9,7 @@ use lib.ListN.{length, drop}
 use lib.Seq.{drop-drop}
 use Rattle.words.specs.Tests.{both}
 use Rattle.words.specs.SetBits.{bitsOf}
-use Rattle.words.proofs.Cases.{both-assoc}
+use Rattle.words.proofs.Cases.{both-yes, both-assoc}
 use Rattle.words.proofs.SetBitLaws.{bits-trim, bits-few, bits-mod}
 use Rattle.fields.specs.Sizes.{wordsOf}
 use Rattle.fields.specs.Rules.{ruleOf}
@@ -67,11 +67,7 @@ walking-turn {bits} {n} {rest} {end} {i} {body} {kept} p b rest′ w kept′ ok 
       rules = rw all (both-assoc kept ok (obeyed more (drop (end + w) body)) ∙ ap (both kept) (sym obeys) ∙ p .rules);
     }
 
-both-true : (t : Bool) → t ≡ both t true
-both-true true = refl
-both-true false = refl
-
-none-left : (l : List ℕ) → length l ≤ 0 → l ≡ []
+pub none-left : (l : List ℕ) → length l ≤ 0 → l ≡ []
 none-left [] h = refl
 none-left (b ∷ l) h = absurd (omega arith)
 
@@ -80,7 +76,7 @@ pub walking-end : {bits n rest end i : ℕ} {body : List ℕ} {kept : Bool} → 
 unfolding spanOf obeyed
 walking-end {bits} {n} {rest} {end} {i} {body} {kept} p h =
     let e : bitsOf 32 rest ≡ [] = none-left (bitsOf 32 rest) (omega (arith, p .left)) in
-    (omega (arith, rw e at (p .span)), both-true kept ∙ rw e at (p .rules))
+    (omega (arith, rw e at (p .span)), sym (both-yes kept) ∙ rw e at (p .rules))
 
 -- ---- the walk over all fields of a body, whose indicator is w
 

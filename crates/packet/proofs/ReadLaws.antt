@@ -4,7 +4,7 @@ use mathlib.Core.Path.{_≡_, refl}
 use mathlib.Core.Bool.{false}
 use mathlib.Core.List.{List}
 use Prim.Native.Nat.{ℕ, zero, suc, _+_, _≤_, _<_}
-use native.Mathlib.Nat.{le-refl}
+use native.Mathlib.Nat.{le-refl, mod-lt}
 use native.Mathlib.Omega.{arith}
 use borrow.Author.Tests.{eq-eqb, ne-eqb, eqb-false, ltb-false}
 use lib.Dec.{eqb, ltb}
@@ -83,6 +83,11 @@ module _ (ws : List ℕ) (p : Packet) (e : readOf ws ≡ accepted p) where
   pub size-some : 1 ≤ p .size
   unfolding packetOf
   size-some = rw (← read-accepts ws p e .says) (read-room .header)
+
+  -- its count has four bits
+  pub count-small : p .parts .count < 16
+  unfolding packetOf partsOf
+  count-small = rw (← read-accepts ws p e .says) (mod-lt _ (omega arith))
 
   -- a type 4 body is as document 01 says: its layout and its rules hold
   pub body-context : p .parts .kind ≡ 4 → contextOf (part (p .body) (p .length) ws) ≡ accepted tt

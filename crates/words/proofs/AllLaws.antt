@@ -1,5 +1,5 @@
--- Laws of `all`: the start, a turn and the end of a loop that checks, and the readings at one number.
-use mathlib.Core.Path.{_≡_, refl}
+-- Laws of `all`: the start, a turn and the end of a loop that checks, and the readings at one number; and of `firstOf`, for a loop that looks for something.
+use mathlib.Core.Path.{_≡_, refl, sym, _∙_}
 use mathlib.Core.Bool.{Bool, true, false}
 use mathlib.Core.Logic.{⊎-elim}
 use mathlib.Core.List.{List}
@@ -7,11 +7,12 @@ use Prim.Native.Nat.{ℕ, zero, suc, _+_, _≤_, _<_}
 use native.Mathlib.Nat.{not-suc-le-zero}
 use native.Mathlib.Numerals.{add-one}
 use native.Mathlib.Omega.{arith}
-use borrow.Author.Tests.{eqb-true}
-use lib.Dec.{eqb}
+use borrow.Author.Tests.{eqb-true, lt-ltb, le-ltb}
+use lib.Dec.{eqb, ltb}
 use lib.ListN.{length, getD}
-use Rattle.words.specs.All.{all}
-use Rattle.words.proofs.Cases.{le-or-lt, both-left, both-right, both-no}
+use Rattle.words.specs.Tests.{pick}
+use Rattle.words.specs.All.{all, firstOf}
+use Rattle.words.proofs.Cases.{le-or-lt, true-is-false, both-left, both-right, both-no}
 
 -- ---- a loop's start, a turn that passes, its end; one that fails
 pub all-none : (f : ℕ → Bool) → all 0 f ≡ true
@@ -53,3 +54,44 @@ pub all-same : (f g : ℕ → Bool) (n : ℕ) → ((i : ℕ) → i < n → f i �
 unfolding all
 all-same f g zero h = refl
 all-same f g (suc n) h = rw (all-same f g n (λ i k. h i (omega arith)), h n (omega arith))
+
+-- ---- the first number that passes
+
+-- it is at most the bound, and passes where it is below
+pub record First (n : ℕ) (f : ℕ → Bool) (r : ℕ) : Type 0 where
+  pub most : r ≤ n
+  pub passes : r < n → f r ≡ true
+  pub before : (i : ℕ) → i < r → f i ≡ false
+
+first-step : (t : Bool) (n r : ℕ) (f : ℕ → Bool) → f n ≡ t → First n f r → First (suc n) f (pick (ltb r n) r (pick t n (suc n)))
+first-step t n r f e p =
+    ⊎-elim
+    (λ (h : n ≤ r).
+    let i : r ≡ n = omega (arith, p .most) in
+    rw (le-ltb r n h) (last t e (rw i at (p .before))))
+    (λ (h : r < n). rw (lt-ltb r n h) (record { most = omega arith; passes = λ g. p .passes h; before = p .before }))
+    (le-or-lt n r)
+  where
+    last : (t : Bool) → f n ≡ t → ((i : ℕ) → i < n → f i ≡ false) → First (suc n) f (pick t n (suc n))
+    last true e b = record { most = omega arith; passes = λ g. e; before = b }
+    last false e b = record {
+      most = omega arith;
+      passes = λ g. absurd (omega arith);
+      before = λ i g. ⊎-elim (λ (h : n ≤ i). let k : i ≡ n = omega arith in rw k e) (λ (h : i < n). b i h) (le-or-lt n i);
+    }
+
+pub first-is : (n : ℕ) (f : ℕ → Bool) → First n f (firstOf n f)
+unfolding firstOf
+first-is zero f = record { most = omega arith; passes = λ g. absurd (omega arith); before = λ i g. absurd (omega arith) }
+first-is (suc n) f = first-step (f n) n (firstOf n f) f refl (first-is n f)
+
+-- there is one such number
+pub first-one : (n r : ℕ) (f : ℕ → Bool) → First n f r → r ≡ firstOf n f
+first-one n r f p =
+    let q = first-is n f in
+    ⊎-elim
+    (λ (h : r ≤ firstOf n f).
+    ⊎-elim (λ (g : firstOf n f ≤ r). omega arith)
+    (λ (g : r < firstOf n f). absurd (true-is-false (sym (p .passes (omega (arith, q .most))) ∙ q .before r g))) (le-or-lt (firstOf n f) r))
+    (λ (h : firstOf n f < r). absurd (true-is-false (sym (q .passes (omega (arith, p .most))) ∙ p .before (firstOf n f) h)))
+    (le-or-lt r (firstOf n f))

@@ -6,9 +6,10 @@ use Prim.Native.Nat.{ℕ, zero, suc, _≤_, _<_, zero-le, suc-le-suc}
 use native.Mathlib.Nat.{le-refl}
 use native.Mathlib.Omega.{arith}
 use borrow.Author.Needs.{needs}
-use borrow.Author.Tests.{lt-ltb, le-ltb, le-leb, lt-leb, eq-eqb, ne-eqb}
+use borrow.Author.Tests.{lt-ltb, le-ltb, le-leb, lt-leb, eq-eqb, ne-eqb, eqb-true, eqb-false}
+use lib.Dec.{eqb}
 use Rattle.words.specs.Tests.{pick, when, both}
-use Rattle.words.specs.Outcome.{Outcome, refused, accepted, after}
+use Rattle.words.specs.Outcome.{Outcome, refused, accepted, after, onward}
 
 -- for `search`: `search cases` closes most returns of a function that goes by tests on numbers
 pub ruleset cases = (needs, eq-eqb, ne-eqb, lt-ltb, le-ltb, le-leb, lt-leb)
@@ -23,6 +24,9 @@ pub true-or-false : (t : Bool) → (t ≡ true) ⊎ (t ≡ false)
 true-or-false true = inl refl
 true-or-false false = inr refl
 
+pub same-or-not : (a b : ℕ) → (a ≡ b) ⊎ (a ≡ b → ⊥)
+same-or-not a b = ⊎-elim (λ e. inl (eqb-true a b e)) (λ e. inr (eqb-false a b e)) (true-or-false (eqb a b))
+
 pub true-is-false : true ≡ false → ⊥
 true-is-false e = let z : _≡_ {A = ℕ} 0 1 = cc in omega arith
 
@@ -34,6 +38,13 @@ both-left false b e = e
 pub both-right : (a b : Bool) → both a b ≡ true → b ≡ true
 both-right true b e = e
 both-right false b e = absurd (true-is-false (cc))
+
+pub both-true : (a b : Bool) → a ≡ true → b ≡ true → both a b ≡ true
+both-true a b e f = rw e f
+
+pub both-yes : (a : Bool) → both a true ≡ a
+both-yes true = refl
+both-yes false = refl
 
 pub both-no : (a : Bool) → both a false ≡ false
 both-no true = refl
@@ -64,6 +75,11 @@ module _ {A : Type 0} where
   pub after-same : {B : Type 0} (o : Outcome B) (r s : Outcome A) → ((b : B) → o ≡ accepted b → r ≡ s) → after o r ≡ after o s
   after-same (refused n) r s e = refl
   after-same (accepted b) r s e = e b refl
+
+  -- the answer before an accepted rest was accepted
+  pub onward-passed : {B : Type 0} (o : Outcome B) (rest : B → Outcome A) (a : A) → onward o rest ≡ accepted a → (b : B) × (o ≡ accepted b) × (rest b ≡ accepted a)
+  onward-passed (refused n) rest a e = let z : _≡_ {A = ℕ} 0 1 = cc in absurd (omega arith)
+  onward-passed (accepted b) rest a e = (b, refl, e)
 
   -- an accepted answer has one value
   pub accepted-same : {a b : A} → accepted a ≡ accepted b → a ≡ b

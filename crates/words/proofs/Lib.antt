@@ -6,6 +6,8 @@ pub mod Cases
 pub mod Once
 -- a word and its fields
 pub mod WordLaws
+-- words bit by bit: `&`, `|`, words that agree at every bit
+pub mod BitLaws
 -- set bits, leading zeros, counts of ones
 pub mod SetBitLaws
 -- parts of lists

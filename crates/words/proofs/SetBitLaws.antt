@@ -20,8 +20,17 @@ use Rattle.words.specs.Word.{has}
 use Rattle.words.specs.SetBits.{bitsOf, above}
 use Rattle.words.proofs.Cases.{le-or-lt}
 
+-- ---- one bit more
+pub bits-yes : (k n : ℕ) → has n k ≡ true → bitsOf (suc k) n ≡ k ∷ bitsOf k n
+unfolding bitsOf
+bits-yes k n e = rw e
+
+pub bits-no : (k n : ℕ) → has n k ≡ false → bitsOf (suc k) n ≡ bitsOf k n
+unfolding bitsOf
+bits-no k n e = rw e
+
 -- ---- bits that are not there
-has-above : (n k : ℕ) → n < 2 ^ k → has n k ≡ false
+pub has-above : (n k : ℕ) → n < 2 ^ k → has n k ≡ false
 has-above n k h = rw (div-eq-of-lt h)
 
 -- a number below 2 ^ j has no set bit from j up
@@ -56,6 +65,42 @@ bits-top k j n lt ge h =
     let less : n - 2 ^ j < 2 ^ j = omega (arith, rw pow-suc at h) in
     let same : bitsOf j n ≡ bitsOf j (n - 2 ^ j) = ap (bitsOf j) (omega arith) ∙ bits-low j 1 (n - 2 ^ j) in
     rw (bits-trim (suc j) k n lt h, one, same, bits-trim j k (n - 2 ^ j) (le-of-lt lt) less)
+
+-- the list as a loop finds it: its head is a set bit, none is set between the head and the bound, and the rest are the bits below the head
+pub record Head (k n b : ℕ) (l : List ℕ) : Type 0 where
+  pub low : b < k
+  pub set : has n b ≡ true
+  pub rest : l ≡ bitsOf b n
+  pub gap : (x : ℕ) → b < x → x < k → has n x ≡ false
+
+pub bits-head : (k n b : ℕ) (l : List ℕ) → bitsOf k n ≡ b ∷ l → Head k n b l
+unfolding bitsOf
+bits-head zero n b l e = let z : _≡_ {A = ℕ} 0 1 = cc in absurd (omega arith)
+bits-head (suc k) n b l e = head-step (has n k) refl e (bits-head k n b l)
+  where
+    head-step : (t : Bool) → has n k ≡ t → pick t (k ∷ bitsOf k n) (bitsOf k n) ≡ b ∷ l → (bitsOf k n ≡ b ∷ l → Head k n b l) → Head (suc k) n b l
+    head-step true s f lower =
+        let i : k ≡ b = cc in
+        let j : bitsOf k n ≡ l = cc in
+        rw (← i, ← j) (record { low = omega arith; set = s; rest = refl; gap = λ x g h. absurd (omega arith) })
+    head-step false s f lower =
+        let p = lower f in
+        record {
+          low = omega (arith, p .low);
+          set = p .set;
+          rest = p .rest;
+          gap = λ x g h. ⊎-elim (λ (q : k ≤ x). let i : x ≡ k = omega arith in rw i s) (λ (q : x < k). p .gap x g q) (le-or-lt k x);
+        }
+
+-- no bit is set below the bound where the list is empty
+pub bits-unset : (k n b : ℕ) → bitsOf k n ≡ [] → b < k → has n b ≡ false
+unfolding bitsOf
+bits-unset zero n b e h = absurd (omega arith)
+bits-unset (suc k) n b e h = unset-step (has n k) refl e (bits-unset k n b)
+  where
+    unset-step : (t : Bool) → has n k ≡ t → pick t (k ∷ bitsOf k n) (bitsOf k n) ≡ [] → (bitsOf k n ≡ [] → b < k → has n b ≡ false) → has n b ≡ false
+    unset-step true s f lower = let z : _≡_ {A = ℕ} 0 1 = cc in absurd (omega arith)
+    unset-step false s f lower = ⊎-elim (λ (q : k ≤ b). let i : b ≡ k = omega arith in rw i s) (λ (q : b < k). lower f q) (le-or-lt k b)
 
 -- what a program computes of a word n of k + 1 bits that is not 0: the place of its highest set bit, and the power of 2 there as a shift of 1
 module _ (k n : ℕ) (p : 0 < n) (h : n < 2 ^ suc k) where
@@ -110,7 +155,7 @@ bits-few (suc k) n = few-step (has n k) k (bitsOf k n) (bits-few k n)
 -- ---- those above a bit
 
 -- there are none among the bits up to it
-above-none : (b k n : ℕ) → k ≤ suc b → above b (bitsOf k n) ≡ []
+pub above-none : (b k n : ℕ) → k ≤ suc b → above b (bitsOf k n) ≡ []
 unfolding bitsOf above
 above-none b zero n h = refl
 above-none b (suc k) n h = pick-none (has n k) (le-ltb b k (le-of-suc-le-suc h)) (above-none b k n (omega arith))
@@ -120,10 +165,20 @@ above-none b (suc k) n h = pick-none (has n k) (le-ltb b k (le-of-suc-le-suc h))
     pick-none false e f = f
 
 -- a bit that stands above b is kept
-above-kept : (t : Bool) (b k : ℕ) (l : List ℕ) → b < k → above b (pick t (k ∷ l) l) ≡ pick t (k ∷ above b l) (above b l)
+pub above-kept : (t : Bool) (b k : ℕ) (l : List ℕ) → b < k → above b (pick t (k ∷ l) l) ≡ pick t (k ∷ above b l) (above b l)
 unfolding above
 above-kept true b k l h = rw (lt-ltb b k h)
 above-kept false b k l h = refl
+
+-- two numbers that agree above b have the same bits there
+pub above-agree : (k b n m : ℕ) → ((x : ℕ) → b < x → x < k → has n x ≡ has m x) → above b (bitsOf k n) ≡ above b (bitsOf k m)
+unfolding bitsOf above
+above-agree zero b n m e = refl
+above-agree (suc k) b n m e =
+    ⊎-elim (λ (h : k ≤ b). above-none b (suc k) n (omega arith) ∙ sym (above-none b (suc k) m (omega arith)))
+    (λ (h : b < k).
+    rw (above-kept (has n k) b k (bitsOf k n) h, above-kept (has m k) b k (bitsOf k m) h, e k h (omega arith), above-agree k b n m (λ x g l. e x g (omega arith))))
+    (le-or-lt k b)
 
 -- a set bit stands in the list after those above it and before those below it
 split-step : (t : Bool) (b k : ℕ) (l tail : List ℕ) → b < k → l ≡ above b l ++ tail → pick t (k ∷ l) l ≡ above b (pick t (k ∷ l) l) ++ tail

@@ -14,6 +14,16 @@ abbrev pub after : {A B : Type 0} → Outcome A → Outcome B → Outcome B
 after (refused n) rest = refused n
 after (accepted a) rest = rest
 
+-- an answer, and then the rest over its values
+abbrev pub onward : {A B : Type 0} → Outcome A → (A → Outcome B) → Outcome B
+onward (refused n) rest = refused n
+onward (accepted a) rest = rest a
+
+-- the number of a refusal, and 0 of an accepted answer
+abbrev pub numberOf : {A : Type 0} → Outcome A → ℕ
+numberOf (refused n) = n
+numberOf (accepted a) = 0
+
 -- what checks find, as an answer without values
 abbrev pub checked : Check → Outcome Unit
 checked Fine = accepted tt

@@ -1,0 +1,20 @@
+-- `power` meets its promise: a shift of 1 stays below 2 ^ 64.
+use borrow.Author.Needs.{needs}
+use mathlib.Core.Path.{_≡_, refl, ap, _∙_}
+use Prim.Native.Nat.{ℕ, _*_, _%_, _^_}
+use native.Mathlib.Nat.{one-mul, mod-eq-of-lt, le-of-suc-le-suc}
+use lib.Pow.{pow-pos, pow-lt, pow-mono}
+use Rattle.bitstream.proofs.inner.power.Statement.{statement}
+use Rattle.bitstream.proofs.inner.power.Tie as tie
+
+shl-result : tie.Need-shl-result
+shl-result c = search needs
+
+returns : tie.Need-returns
+returns c =
+    let n = c .args .n in
+    let e : 1 * 2 ^ n % 2 ^ 64 ≡ 2 ^ n = ap (λ (x : ℕ). x % 2 ^ 64) (one-mul (2 ^ n)) ∙ mod-eq-of-lt (pow-lt (c .pre)) in
+    rw e (refl, pow-pos n, pow-mono {i = n} {j = 63} (le-of-suc-le-suc (c .pre)))
+
+pub power-spec : {M : Type 1} → statement M
+power-spec = tie.close (tie.spec shl-result returns)

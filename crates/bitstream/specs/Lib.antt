@@ -1,0 +1,8 @@
+-- Streams of bits, in reading order.
+
+-- a stream of bits in digits of any width, and the numbers that its bits write
+pub mod Stream
+-- packing fields in words of which some bits carry them
+pub mod Carried
+-- a list whose first places are filled
+pub mod Filled

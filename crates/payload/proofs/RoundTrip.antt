@@ -1,0 +1,228 @@
+-- What is packed is unpacked again, and the other way, over the promises of the two public calls: once for every format, both packings, and every
+-- number of items. The idea: an accepted answer tells that every test passed (`said`), the tests of the other call then pass too, and fields and words
+-- come back by one regrouping of the stream (`field-back`, `word-back`).
+use mathlib.Core.Path.{_≡_, refl, sym, ap, _∙_}
+use mathlib.Core.Bool.{true, false}
+use mathlib.Core.List.{List}
+use Prim.Native.Nat.{ℕ, _+_, _-_, _*_, _%_, _^_, _≤_, _<_}
+use native.Mathlib.Nat.{mod-lt}
+use native.Mathlib.Omega.{arith}
+use lib.ListN.{length, getD, take}
+use lib.Seq.{getD-take, length-take-le}
+use lib.Dec.{ltb}
+use lib.Pow.{pow-pos, shr-lt}
+use borrow.Author.Tests.{lt-ltb, le-ltb, eq-eqb}
+use Rattle.words.specs.Outcome.{Outcome, refused, accepted, after, Done, saidOf, Meets}
+use Rattle.words.proofs.Cases.{accepted-same}
+use Rattle.words.proofs.AllLaws.{all-intro}
+use Rattle.fields.specs.Format.{eventSize, channelSize, itemSize, packingSize}
+use Rattle.bitstream.specs.Stream.{bit}
+use Rattle.bitstream.specs.Carried.{carried, fieldOf, wordOf}
+use Rattle.bitstream.specs.Filled.{filled}
+use Rattle.bitstream.proofs.SpanLaws.{below}
+use Rattle.bitstream.proofs.CarriedLaws.{field-back, word-back, enough}
+use Rattle.bitstream.proofs.FilledLaws.{filled-front, filled-at, filled-length}
+use Rattle.payload.specs.declared.format.Packing.{Packing}
+use Rattle.payload.specs.declared.unpacking.Unpacked.{Unpacked}
+use Rattle.payload.specs.declared.packing.Packed.{Packed}
+use Rattle.payload.specs.Format.{formatBad, carriedBits, packingOf, Legal}
+use Rattle.payload.specs.Count.{countBad, wordsFor}
+use Rattle.payload.specs.Field.{fieldIn, itemIn, eventIn, channelIn, unusedIn, fieldsOf, fitting}
+use Rattle.payload.specs.Unpack.{Buffers, unpacked, unpackCheck, unpackOf}
+use Rattle.payload.specs.Pack.{packed, packCheck, packOf}
+use Rattle.payload.specs.Answers.{unpackedPaper, packedPaper}
+use Rattle.payload.proofs.FormatLaws.{legal, carry-some, carry-most, field-some}
+use Rattle.payload.proofs.FieldLaws.{item-back, event-back, channel-back, made-below, made-back, fields-blank}
+use Rattle.payload.proofs.UnpackLaws.{UnpackPassed, unpack-passed}
+use Rattle.payload.proofs.PackLaws.{PackPassed, pack-passed, packable}
+
+-- ---- an accepted answer: the checks passed, and what the call says and leaves
+said : {A L : Type 0} (k : Outcome Unit) (d : Done A L) (a : A) → saidOf (after k (accepted d)) ≡ accepted a → (k ≡ accepted tt) × (d .says ≡ a)
+said (refused n) d a e = let z : _≡_ {A = ℕ} 0 1 = cc in absurd (omega arith)
+said (accepted u) d a e = (refl, accepted-same e)
+
+-- ---- the checks of each call, passed
+unpack-passes : (first second n m a b c : ℕ) → formatBad first second ≡ false → countBad first second n ≡ false → m ≡ wordsFor first n → n ≤ a → n ≤ b → n ≤ c
+    → unpackCheck first second n m a b c ≡ accepted tt
+unfolding unpackCheck
+unpack-passes first second n m a b c f k w ha hb hc = simp (f, k, eq-eqb m (wordsFor first n) w, le-ltb a n ha, le-ltb b n hb, le-ltb c n hc)
+
+fitting-is : (w n : ℕ) (l : List ℕ) → ((k : ℕ) → k < n → getD l k 0 < 2 ^ w) → fitting w n l ≡ true
+unfolding fitting
+fitting-is w n l h = all-intro (λ k. ltb (getD l k 0) (2 ^ w)) n (λ k q. lt-ltb (getD l k 0) (2 ^ w) (h k q))
+
+pack-passes : (first second : ℕ) (is es cs : List ℕ) (room : ℕ) → PackPassed first second is es cs room → packCheck first second is es cs room ≡ accepted tt
+unfolding packCheck
+pack-passes first second is es cs room p =
+    let n : ℕ = length is in
+    simp (
+      p .format,
+      p .count,
+      eq-eqb (length es) n (p .events .many),
+      eq-eqb (length cs) n (p .channels .many),
+      fitting-is (itemSize first) n is (p .items .each),
+      fitting-is (eventSize first) n es (p .events .each),
+      fitting-is (channelSize first) n cs (p .channels .each),
+      le-ltb room (wordsFor first n) (p .places),
+    )
+
+-- ---- packed, then unpacked
+module _ (first second : ℕ) (is es cs out : List ℕ) (p : PackPassed first second is es cs (length out)) where
+  abbrev n : ℕ
+  n = length is
+
+  abbrev m : ℕ
+  m = wordsFor first (length is)
+
+  abbrev P : Packing
+  P = packingOf first
+
+  abbrev words : List ℕ
+  words = take m (packed P n is es cs out)
+
+  packed-length : length (packed P n is es cs out) ≡ length out
+  packed-length = filled-length _ _ out
+
+  words-length : length words ≡ m
+  words-length = length-take-le m (packed P n is es cs out) (omega (arith, packed-length, p .places))
+
+  -- field k of the words is the field that was packed
+  pub field-packed : (k : ℕ) → k < n → fieldIn P words k ≡ fieldsOf P is es cs k
+  unfolding packingOf wordsFor
+  field-packed k l =
+      let q = packable first second is es cs (length out) p in
+      field-back (P .carry) (P .field) m n (fieldsOf P is es cs) words
+      (carry-some first) (enough (P .carry) (P .field) n (carry-some first))
+      (λ j h. getD-take m (packed P n is es cs out) j 0 h ∙ filled-at m _ out j h (p .places))
+      k l (made-below P (q .0 .legal) _ _ _ (p .events .each k l) (p .channels .each k l) (p .items .each k l))
+
+  -- and its parts
+  module _ (k : ℕ) (l : k < n) where
+    lawful : Legal P
+    lawful = legal first second (p .format)
+
+    pub item-packed : itemIn P (fieldIn P words k) ≡ getD is k 0
+    unfolding packingOf
+    item-packed = ap (itemIn P) (field-packed k l) ∙ item-back P lawful _ _ _ (p .events .each k l) (p .channels .each k l)
+
+    pub event-packed : eventIn P (fieldIn P words k) ≡ getD es k 0
+    unfolding packingOf
+    event-packed = ap (eventIn P) (field-packed k l) ∙ event-back P lawful _ _ _ (p .events .each k l) (p .channels .each k l)
+
+    pub channel-packed : channelIn P (fieldIn P words k) ≡ getD cs k 0
+    unfolding packingOf
+    channel-packed = ap (channelIn P) (field-packed k l) ∙ channel-back P lawful _ _ _ (p .events .each k l) (p .channels .each k l)
+
+-- What `pack` wrote, handed to `unpack` with room for as many, is accepted, and gives the items, the event tags and the channel tags back.
+pub pack-then-unpack : (first second : ℕ) (is es cs out out′ : List ℕ) (r : Packed) (w : ℕ) (b b′ : Buffers) (u : Unpacked)
+    → Meets packedPaper (packOf first second is es cs out) out r out′ → packedPaper r ≡ accepted w
+    → Meets unpackedPaper (unpackOf first second (length is) (take w out′) b) b u b′
+    → length is ≤ length (b .items) → length is ≤ length (b .events) → length is ≤ length (b .channels)
+    → (unpackedPaper u ≡ accepted (length is))
+    × (take (length is) (b′ .items) ≡ is)
+    × (take (length is) (b′ .events) ≡ es)
+    × (take (length is) (b′ .channels) ≡ cs)
+unfolding packOf unpackOf
+pack-then-unpack first second is es cs out out′ r w b b′ u p a q hi he hc =
+    let t = said (packCheck first second is es cs (length out)) _ w (sym (p .answer) ∙ a) in
+    let k : PackPassed first second is es cs (length out) = pack-passed first second is es cs (length out) (t .0) in
+    let m : ℕ = wordsFor first (length is) in
+    let e : take w out′ ≡ take m (packed (packingOf first) (length is) is es cs out) = rw (← (t .1)) (ap (take m) (p .buffer ∙ rw (t .0))) in
+    let l : length (take w out′) ≡ m = ap length e ∙ words-length first second is es cs out k in
+    let c = unpack-passes first second (length is) (length (take w out′)) (length (b .items)) (length (b .events)) (length (b .channels)) (k .format) (k .count) l hi he hc in
+    let left : b′ ≡ unpacked (packingOf first) (length is) (take w out′) b = q .buffer ∙ rw c in (
+      q .answer ∙ rw c,
+      ap (λ (x : Buffers). take (length is) (x .items)) left ∙ rw e (filled-front (length is) _ (b .items) is hi refl (item-packed first second is es cs out k)),
+      ap (λ (x : Buffers). take (length is) (x .events)) left ∙ rw e (filled-front (length is) _ (b .events) es he (k .events .many) (event-packed first second is es cs out k)),
+      ap (λ (x : Buffers). take (length is) (x .channels)) left ∙ rw e (filled-front (length is) _ (b .channels) cs hc (k .channels .many) (channel-packed first second is es cs out k)),
+    )
+
+-- ---- unpacked, then packed
+
+-- the words have zero where no item and no tag stands: in each field's unused bits, in each word's bits that carry no field, and past the last field
+pub record Clean (first n : ℕ) (ws : List ℕ) : Type 0 where
+  pub unused : (k : ℕ) → k < n → unusedIn (packingOf first) (fieldIn (packingOf first) ws k) ≡ 0
+  pub uncarried : (j : ℕ) → getD ws j 0 % 2 ^ (32 - carriedBits first) ≡ 0
+  pub padding : (i : ℕ) → packingSize first * n ≤ i → bit (carriedBits first) (carried (carriedBits first) ws) i ≡ 0
+
+-- lists that hold the parts of the words' fields
+record Parts (first n : ℕ) (ws is es cs : List ℕ) : Type 0 where
+  items : length is ≡ n
+  events : length es ≡ n
+  channels : length cs ≡ n
+  item : (k : ℕ) → k < n → getD is k 0 ≡ itemIn (packingOf first) (fieldIn (packingOf first) ws k)
+  event : (k : ℕ) → k < n → getD es k 0 ≡ eventIn (packingOf first) (fieldIn (packingOf first) ws k)
+  channel : (k : ℕ) → k < n → getD cs k 0 ≡ channelIn (packingOf first) (fieldIn (packingOf first) ws k)
+
+-- the front of a buffer that was filled
+front-length : (n : ℕ) (h : ℕ → ℕ) (l : List ℕ) → n ≤ length l → length (take n (filled n h l)) ≡ n
+front-length n h l r = length-take-le n (filled n h l) (omega (arith, filled-length n h l))
+
+front-at : (n : ℕ) (h : ℕ → ℕ) (l : List ℕ) → n ≤ length l → (k : ℕ) → k < n → getD (take n (filled n h l)) k 0 ≡ h k
+front-at n h l r k q = getD-take n (filled n h l) k 0 q ∙ filled-at n h l k q r
+
+parts-of : (first second n m : ℕ) (ws : List ℕ) (b b′ : Buffers) → UnpackPassed first second n m (length (b .items)) (length (b .events)) (length (b .channels))
+    → b′ ≡ unpacked (packingOf first) n ws b → Parts first n ws (take n (b′ .items)) (take n (b′ .events)) (take n (b′ .channels))
+parts-of first second n m ws b b′ k e = rw e (record {
+  items = front-length n _ (b .items) (k .items);
+  events = front-length n _ (b .events) (k .events);
+  channels = front-length n _ (b .channels) (k .channels);
+  item = front-at n _ (b .items) (k .items);
+  event = front-at n _ (b .events) (k .events);
+  channel = front-at n _ (b .channels) (k .channels);
+})
+
+-- an item of a field fits its bits
+item-small : (p : Packing) → Legal p → (ws : List ℕ) (k : ℕ) → itemIn p (fieldIn p ws k) < 2 ^ p .item
+unfolding fieldOf
+item-small p l ws k =
+    let e : p .item + (p .field - p .item) ≡ p .field = omega arith in
+    shr-lt (p .item) (p .field - p .item) (rw e (below (p .carry) (carried (p .carry) ws) (p .field * k) (p .field)))
+
+module _ (first second n : ℕ) (ws is es cs out : List ℕ) (f : formatBad first second ≡ false) (c : countBad first second n ≡ false)
+    (there : length ws ≡ wordsFor first n) (h : Parts first n ws is es cs) (room : length ws ≤ length out) where
+  repacks : PackPassed first second is es cs (length out)
+  unfolding packingOf
+  repacks = record {
+    format = f;
+    count = rw (h .items) c;
+    places = rw (h .items, ← there) room;
+    items = record { many = refl; each = λ k l. let q : k < n = omega (arith, h .items) in rw (h .item k q) (item-small (packingOf first) (legal first second f) ws k) };
+    events = record { many = h .events ∙ sym (h .items); each = λ k l. let q : k < n = omega (arith, h .items) in rw (h .event k q) (mod-lt _ (pow-pos (eventSize first))) };
+    channels = record { many = h .channels ∙ sym (h .items); each = λ k l. let q : k < n = omega (arith, h .items) in rw (h .channel k q) (mod-lt _ (pow-pos (channelSize first))) };
+  }
+
+  -- the fields are those of the words, and the words come back
+  repacked : ((j : ℕ) → getD ws j 0 < 2 ^ 32) → Clean first n ws → take (length ws) (packed (packingOf first) (length is) is es cs out) ≡ ws
+  unfolding packingOf wordsFor
+  repacked w z =
+      let g : ℕ → ℕ = fieldsOf (packingOf first) is es cs in
+      let same : (k : ℕ) → k < n → g k ≡ fieldIn (packingOf first) ws k =
+      λ k l. rw (h .item k l, h .event k l, h .channel k l) (made-back (packingOf first) (legal first second f) (fieldIn (packingOf first) ws k) (z .unused k l)) in
+      let past : (k : ℕ) → n ≤ k → g k ≡ 0 =
+      λ k l. fields-blank (packingOf first) k is es cs (omega (arith, h .items)) (omega (arith, h .events)) (omega (arith, h .channels)) in
+      let back : (j : ℕ) → j < length ws → wordOf (carriedBits first) (packingSize first) g j ≡ getD ws j 0 =
+      λ j l. word-back (carriedBits first) (packingSize first) n g ws j (field-some first) (carry-some first) (carry-most first) same past (z .padding) (w j) (z .uncarried j) in
+      rw (h .items, ← there) (filled-front (length ws) (wordOf (carriedBits first) (packingSize first) g) out ws room refl back)
+
+-- What `unpack` gave, handed to `pack` with room for as many words, is accepted, and gives the words back where they were clean.
+pub unpack-then-pack : (first second n : ℕ) (ws : List ℕ) (b b′ : Buffers) (u : Unpacked) (v : ℕ) (out out′ : List ℕ) (r : Packed)
+    → ((j : ℕ) → getD ws j 0 < 2 ^ 32) → Clean first n ws
+    → Meets unpackedPaper (unpackOf first second n ws b) b u b′ → unpackedPaper u ≡ accepted v
+    → Meets packedPaper (packOf first second (take n (b′ .items)) (take n (b′ .events)) (take n (b′ .channels)) out) out r out′
+    → length ws ≤ length out
+    → (packedPaper r ≡ accepted (length ws)) × (take (length ws) out′ ≡ ws)
+unfolding packOf unpackOf
+unpack-then-pack first second n ws b b′ u v out out′ r w z p a q room =
+    let is : List ℕ = take n (b′ .items) in
+    let es : List ℕ = take n (b′ .events) in
+    let cs : List ℕ = take n (b′ .channels) in
+    let t = said (unpackCheck first second n (length ws) (length (b .items)) (length (b .events)) (length (b .channels))) _ v (sym (p .answer) ∙ a) in
+    let k = unpack-passed first second n (length ws) (length (b .items)) (length (b .events)) (length (b .channels)) (t .0) in
+    let left : b′ ≡ unpacked (packingOf first) n ws b = p .buffer ∙ rw (t .0) in
+    let h : Parts first n ws is es cs = parts-of first second n (length ws) ws b b′ k left in
+    let c = pack-passes first second is es cs (length out) (repacks first second n ws is es cs out (k .format) (k .count) (k .there) h room) in
+    let e : wordsFor first (length is) ≡ length ws = rw (h .items) (sym (k .there)) in (
+      q .answer ∙ rw (c, e),
+      ap (take (length ws)) (q .buffer ∙ rw c) ∙ repacked first second n ws is es cs out (k .format) (k .count) (k .there) h room w z,
+    )

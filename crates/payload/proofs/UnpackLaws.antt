@@ -1,0 +1,119 @@
+-- What is known where nothing of unpacking is refused, and the answers of `unpack` by whether its checks pass.
+use mathlib.Core.Path.{_≡_, refl, sym, ap, _∙_}
+use mathlib.Core.Bool.{false, not}
+use mathlib.Core.List.{List}
+use Prim.Native.Nat.{ℕ, _+_, _*_, _/_, _%_, _^_, _≤_, _<_}
+use native.Mathlib.Nat.{mod-one, div-one}
+use native.Mathlib.Omega.{arith}
+use lib.ListN.{length, getD}
+use lib.Dec.{ltb, eqb}
+use borrow.Author.Tests.{ltb-false, eqb-true}
+use Rattle.words.specs.Outcome.{Outcome, refused, accepted, Meets}
+use Rattle.words.specs.Word.{highFirst}
+use Rattle.words.proofs.Cases.{passed}
+use Rattle.bitstream.specs.Filled.{filled}
+use Rattle.bitstream.proofs.CarriedLaws.{enough, field-word, field-words}
+use Rattle.bitstream.proofs.FilledLaws.{filled-same}
+use Rattle.payload.specs.declared.format.Packing.{Packing}
+use Rattle.payload.specs.declared.unpacking.Unpacked.the-variants.{Accepted, Refused}
+use Rattle.payload.specs.Format.{formatBad, packingOf, carriedBits}
+use Rattle.payload.specs.Count.{countBad, wordsFor}
+use Rattle.payload.specs.Field.{fieldIn, itemIn}
+use Rattle.payload.specs.Unpack.{Buffers, buffers, unpacked, unpackCheck, unpackOf, Unpackable}
+use Rattle.payload.specs.Answers.{unpackedPaper}
+use Rattle.payload.proofs.FormatLaws.{legal, count-few, not-false, carry-some}
+
+pub buffers-same : {is js es fs cs ds : List ℕ} → is ≡ js → es ≡ fs → cs ≡ ds → buffers is es cs ≡ buffers js fs ds
+buffers-same p q r = cc
+
+-- tags of size zero read as 0
+pub no-tags : (e n : ℕ) (h : ℕ → ℕ) (l : List ℕ) → e ≡ 0 → filled n (λ k. 0) l ≡ filled n (λ k. h k % 2 ^ e) l
+no-tags e n h l z = rw z (filled-same n (λ k. 0) (λ k. h k % 2 ^ 0) l (λ k q. sym (mod-one (h k))))
+
+-- the words that are needed hold the fields
+pub fields-there : (first n m : ℕ) → 0 < carriedBits first → m ≡ wordsFor first n → packingOf first .field * n ≤ m * packingOf first .carry
+unfolding wordsFor packingOf
+fields-there first n m h e = rw e (enough (carriedBits first) _ n h)
+
+-- items that are whole words, and pairs of words
+module _ (p : Packing) (n room : ℕ) (ws l : List ℕ) (u : Unpackable p n ws room) (h : (j : ℕ) → getD ws j 0 < 2 ^ 32) where
+  module _ (one : p .item ≡ 32) (narrow : p .field ≤ 32) where
+    one-field : p .field ≡ 32
+    one-field = omega (arith, u .legal .parts)
+
+    one-carry : p .carry ≡ 32
+    one-carry = omega (arith, u .legal .narrow narrow, u .legal .most, one-field)
+
+    pub words-there : n ≤ length ws
+    words-there = let t = rw (one-field, one-carry) at (u .there) in omega arith
+
+    pub plain-words : filled n (λ k. getD ws k 0) l ≡ filled n (λ k. itemIn p (fieldIn p ws k)) l
+    plain-words = filled-same n _ _ l (λ k q. rw (one-field, one-carry, one) (sym (ap (λ (x : ℕ). x / 2 ^ 0) (field-word ws h k) ∙ div-one (getD ws k 0))))
+
+  module _ (two : p .item ≡ 64) where
+    two-field : p .field ≡ 64
+    two-field = omega (arith, u .legal .parts, u .legal .few)
+
+    two-carry : p .carry ≡ 32
+    two-carry = u .legal .wide (omega (arith, two-field))
+
+    pub pairs-there : 2 * n ≤ length ws
+    pairs-there = let t = rw (two-field, two-carry) at (u .there) in omega arith
+
+    pub plain-pairs : filled n (λ k. highFirst (getD ws (2 * k) 0) (getD ws (2 * k + 1) 0)) l ≡ filled n (λ k. itemIn p (fieldIn p ws k)) l
+    plain-pairs =
+        filled-same n _ _ l
+        (λ k q. rw (two-field, two-carry, two) (sym (ap (λ (x : ℕ). x / 2 ^ 0) (field-words ws h k) ∙ div-one (highFirst (getD ws (2 * k) 0) (getD ws (2 * k + 1) 0)))))
+
+-- what `unpackCheck` lets through
+pub record UnpackPassed (first second n words room-items room-events room-channels : ℕ) : Type 0 where
+  pub format : formatBad first second ≡ false
+  pub count : countBad first second n ≡ false
+  pub there : words ≡ wordsFor first n
+  pub items : n ≤ room-items
+  pub events : n ≤ room-events
+  pub channels : n ≤ room-channels
+
+pub unpack-passed : (first second n m i e c : ℕ) → unpackCheck first second n m i e c ≡ accepted tt → UnpackPassed first second n m i e c
+unfolding unpackCheck
+unpack-passed first second n m i e c h =
+    let e₁ = passed (formatBad first second) 16 _ tt h in
+    let e₂ = passed (countBad first second n) 17 _ tt (e₁ .1) in
+    let e₃ = passed (not (eqb m (wordsFor first n))) 17 _ tt (e₂ .1) in
+    let e₄ = passed (ltb i n) 13 _ tt (e₃ .1) in
+    let e₅ = passed (ltb e n) 13 _ tt (e₄ .1) in
+    let e₆ = passed (ltb c n) 13 _ tt (e₅ .1) in
+    record {
+      format = e₁ .0;
+      count = e₂ .0;
+      there = eqb-true m (wordsFor first n) (not-false (eqb m (wordsFor first n)) (e₃ .0));
+      items = ltb-false i n (e₄ .0);
+      events = ltb-false e n (e₅ .0);
+      channels = ltb-false c n (e₆ .0);
+    }
+
+module _ (first second n : ℕ) (ws : List ℕ) (b : Buffers) where
+  abbrev check : Outcome Unit
+  check = unpackCheck first second n (length ws) (length (b .items)) (length (b .events)) (length (b .channels))
+
+  pub unpackable : check ≡ accepted tt → Unpackable (packingOf first) n ws (length (b .items)) × (n ≤ length (b .events)) × (n ≤ length (b .channels))
+  unpackable e =
+      let k = unpack-passed first second n (length ws) (length (b .items)) (length (b .events)) (length (b .channels)) e in (
+        record {
+          legal = legal first second (k .format);
+          few = count-few first second n (k .count);
+          there = fields-there first n (length ws) (carry-some first) (k .there);
+          places = k .items;
+        },
+        k .events,
+        k .channels,
+      )
+
+  -- a refusal, and an answer
+  pub unpack-refused : (k : ℕ) → refused k ≡ check → Meets unpackedPaper (unpackOf first second n ws b) b (Refused k) b
+  unfolding unpackOf
+  unpack-refused k e = rw (← e) (record { answer = refl; buffer = refl })
+
+  pub unpack-accepted : (after : Buffers) → accepted tt ≡ check → after ≡ unpacked (packingOf first) n ws b → Meets unpackedPaper (unpackOf first second n ws b) b (Accepted n) after
+  unfolding unpackOf
+  unpack-accepted after e q = rw (← e) (record { answer = refl; buffer = q })

@@ -1,0 +1,55 @@
+-- Document 01: "Unpack: FORMAT, COUNT, ROOM"; "Unpacking is given n and exactly the words needed".
+use Prim.Native.Nat.{ℕ, _*_, _≤_}
+use mathlib.Core.Bool.{not}
+use mathlib.Core.List.{List}
+use lib.ListN.{length}
+use lib.Dec.{eqb, ltb}
+use Rattle.words.specs.Tests.{pick}
+use Rattle.words.specs.Outcome.{Outcome, refused, accepted, after, Done}
+use Rattle.words.specs.Numbers.{FORMAT, COUNT, ROOM}
+use Rattle.bitstream.specs.Filled.{filled}
+use Rattle.payload.specs.declared.format.Packing.{Packing}
+use Rattle.payload.specs.Format.{formatBad, packingOf, Legal}
+use Rattle.payload.specs.Count.{countBad, wordsFor}
+use Rattle.payload.specs.Field.{fieldIn, itemIn, eventIn, channelIn}
+
+-- the three buffers that `unpack` is lent
+pub record Buffers : Type 0 where
+  pub items : List ℕ
+  pub events : List ℕ
+  pub channels : List ℕ
+
+abbrev pub buffers : List ℕ → List ℕ → List ℕ → Buffers
+buffers is es cs = record { items = is; events = es; channels = cs }
+
+-- the parts of the first n fields, in the first n places; entries past n stay
+abbrev pub unpacked : Packing → ℕ → List ℕ → Buffers → Buffers
+unpacked p n ws b = record {
+  items = filled n (λ k. itemIn p (fieldIn p ws k)) (b .items);
+  events = filled n (λ k. eventIn p (fieldIn p ws k)) (b .events);
+  channels = filled n (λ k. channelIn p (fieldIn p ws k)) (b .channels);
+}
+
+-- the refusals, by how many words there are and how many places in each buffer
+unfoldable pub unpackCheck : (first second n words items events channels : ℕ) → Outcome Unit
+unpackCheck first second n words items events channels =
+    pick (formatBad first second) (refused FORMAT)
+    (pick (countBad first second n) (refused COUNT)
+    (pick (not (eqb words (wordsFor first n))) (refused COUNT)
+    (pick (ltb items n) (refused ROOM)
+    (pick (ltb events n) (refused ROOM)
+    (pick (ltb channels n) (refused ROOM)
+    (accepted tt))))))
+
+-- what `unpack` answers, n, and what it leaves in the buffers
+unfoldable pub unpackOf : (first second n : ℕ) → List ℕ → Buffers → Outcome (Done ℕ Buffers)
+unpackOf first second n ws b =
+    after (unpackCheck first second n (length ws) (length (b .items)) (length (b .events)) (length (b .channels)))
+    (accepted (record { says = n; leaves = unpacked (packingOf first) n ws b }))
+
+-- what the calls inside are given: n fields in the words ws, and room for n entries
+pub record Unpackable (p : Packing) (n : ℕ) (ws : List ℕ) (room : ℕ) : Type 0 where
+  pub legal : Legal p
+  pub few : n ≤ 2097120
+  pub there : p .field * n ≤ length ws * p .carry
+  pub places : n ≤ room

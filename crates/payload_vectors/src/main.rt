@@ -1,0 +1,132 @@
+// Runs cases of packed samples: reads them from standard input, as big-endian words, and prints what each call answers and leaves.
+mod input;
+mod output;
+
+use input::count;
+use input::read_channels;
+use input::read_events;
+use input::read_items;
+use input::read_words;
+use output::blank_channels;
+use output::blank_events;
+use output::blank_items;
+use output::blank_words;
+use output::print_accepted;
+use output::print_channels;
+use output::print_events;
+use output::print_items;
+use output::print_refused;
+use output::print_signed;
+use output::print_words;
+use payload::Needed;
+use payload::Packed;
+use payload::Shown;
+use payload::Unpacked;
+
+// Op 1: first, second, n, the room of each buffer, m, then m words.
+fn unpack_case(k: u64) {
+    let first = wordio::inner::word();
+    let second = wordio::inner::word();
+    let n = wordio::inner::word() as usize;
+    let room_items = count();
+    let room_events = count();
+    let room_channels = count();
+    let m = count();
+    let words = read_words(m);
+    let mut items = blank_items();
+    let mut events = blank_events();
+    let mut channels = blank_channels();
+    let r = payload::unpack(
+        first,
+        second,
+        n,
+        &words[..m],
+        &mut items[..room_items],
+        &mut events[..room_events],
+        &mut channels[..room_channels],
+    );
+    match r {
+        Unpacked::Accepted(v) => print_accepted(k, b" unpacked ", v as u64),
+        Unpacked::Refused(e) => print_refused(k, e),
+    }
+    print_items(room_items, &items);
+    print_events(room_events, &events);
+    print_channels(room_channels, &channels);
+}
+
+// Op 2: first, second, how many items, event tags and channel tags, the room, then the three lists.
+fn pack_case(k: u64) {
+    let first = wordio::inner::word();
+    let second = wordio::inner::word();
+    let ni = count();
+    let ne = count();
+    let nc = count();
+    let room = count();
+    let items = read_items(ni);
+    let events = read_events(ne);
+    let channels = read_channels(nc);
+    let mut out = blank_words();
+    let r = payload::pack(
+        first,
+        second,
+        &items[..ni],
+        &events[..ne],
+        &channels[..nc],
+        &mut out[..room],
+    );
+    match r {
+        Packed::Accepted(w) => print_accepted(k, b" packed ", w as u64),
+        Packed::Refused(e) => print_refused(k, e),
+    }
+    print_words(room, &out);
+}
+
+// Op 3: width, and the item as two words, high first.
+fn signed_case(k: u64) {
+    let width = wordio::inner::word();
+    let high = wordio::inner::word();
+    let low = wordio::inner::word();
+    let r = payload::signed(width, words::inner::high_first(high, low));
+    match r {
+        Shown::Value(v) => print_signed(k, v),
+        Shown::Refused(e) => print_refused(k, e),
+    }
+}
+
+// Op 4: first, second, n.
+fn needed_case(k: u64) {
+    let first = wordio::inner::word();
+    let second = wordio::inner::word();
+    let n = wordio::inner::word() as usize;
+    let r = payload::words_needed(first, second, n);
+    match r {
+        Needed::Words(w) => print_accepted(k, b" words ", w as u64),
+        Needed::Refused(e) => print_refused(k, e),
+    }
+}
+
+// One case by its op; an op that is none of these has no line.
+fn run_case(op: u32, k: u64) {
+    if op == 1 {
+        unpack_case(k);
+    } else if op == 2 {
+        pack_case(k);
+    } else if op == 3 {
+        signed_case(k);
+    } else if op == 4 {
+        needed_case(k);
+    }
+}
+
+// The cases, numbered from 0, to the end of the input; at most 2 ^ 32 of them.
+fn main() {
+    let mut k: u64 = 0;
+    while k < 0x1_0000_0000 {
+        let got = wordio::inner::next_word();
+        let wordio::inner::Input::Word(op) = got else {
+            return;
+        };
+        run_case(op, k);
+        k += 1;
+    }
+}

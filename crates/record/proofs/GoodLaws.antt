@@ -1,0 +1,268 @@
+-- When a record is good. The idea: the tests of specs/Good.antt say what `Good` says in facts (`good-of`, `of-good`); a count and the fields of an accepted
+-- packet keep each of these facts, so a good record stays good.
+use mathlib.Core.Path.{_≡_, refl, sym, ap, _∙_}
+use mathlib.Core.Bool.{Bool, true, false}
+use mathlib.Core.Logic.{⊎-elim}
+use mathlib.Core.List.{List}
+use Prim.Native.Nat.{ℕ, zero, suc, _+_, _-_, _/_, _%_, _^_, _≤_, _<_}
+use native.Mathlib.Nat.{add-zero, zero-div, lt-of-le-of-lt}
+use native.Mathlib.Omega.{arith}
+use borrow.Author.Tests.{eq-eqb, ne-eqb, le-leb, eqb-true, leb-true}
+use lib.Bits.{bitAnd, and-le-r, and-le-l, or-lt}
+use lib.Dec.{eqb}
+use lib.ListN.{length, take, drop, getD, replicate, length-replicate}
+use lib.Seq.{ext-getD}
+use Rattle.words.specs.Tests.{pick, both}
+use Rattle.words.specs.Word.{has}
+use Rattle.words.specs.Part.{part}
+use Rattle.words.specs.All.{all}
+use Rattle.words.specs.Outcome.{accepted}
+use Rattle.words.proofs.Cases.{true-or-false, same-or-not, both-left, both-right, both-true, both-yes, true-is-false}
+use Rattle.words.proofs.AllLaws.{all-at, all-intro}
+use Rattle.words.proofs.BitLaws.{has-and, word-same}
+use Rattle.words.proofs.PartLaws.{seen, getD-part, part-part, part-length}
+use Rattle.fields.specs.Sizes.{sizeOf}
+use Rattle.fields.specs.Rules.{ruleOf}
+use Rattle.fields.specs.Layout.{indicatorOf, fieldOf, contextOf}
+use Rattle.fields.proofs.BodyLaws.{context-fits, field-rule}
+use Rattle.record.specs.Held.{heldMask, holds, slotAt}
+use Rattle.record.specs.Layout.{headWords, slotWords, recordWords, heldOf, countAt, countOf, seenOf, missingOf, lastOf, slotIn, slotsOf, slotOf}
+use Rattle.record.specs.Counts.{countedOf, countRecord}
+use Rattle.record.specs.After.{slotAfter, heldAfter, holdRecord}
+use Rattle.record.specs.Good.{zeros, countGood, countGoodAt, heldGood, slotGood, recordGood, GoodCount, Good}
+use Rattle.record.proofs.SlotLaws.{held-small, held-low, held-high}
+use Rattle.record.proofs.HoldLaws.{slot-inside, within-holds}
+use Rattle.record.proofs.AfterLaws.{hold-slot, hold-held, hold-count, held-bit, count-count, count-other, count-slot, count-held}
+
+-- ---- the words of a count, where a program reads them
+
+count-word : (k i : ℕ) (r : List ℕ) → i < 3 → getD (countOf k r) i 0 ≡ getD r (countAt k + i) 0
+unfolding countOf
+count-word k i r h = getD-part (countAt k) 3 i r h
+
+pub counts-at : (r : List ℕ) (k : ℕ) → countGoodAt r k ≡ countGood (getD r (countAt k) 0) (getD r (countAt k + 1) 0) (getD r (countAt k + 2) 0)
+unfolding countGoodAt
+counts-at r k = rw (count-word k 0 r (omega arith), count-word k 1 r (omega arith), count-word k 2 r (omega arith), add-zero (countAt k))
+
+pub last-at : (r : List ℕ) → lastOf (countOf 2 r) ≡ getD r 10 0
+last-at r = count-word 2 2 r (omega arith)
+
+-- ---- the slot of a bit, as a program tests it: it stands from `at` on among the slots and has n words
+
+pub slot-skipped : (r : List ℕ) (b : ℕ) → holds b ≡ false → true ≡ slotGood r b
+unfolding slotGood
+slot-skipped r b o = rw o
+
+module _ (r : List ℕ) (b at n : ℕ) (l : length r ≡ recordWords) (o : holds b ≡ true) (ea : at ≡ slotAt b) (en : n ≡ sizeOf b) where
+  pub slot-end : headWords + at + n ≤ length r
+  slot-end = omega (arith, slot-inside b o)
+
+  abbrev there : List ℕ
+  there = take (headWords + at + n - (headWords + at)) (drop (headWords + at) r)
+
+  slot-seen : there ≡ slotOf b r
+  unfolding slotOf slotIn slotsOf
+  slot-seen =
+      seen (headWords + at) (headWords + at + n) n r refl ∙ rw (ea, en) (sym (part-part (slotAt b) (sizeOf b) headWords slotWords r (slot-inside b o)))
+
+  pub slot-ruled : (t : Bool) → has (heldOf r) b ≡ true → t ≡ ruleOf b (drop 0 (take (headWords + at + n - (headWords + at)) (drop (headWords + at) r))) → t ≡ slotGood r b
+  unfolding slotGood
+  slot-ruled t h e = rw (o, h) (e ∙ ap (ruleOf b) slot-seen)
+
+  pub slot-zero : (t : Bool) → has (heldOf r) b ≡ false → t ≡ zeros (take (headWords + at + n - (headWords + at)) (drop (headWords + at) r)) → t ≡ slotGood r b
+  unfolding slotGood
+  slot-zero t h e = rw (o, h) (e ∙ ap zeros slot-seen)
+
+-- ---- the tests as facts
+
+-- zero words
+pub zero-at : (n i : ℕ) → getD {A = ℕ} (replicate n 0) i 0 ≡ 0
+zero-at zero i = refl
+zero-at (suc n) zero = refl
+zero-at (suc n) (suc i) = zero-at n i
+
+pub zeros-are : (ws : List ℕ) → zeros ws ≡ true → ws ≡ replicate (length ws) 0
+unfolding zeros
+zeros-are ws e =
+    ext-getD 0 ws (replicate (length ws) 0) (sym (length-replicate (length ws) 0))
+    (λ i h. eqb-true (getD ws i 0) 0 (all-at (λ j. eqb (getD ws j 0) 0) (length ws) i h e) ∙ sym (zero-at (length ws) i))
+
+pub zeros-good : (n : ℕ) → zeros (replicate n 0) ≡ true
+unfolding zeros
+zeros-good n = all-intro _ (length (replicate {A = ℕ} n 0)) (λ i h. eq-eqb (getD (replicate n 0) i 0) 0 (zero-at n i))
+
+pub slot-length : (b : ℕ) (r : List ℕ) → length r ≡ recordWords → holds b ≡ true → length (slotOf b r) ≡ sizeOf b
+unfolding slotOf slotIn slotsOf
+slot-length b r l o =
+    let m : length (part headWords slotWords r) ≡ slotWords = part-length headWords slotWords r (omega arith) in
+    part-length (slotAt b) (sizeOf b) (part headWords slotWords r) (omega (arith, slot-inside b o))
+
+-- a count
+pub count-facts : (seen missing last : ℕ) → countGood seen missing last ≡ true → GoodCount seen missing last
+unfolding countGood
+count-facts seen missing last e =
+    ⊎-elim
+    (λ (z : last ≡ 0).
+    let f : both (eqb seen 0) (eqb missing 0) ≡ true = rw (eq-eqb last 0 z) at e in
+    record { unstarted = λ _. (eqb-true seen 0 (both-left (eqb seen 0) (eqb missing 0) f), eqb-true missing 0 (both-right (eqb seen 0) (eqb missing 0) f)); most = omega arith })
+    (λ (n : last ≡ 0 → ⊥). record { unstarted = λ z. absurd (n z); most = leb-true last 16 (rw (ne-eqb last 0 n) at e) })
+    (same-or-not last 0)
+
+pub facts-count : (seen missing last : ℕ) → GoodCount seen missing last → countGood seen missing last ≡ true
+unfolding countGood
+facts-count seen missing last g =
+    ⊎-elim
+    (λ (z : last ≡ 0). rw (eq-eqb last 0 z, eq-eqb seen 0 (g .unstarted z .0), eq-eqb missing 0 (g .unstarted z .1)))
+    (λ (n : last ≡ 0 → ⊥). rw (ne-eqb last 0 n, le-leb last 16 (g .most)))
+    (same-or-not last 0)
+
+-- bits within the mask
+within-mask : (held : ℕ) → held < 2 ^ 31 → ((b : ℕ) → has held b ≡ true → holds b ≡ true) → bitAnd held heldMask ≡ held
+unfolding holds
+within-mask held h e =
+    word-same 31 (bitAnd held heldMask) held (lt-of-le-of-lt (and-le-l held heldMask) h) h
+    (λ b l. has-and held heldMask b ∙ ⊎-elim (λ t. rw t (e b t)) (λ t. rw t) (true-or-false (has held b)))
+
+pick-true : (t a : Bool) → (t ≡ true → a ≡ true) → pick t a true ≡ true
+pick-true true a f = f refl
+pick-true false a f = refl
+
+-- a record
+pub good-of : (r : List ℕ) → length r ≡ recordWords → recordGood r ≡ true → Good r
+unfolding recordGood heldGood slotGood countGoodAt
+good-of r l e =
+    let held : Bool = heldGood (heldOf r) (lastOf (countOf 2 r)) in
+    let counts : Bool = all 4 (countGoodAt r) in
+    let slots : Bool = all 31 (slotGood r) in
+    let a = both-left held (both counts slots) e in
+    let o = both-right held (both counts slots) e in
+    let w : bitAnd (heldOf r) heldMask ≡ heldOf r = eqb-true _ _ (both-left (eqb (bitAnd (heldOf r) heldMask) (heldOf r)) _ a) in
+    let s = both-right (eqb (bitAnd (heldOf r) heldMask) (heldOf r)) _ a in
+    let slot : (b : ℕ) → holds b ≡ true → pick (has (heldOf r) b) (ruleOf b (slotOf b r)) (zeros (slotOf b r)) ≡ true =
+    λ b h. rw h at (all-at (slotGood r) 31 b (held-high b h) (both-right counts slots o)) in
+    record {
+      bits = within-holds (heldOf r) w;
+      small = rw w at (lt-of-le-of-lt (and-le-r (heldOf r) heldMask) held-small);
+      started = λ z. eqb-true (heldOf r) 0 (rw (eq-eqb _ 0 z) at s);
+      counts = λ k h. count-facts _ _ _ (all-at (countGoodAt r) 4 k h (both-left counts slots o));
+      unheld = λ b h n. zeros-are (slotOf b r) (rw n at (slot b h)) ∙ ap (λ (m : ℕ). replicate m 0) (slot-length b r l h);
+      obeys = λ b h y. rw y at (slot b h);
+    }
+
+pub of-good : (r : List ℕ) → Good r → recordGood r ≡ true
+unfolding recordGood heldGood slotGood countGoodAt
+of-good r g =
+    both-true _ _
+    (both-true _ _ (eq-eqb _ _ (within-mask (heldOf r) (g .small) (g .bits)))
+    (pick-true (eqb (lastOf (countOf 2 r)) 0) (eqb (heldOf r) 0) (λ z. eq-eqb (heldOf r) 0 (g .started (eqb-true (lastOf (countOf 2 r)) 0 z)))))
+    (both-true _ _ (all-intro (countGoodAt r) 4 (λ k h. facts-count _ _ _ (g .counts k h)))
+    (all-intro (slotGood r) 31
+    (λ b h. pick-true (holds b) _ (λ o.
+    ⊎-elim (λ y. rw y (g .obeys b o y)) (λ n. ap (λ (t : Bool). pick t (ruleOf b (slotOf b r)) (zeros (slotOf b r))) n ∙ ap zeros (g .unheld b o n) ∙ zeros-good (sizeOf b)) (true-or-false (has (heldOf r) b))))))
+
+-- ---- a record of zeros but for its identifier is good
+
+module _ (r : List ℕ) (l : length r ≡ recordWords) (z : (i : ℕ) → getD r (suc i) 0 ≡ 0) where
+  blank-word : (i : ℕ) → 1 ≤ i → getD r i 0 ≡ 0
+  blank-word i h = let e : i ≡ suc (i - 1) = omega arith in ap (λ (j : ℕ). getD r j 0) e ∙ z (i - 1)
+
+  blank-bit : (b : ℕ) → has (heldOf r) b ≡ false
+  blank-bit b = ap (λ (n : ℕ). has n b) (z 0) ∙ ap (λ (n : ℕ). eqb (n % 2) 1) (zero-div (2 ^ b))
+
+  blank-count : (k i : ℕ) → i < 3 → getD (countOf k r) i 0 ≡ 0
+  blank-count k i h = count-word k i r h ∙ blank-word (countAt k + i) (omega arith)
+
+  blank-slot : (b : ℕ) → holds b ≡ true → slotOf b r ≡ replicate (sizeOf b) 0
+  unfolding slotOf slotIn slotsOf
+  blank-slot b o =
+      let m : length (part (slotAt b) (sizeOf b) (part headWords slotWords r)) ≡ sizeOf b = slot-length b r l o in
+      ext-getD 0 _ (replicate (sizeOf b) 0) (m ∙ sym (length-replicate (sizeOf b) 0))
+      (λ i h.
+      getD-part (slotAt b) (sizeOf b) i (part headWords slotWords r) (omega arith)
+      ∙ getD-part headWords slotWords (slotAt b + i) r (omega (arith, slot-inside b o))
+      ∙ blank-word (headWords + (slotAt b + i)) (omega arith) ∙ sym (zero-at (sizeOf b) i))
+
+  pub blank-good : Good r
+  blank-good = record {
+    bits = λ b e. absurd (true-is-false (sym e ∙ blank-bit b));
+    small = omega (arith, z 0);
+    started = λ _. z 0;
+    counts = λ k h. record { unstarted = λ _. (blank-count k 0 (omega arith), blank-count k 1 (omega arith)); most = omega (arith, blank-count k 2 (omega arith)) };
+    unheld = λ b o e. blank-slot b o;
+    obeys = λ b o e. absurd (true-is-false (sym e ∙ blank-bit b));
+  }
+
+-- ---- a good record stays good
+
+-- a slot that is held is by its rule, also after a packet
+rule-after : (carried : Bool) (b : ℕ) (field slot : List ℕ) → (carried ≡ true → ruleOf b field ≡ true) → (carried ≡ false → ruleOf b slot ≡ true) → ruleOf b (slotAfter carried field slot) ≡ true
+unfolding slotAfter
+rule-after true b field slot f g = f refl
+rule-after false b field slot f g = g refl
+
+slot-stays : (carried : Bool) (field slot : List ℕ) → carried ≡ false → slotAfter carried field slot ≡ slot
+unfolding slotAfter
+slot-stays carried field slot e = rw e
+
+-- after a count
+module _ (k count : ℕ) (r : List ℕ) (l : length r ≡ recordWords) (h : k < 4) (small : count < 16) (g : Good r) where
+  counted-last : lastOf (countedOf count (countOf k r)) ≡ count + 1
+  unfolding countedOf
+  counted-last = refl
+
+  counted-good : GoodCount (seenOf (countedOf count (countOf k r))) (missingOf (countedOf count (countOf k r))) (lastOf (countedOf count (countOf k r)))
+  counted-good = record { unstarted = λ z. absurd (omega (arith, counted-last)); most = omega (arith, counted-last) }
+
+  pub count-good : Good (countRecord k count r)
+  count-good =
+      record {
+        bits = rw (count-held k count r l h) (g .bits);
+        small = rw (count-held k count r l h) (g .small);
+        started = λ z. count-held k count r l h ∙ g .started
+            (⊎-elim (λ (e : 2 ≡ k). absurd (omega (arith, counted-last, ap lastOf (count-count k count r l h), sym (ap (λ (j : ℕ). lastOf (countOf j (countRecord k count r))) e) ∙ z)))
+            (λ (n : 2 ≡ k → ⊥). sym (ap lastOf (count-other k count r l h 2 (omega arith) n)) ∙ z) (same-or-not 2 k));
+        counts = λ j i.
+            ⊎-elim (λ (e : j ≡ k). rw (e, count-count k count r l h) counted-good)
+            (λ (n : j ≡ k → ⊥). rw (count-other k count r l h j i n) (g .counts j i)) (same-or-not j k);
+        unheld = λ b o n. count-slot k count r l h b ∙ g .unheld b o (sym (ap (λ (m : ℕ). has m b) (count-held k count r l h)) ∙ n);
+        obeys = λ b o y. ap (ruleOf b) (count-slot k count r l h b) ∙ g .obeys b o (sym (ap (λ (m : ℕ). has m b) (count-held k count r l h)) ∙ y);
+      }
+
+-- after the fields of an accepted packet are held, type 4 having started
+module _ (body r : List ℕ) (l : length r ≡ recordWords) (ok : contextOf body ≡ accepted tt) (began : lastOf (countOf 2 r) ≡ 0 → ⊥) (g : Good r) where
+  abbrev ind : ℕ
+  ind = indicatorOf body
+
+  bit-after : (b : ℕ) → has (heldOf (holdRecord body r)) b ≡ pick (has (heldOf r) b) true (both (has (indicatorOf body) b) (holds b))
+  bit-after b = ap (λ (m : ℕ). has m b) (hold-held body r l ok) ∙ held-bit (indicatorOf body) (heldOf r) b
+
+  hold-bits : (b : ℕ) → pick (has (heldOf r) b) true (both (has (indicatorOf body) b) (holds b)) ≡ true → holds b ≡ true
+  hold-bits b e =
+      ⊎-elim (λ y. g .bits b y) (λ n. both-right (has ind b) (holds b) (rw n at e)) (true-or-false (has (heldOf r) b))
+
+  -- a bit that is not held after it was neither held nor carried
+  not-held : (b : ℕ) → holds b ≡ true → pick (has (heldOf r) b) true (both (has (indicatorOf body) b) (holds b)) ≡ false → (has (heldOf r) b ≡ false) × (has (indicatorOf body) b ≡ false)
+  not-held b o e =
+      ⊎-elim (λ y. absurd (true-is-false (rw y at e))) (λ n. (n, sym (both-yes (has ind b)) ∙ rw (n, o) at e)) (true-or-false (has (heldOf r) b))
+
+  -- one that is held and not carried was held
+  was-held : (b : ℕ) → has (indicatorOf body) b ≡ false → pick (has (heldOf r) b) true (both (has (indicatorOf body) b) (holds b)) ≡ true → has (heldOf r) b ≡ true
+  was-held b c e = ⊎-elim (λ y. y) (λ (n : has (heldOf r) b ≡ false). absurd (true-is-false (sym (rw (n, c) at e)))) (true-or-false (has (heldOf r) b))
+
+  pub hold-good : Good (holdRecord body r)
+  unfolding heldAfter
+  hold-good =
+      record {
+        bits = λ b y. hold-bits b (sym (bit-after b) ∙ y);
+        small = rw (hold-held body r l ok) (or-lt 31 (heldOf r) (bitAnd ind heldMask) (g .small) (lt-of-le-of-lt (and-le-r ind heldMask) held-small));
+        started = λ z. absurd (began (sym (ap lastOf (hold-count body r l ok 2 (omega arith))) ∙ z));
+        counts = λ k h. rw (hold-count body r l ok k h) (g .counts k h);
+        unheld = λ b o n.
+            let u = not-held b o (sym (bit-after b) ∙ n) in
+            hold-slot body r l ok b o ∙ slot-stays (has ind b) (fieldOf b body) (slotOf b r) (u .1) ∙ g .unheld b o (u .0);
+        obeys = λ b o y.
+            ap (ruleOf b) (hold-slot body r l ok b o)
+            ∙ rule-after (has ind b) b (fieldOf b body) (slotOf b r)
+            (λ c. field-rule b body (held-high b o) c (context-fits body ok) (held-low b o))
+            (λ c. g .obeys b o (was-held b c (sym (bit-after b) ∙ y)));
+      }

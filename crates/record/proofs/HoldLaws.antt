@@ -1,0 +1,147 @@
+-- Fields put into their slots. The idea: after some turns the slots of the bits reached are filled and the others are as they were (`Holding`, read slot by
+-- slot); the next bit's slot lies apart from every other (`placed-apart`), so a copy into it changes that slot alone.
+use mathlib.Core.Path.{_≡_, refl, sym, ap, _∙_}
+use mathlib.Core.Bool.{Bool, true}
+use mathlib.Core.Logic.{⊎-elim}
+use mathlib.Core.List.{List, [], _∷_}
+use Prim.Native.Nat.{ℕ, _+_, _≤_, _<_, _^_}
+use native.Mathlib.Nat.{le-refl, lt-of-le-of-lt}
+use native.Mathlib.Omega.{arith}
+use borrow.Author.Tests.{le-leb, lt-leb}
+use lib.Bits.{bitAnd, and-le-r}
+use lib.Dec.{leb}
+use lib.ListN.{length}
+use Rattle.words.specs.Tests.{pick, both}
+use Rattle.words.specs.Word.{has}
+use Rattle.words.specs.SetBits.{bitsOf}
+use Rattle.words.specs.Part.{part, put}
+use Rattle.words.proofs.Cases.{le-or-lt, same-or-not, both-right, both-no}
+use Rattle.words.proofs.BitLaws.{has-and}
+use Rattle.words.proofs.PartLaws.{part-length, put-length, part-put, part-put-before, part-put-after}
+use Rattle.words.proofs.SetBitLaws.{Head, bits-head, bits-trim, bits-none, bits-unset}
+use Rattle.fields.specs.Sizes.{sizeOf, sizesOf}
+use Rattle.fields.proofs.SizeLaws.{sizes-more}
+use Rattle.record.specs.Held.{heldMask, holds, heldBits, slotAt}
+use Rattle.record.specs.Layout.{slotWords, slotIn}
+use Rattle.record.specs.After.{slotAfter, refilled, Inside}
+use Rattle.record.proofs.SlotLaws.{placed, placed-split, placed-inside, placed-apart, in-order-same, in-order-parts, held-small, held-high, slots-whole}
+
+-- ---- bits of held fields alone
+
+module _ (bits : ℕ) (within : bitAnd bits heldMask ≡ bits) where
+  pub within-small : bits < 2 ^ 31
+  within-small = rw within at (lt-of-le-of-lt (and-le-r bits heldMask) held-small)
+
+  pub within-holds : (b : ℕ) → has bits b ≡ true → holds b ≡ true
+  unfolding holds
+  within-holds b e = both-right (has bits b) (has heldMask b) (sym (has-and bits heldMask b) ∙ ap (λ (n : ℕ). has n b) within ∙ e)
+
+-- ---- slots
+
+-- a slot lies among the slots, and apart from the others
+pub slot-inside : (b : ℕ) → holds b ≡ true → slotAt b + sizeOf b ≤ slotWords
+unfolding slotAt heldBits holds
+slot-inside b e = rw slots-whole at (placed-inside 31 heldMask b (held-high b e) e)
+
+slots-apart : (b x : ℕ) → b < x → holds b ≡ true → holds x ≡ true → slotAt x + sizeOf x ≤ slotAt b
+unfolding slotAt heldBits holds
+slots-apart b x h e f = placed-apart 31 heldMask b x h (held-high x f) e f
+
+module _ (b : ℕ) (ws slots : List ℕ) (l : length slots ≡ slotWords) (e : holds b ≡ true) (m : length ws ≡ sizeOf b) where
+  room : slotAt b + sizeOf b ≤ length slots
+  room = omega (arith, slot-inside b e)
+
+  pub slot-put : slotIn b (put (slotAt b) (sizeOf b) ws slots) ≡ ws
+  unfolding slotIn
+  slot-put = part-put (slotAt b) (sizeOf b) ws slots room m
+
+  pub slot-put-other : (x : ℕ) → holds x ≡ true → (x ≡ b → ⊥) → slotIn x (put (slotAt b) (sizeOf b) ws slots) ≡ slotIn x slots
+  unfolding slotIn
+  slot-put-other x f n =
+      ⊎-elim (λ (g : x ≤ b). part-put-after (slotAt b) (sizeOf b) ws slots room m (slotAt x) (sizeOf x) (slots-apart x b (omega arith) f e))
+      (λ (g : b < x). part-put-before (slotAt b) (sizeOf b) ws slots room m (slotAt x) (sizeOf x) (slots-apart b x g e f)) (le-or-lt x b)
+
+-- ---- the loop: its head, start, turn and end
+
+-- the field of bit b, where the fields of these bits stand from a place of the words on
+abbrev pub fieldIn : ℕ → ℕ → List ℕ → ℕ → List ℕ
+fieldIn bits at ws b = part (at + placed 31 bits b) (sizeOf b) ws
+
+-- the bits from `reached` up are done
+pub record Holding (bits at : ℕ) (ws slots₀ slots : List ℕ) (rest from : ℕ) : Type 0 where
+  pub reached : ℕ
+  pub top : reached ≤ 31
+  pub left : bitsOf 32 rest ≡ bitsOf reached bits
+  pub same : length slots ≡ slotWords
+  pub place : from + sizesOf (bitsOf reached bits) ≡ at + sizesOf (bitsOf 31 bits)
+  pub is : (b : ℕ) → holds b ≡ true → slotIn b slots ≡ slotAfter (both (leb reached b) (has bits b)) (fieldIn bits at ws b) (slotIn b slots₀)
+
+pub holding-start : (bits at : ℕ) (ws slots : List ℕ) → length slots ≡ slotWords → bitAnd bits heldMask ≡ bits → Holding bits at ws slots slots bits at
+unfolding slotAfter
+holding-start bits at ws slots l w = record {
+  reached = 31;
+  top = le-refl 31;
+  left = bits-trim 31 32 bits (omega arith) (within-small bits w);
+  same = l;
+  place = refl;
+  is = λ b e. rw (lt-leb 31 b (held-high b e));
+}
+
+module _ {bits at rest from : ℕ} {ws slots₀ slots : List ℕ} (p : Holding bits at ws slots₀ slots rest from) (w : bitAnd bits heldMask ≡ bits) (i : Inside bits at ws)
+    (b rest′ : ℕ) (cut : bitsOf 32 rest ≡ b ∷ bitsOf 32 rest′) where
+  head : Head (p .reached) bits b (bitsOf 32 rest′)
+  head = bits-head (p .reached) bits b (bitsOf 32 rest′) (sym (p .left) ∙ cut)
+
+  pub holding-holds : holds b ≡ true
+  holding-holds = within-holds bits w b (head .set)
+
+  -- the field stands at the place reached
+  here : from ≡ at + placed 31 bits b
+  here =
+      let e : bitsOf (p .reached) bits ≡ b ∷ bitsOf b bits = sym (p .left) ∙ cut ∙ ap (λ (l : List ℕ). b ∷ l) (head .rest) in
+      omega (arith, p .place, ap sizesOf e, sizes-more b (bitsOf b bits), placed-split 31 bits b (held-high b holding-holds) (head .set))
+
+  pub holding-field : from + sizeOf b ≤ length ws
+  holding-field = omega (arith, here, i b (head .set))
+
+  -- whether a slot is filled changes at b alone
+  filled-same : (x : ℕ) → (x ≡ b → ⊥) → both (leb (p .reached) x) (has bits x) ≡ both (leb b x) (has bits x)
+  filled-same x n =
+      ⊎-elim (λ (h : x ≤ b). rw (lt-leb (p .reached) x (omega (arith, head .low)), lt-leb b x (omega arith)))
+      (λ (h : b < x).
+      ⊎-elim (λ (g : p .reached ≤ x). rw (le-leb (p .reached) x g, le-leb b x (omega arith)))
+      (λ (g : x < p .reached). rw (head .gap x h g, both-no (leb (p .reached) x), both-no (leb b x))) (le-or-lt (p .reached) x))
+      (le-or-lt x b)
+
+  pub holding-turn : (slot n : ℕ) (after : List ℕ) → slot ≡ slotAt b → n ≡ sizeOf b → after ≡ put slot n (part from n ws) slots
+      → Holding bits at ws slots₀ after rest′ (from + n)
+  unfolding slotAfter
+  holding-turn slot n after es en e =
+      let m : length (part from (sizeOf b) ws) ≡ sizeOf b = part-length from (sizeOf b) ws holding-field in
+      let a : after ≡ put (slotAt b) (sizeOf b) (part from (sizeOf b) ws) slots = e ∙ rw (es, en) in
+      let cons : bitsOf (p .reached) bits ≡ b ∷ bitsOf b bits = sym (p .left) ∙ cut ∙ ap (λ (l : List ℕ). b ∷ l) (head .rest) in
+      record {
+        reached = b;
+        top = omega (arith, head .low, p .top);
+        left = head .rest;
+        same = ap length a ∙ put-length (slotAt b) (sizeOf b) (part from (sizeOf b) ws) slots (omega (arith, p .same, slot-inside b holding-holds)) m ∙ p .same;
+        place = omega (arith, p .place, ap sizesOf cons, sizes-more b (bitsOf b bits));
+        is = λ x f. rw a
+            (⊎-elim
+            (λ (h : x ≡ b). rw (h, le-leb b b (le-refl b), head .set) (slot-put b _ slots (p .same) holding-holds m ∙ ap (λ (z : ℕ). part z (sizeOf b) ws) here))
+            (λ (h : x ≡ b → ⊥). slot-put-other b _ slots (p .same) holding-holds m x f h ∙ p .is x f ∙ ap (λ (t : Bool). pick t (fieldIn bits at ws x) (slotIn x slots₀)) (filled-same x h))
+            (same-or-not x b));
+      }
+
+-- whether a slot is filled, once no bit is left
+all-filled : (r x bits : ℕ) → bitsOf r bits ≡ [] → both (leb r x) (has bits x) ≡ has bits x
+all-filled r x bits e =
+    ⊎-elim (λ (g : r ≤ x). rw (le-leb r x g)) (λ (g : x < r). rw (bits-unset r bits x e g, both-no (leb r x))) (le-or-lt r x)
+
+pub holding-end : {bits at rest from : ℕ} {ws slots₀ slots : List ℕ} → Holding bits at ws slots₀ slots rest from → rest ≡ 0 → slots ≡ refilled bits at ws slots₀
+unfolding refilled slotAfter slotIn slotAt heldBits holds
+holding-end {bits} {at} {rest} {from} {ws} {slots₀} {slots} p z =
+    let none : bitsOf (p .reached) bits ≡ [] = sym (p .left) ∙ bits-none 32 rest (omega arith) in
+    sym (in-order-parts 31 heldMask slots (p .same ∙ sym slots-whole))
+    ∙ in-order-same 31 heldMask (λ b. part (placed 31 heldMask b) (sizeOf b) slots) (λ b. pick (has bits b) (fieldIn bits at ws b) (part (placed 31 heldMask b) (sizeOf b) slots₀))
+    (λ b l e. p .is b e ∙ ap (λ (t : Bool). pick t (fieldIn bits at ws b) (part (placed 31 heldMask b) (sizeOf b) slots₀)) (all-filled (p .reached) b bits none))

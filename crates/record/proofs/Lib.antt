@@ -1,0 +1,14 @@
+-- The laws of records, each beside its kin.
+
+-- the held fields and their slots
+pub mod SlotLaws
+-- fields put into their slots
+pub mod HoldLaws
+-- a record after a packet, part by part
+pub mod AfterLaws
+-- counts after a packet
+pub mod CountLaws
+-- when a record is good
+pub mod GoodLaws
+-- a record after an accepted packet, as the crates above use it
+pub mod PacketLaws

@@ -1,0 +1,166 @@
+-- The held fields and their slots. The idea: `inOrder` over the set bits of a number lays each bit's words after those of the bits above it; so the
+-- words at a bit's place are its own (`in-order-at`), and words are what stands at the places of their bits (`in-order-parts`). Once over any bits: a
+-- record's slots are the bits of `heldMask`, a page's held words those of a held indicator.
+use mathlib.Core.Path.{_≡_, refl, sym, ap, _∙_}
+use mathlib.Core.Bool.{Bool, true, false, not}
+use mathlib.Core.Logic.{⊎-elim}
+use mathlib.Core.List.{List, [], _∷_, _++_}
+use Prim.Native.Nat.{ℕ, zero, suc, _+_, _-_, _^_, _≤_, _<_}
+use native.Mathlib.Nat.{lt-of-lt-of-le}
+use native.Mathlib.Omega.{arith}
+use borrow.Author.Tests.{not-true, le-ltb}
+use lib.Dec.{ltb}
+use lib.Pow.{pow-mono}
+use lib.ListN.{length, drop, length-append, length-drop, take-append-drop}
+use Rattle.words.specs.Tests.{pick}
+use Rattle.words.specs.Word.{has}
+use Rattle.words.specs.SetBits.{bitsOf, above}
+use Rattle.words.specs.Part.{part}
+use Rattle.words.specs.All.{all}
+use Rattle.words.proofs.AllLaws.{all-at}
+use Rattle.words.proofs.Cases.{le-or-lt, true-or-false, true-is-false}
+use Rattle.words.proofs.PartLaws.{part-is, part-front, part-past, part-drop}
+use Rattle.words.proofs.SetBitLaws.{has-above, bits-yes, bits-no, bits-split, above-none, above-kept}
+use Rattle.fields.specs.Sizes.{sizeOf, sizesOf}
+use Rattle.fields.proofs.SizeLaws.{sizes-none, sizes-more, sizes-append}
+use Rattle.fields.proofs.WalkLaws.{none-left}
+use Rattle.record.specs.Held.{heldMask, holds, heldBits, inOrder}
+use Rattle.record.specs.Layout.{slotWords}
+
+-- ---- places
+
+bits-zero : (n : ℕ) → bitsOf 0 n ≡ []
+unfolding bitsOf
+bits-zero n = refl
+
+-- where the words of bit b begin among those of the set bits of n below k
+abbrev pub placed : ℕ → ℕ → ℕ → ℕ
+placed k n b = sizesOf (above b (bitsOf k n))
+
+placed-first : (k n : ℕ) → placed (suc k) n k ≡ 0
+placed-first k n = ap sizesOf (above-none k (suc k) n (omega arith)) ∙ sizes-none
+
+placed-yes : (k n b : ℕ) → has n k ≡ true → b < k → placed (suc k) n b ≡ sizeOf k + placed k n b
+unfolding bitsOf
+placed-yes k n b e h = ap sizesOf (above-kept (has n k) b k (bitsOf k n) h) ∙ rw e (sizes-more k (above b (bitsOf k n)))
+
+placed-no : (k n b : ℕ) → has n k ≡ false → placed (suc k) n b ≡ placed k n b
+placed-no k n b e = ap (λ (l : List ℕ). sizesOf (above b l)) (bits-no k n e)
+
+-- the words of the bits below b stand after b's own
+pub placed-split : (k n b : ℕ) → b < k → has n b ≡ true → sizesOf (bitsOf k n) ≡ placed k n b + (sizeOf b + sizesOf (bitsOf b n))
+placed-split k n b h e =
+    ap sizesOf (bits-split k n b h e) ∙ sizes-append (above b (bitsOf k n)) (b ∷ bitsOf b n) ∙ ap (λ (m : ℕ). placed k n b + m) (sizes-more b (bitsOf b n))
+
+pub placed-inside : (k n b : ℕ) → b < k → has n b ≡ true → placed k n b + sizeOf b ≤ sizesOf (bitsOf k n)
+placed-inside k n b h e = omega (arith, placed-split k n b h e)
+
+-- those of a higher bit end before those of a lower one begin
+pub placed-apart : (k n b x : ℕ) → b < x → x < k → has n b ≡ true → has n x ≡ true → placed k n x + sizeOf x ≤ placed k n b
+placed-apart k n b x h g e f = omega (arith, placed-split k n x g f, placed-split k n b (omega arith) e, placed-split x n b h e)
+
+-- ---- words in order
+
+pub in-order-none : (f : ℕ → List ℕ) → inOrder [] f ≡ []
+unfolding inOrder
+in-order-none f = refl
+
+pub in-order-more : (b : ℕ) (bs : List ℕ) (f : ℕ → List ℕ) → inOrder (b ∷ bs) f ≡ f b ++ inOrder bs f
+unfolding inOrder
+in-order-more b bs f = refl
+
+-- the words of each set bit are the same
+pub in-order-same : (k n : ℕ) (f g : ℕ → List ℕ) → ((b : ℕ) → b < k → has n b ≡ true → f b ≡ g b) → inOrder (bitsOf k n) f ≡ inOrder (bitsOf k n) g
+in-order-same zero n f g h = rw (bits-zero n) (in-order-none f ∙ sym (in-order-none g))
+in-order-same (suc k) n f g h =
+    let rest : inOrder (bitsOf k n) f ≡ inOrder (bitsOf k n) g = in-order-same k n f g (λ b l. h b (omega arith)) in
+    ⊎-elim (λ e. rw (bits-yes k n e, in-order-more k (bitsOf k n) f, in-order-more k (bitsOf k n) g, h k (omega arith) e, rest)) (λ e. rw (bits-no k n e) rest) (true-or-false (has n k))
+
+-- each set bit has the words of its field
+abbrev pub Sized : ℕ → ℕ → (ℕ → List ℕ) → Type 0
+Sized k n f = (b : ℕ) → b < k → has n b ≡ true → length (f b) ≡ sizeOf b
+
+pub in-order-length : (k n : ℕ) (f : ℕ → List ℕ) → Sized k n f → length (inOrder (bitsOf k n) f) ≡ sizesOf (bitsOf k n)
+in-order-length zero n f h = rw (bits-zero n, in-order-none f, sizes-none)
+in-order-length (suc k) n f h =
+    let rest : length (inOrder (bitsOf k n) f) ≡ sizesOf (bitsOf k n) = in-order-length k n f (λ b l. h b (omega arith)) in
+    ⊎-elim
+    (λ e. rw (bits-yes k n e, in-order-more k (bitsOf k n) f, sizes-more k (bitsOf k n), length-append, h k (omega arith) e, rest))
+    (λ e. rw (bits-no k n e) rest)
+    (true-or-false (has n k))
+
+-- the words at a bit's place are its own
+pub in-order-at : (k n b : ℕ) (f : ℕ → List ℕ) → Sized k n f → b < k → has n b ≡ true → part (placed k n b) (sizeOf b) (inOrder (bitsOf k n) f) ≡ f b
+in-order-at zero n b f h l e = absurd (omega arith)
+in-order-at (suc k) n b f h l e =
+    ⊎-elim
+    (λ (g : k ≤ b).
+    let i : b ≡ k = omega arith in
+    let e′ : has n k ≡ true = rw i at e in
+    rw (i, placed-first k n, bits-yes k n e′, in-order-more k (bitsOf k n) f) (part-front (sizeOf k) (f k) (inOrder (bitsOf k n) f) (h k (omega arith) e′)))
+    (λ (g : b < k).
+    let rest = in-order-at k n b f (λ x m. h x (omega arith)) g e in
+    ⊎-elim
+    (λ t. rw (placed-yes k n b t g, bits-yes k n t, in-order-more k (bitsOf k n) f)
+    (part-past (sizeOf k) (placed k n b) (sizeOf b) (f k) (inOrder (bitsOf k n) f) (h k (omega arith) t) ∙ rest))
+    (λ t. rw (placed-no k n b t, bits-no k n t) rest)
+    (true-or-false (has n k)))
+    (le-or-lt k b)
+
+-- words are what stands at the places of their bits
+pub in-order-parts : (k n : ℕ) (ws : List ℕ) → length ws ≡ sizesOf (bitsOf k n) → inOrder (bitsOf k n) (λ b. part (placed k n b) (sizeOf b) ws) ≡ ws
+in-order-parts zero n ws l =
+    rw (bits-zero n) (in-order-none _ ∙ sym (none-left ws (omega (arith, l, ap sizesOf (bits-zero n), sizes-none))))
+in-order-parts (suc k) n ws l =
+    ⊎-elim
+    (λ t.
+    let m : length ws ≡ sizeOf k + sizesOf (bitsOf k n) = l ∙ ap sizesOf (bits-yes k n t) ∙ sizes-more k (bitsOf k n) in
+    let d : length (drop (sizeOf k) ws) ≡ sizesOf (bitsOf k n) = length-drop (sizeOf k) ws ∙ omega arith in
+    ap (λ (l : List ℕ). inOrder l (at-place (suc k))) (bits-yes k n t)
+    ∙ in-order-more k (bitsOf k n) (at-place (suc k))
+    ∙ ap (λ (z : ℕ). part z (sizeOf k) ws ++ inOrder (bitsOf k n) (at-place (suc k))) (placed-first k n)
+    ∙ ap (λ (z : List ℕ). part 0 (sizeOf k) ws ++ z)
+    (in-order-same k n (at-place (suc k)) (λ b. part (placed k n b) (sizeOf b) (drop (sizeOf k) ws))
+    (λ b g e. ap (λ (z : ℕ). part z (sizeOf b) ws) (placed-yes k n b t g) ∙ sym (part-drop (placed k n b) (sizeOf b) (sizeOf k) ws))
+    ∙ in-order-parts k n (drop (sizeOf k) ws) d)
+    ∙ ap (λ (z : List ℕ). z ++ drop (sizeOf k) ws) (part-is 0 (sizeOf k) ws) ∙ take-append-drop (sizeOf k) ws)
+    (λ t.
+    in-order-same (suc k) n (at-place (suc k)) (at-place k) (λ b g e. ap (λ (z : ℕ). part z (sizeOf b) ws) (placed-no k n b t))
+    ∙ rw (bits-no k n t) (in-order-parts k n ws (l ∙ ap sizesOf (bits-no k n t))))
+    (true-or-false (has n k))
+  where
+    at-place : ℕ → ℕ → List ℕ
+    at-place m b = part (placed m n b) (sizeOf b) ws
+
+-- ---- the held fields: bits 30 to 10
+
+pub held-small : heldMask < 2 ^ 31
+unfolding heldMask
+held-small = omega arith
+
+outside : ℕ → Bool
+outside b = not (holds b)
+
+inside : ℕ → Bool
+inside b = pick (ltb b 10) true (holds b)
+
+pub held-low : (b : ℕ) → holds b ≡ true → 10 ≤ b
+unfolding all outside holds heldMask
+held-low b e =
+    ⊎-elim (λ h. h)
+    (λ (h : b < 10). absurd (true-is-false (sym e ∙ not-true (holds b) (all-at outside 10 b h refl))))
+    (le-or-lt 10 b)
+
+pub held-high : (b : ℕ) → holds b ≡ true → b < 31
+unfolding holds
+held-high b e =
+    ⊎-elim (λ (h : 31 ≤ b). absurd (true-is-false (sym e ∙ has-above heldMask b (lt-of-lt-of-le held-small (pow-mono h))))) (λ h. h) (le-or-lt 31 b)
+
+pub held-all : (b : ℕ) → 10 ≤ b → b < 31 → holds b ≡ true
+unfolding all inside holds heldMask
+held-all b h g = rw (le-ltb b 10 h) at (all-at inside 31 b g refl)
+
+-- "Bits 30 to 10 are 21 fields of 74 words together"
+pub slots-whole : sizesOf heldBits ≡ slotWords
+unfolding heldBits heldMask bitsOf sizesOf sizeOf
+slots-whole = refl

@@ -1,0 +1,53 @@
+-- `hold` meets its promise: the slots are lent to `refill`, and `slots-lent` says what that leaves.
+use Rattle.record.specs.Held.{heldMask}
+use Rattle.record.proofs.AfterLaws.{slots-asked, slots-lent}
+use borrow.Author.Needs.{needs}
+use Rattle.record.proofs.inner.held.hold.Statement.{statement}
+use Rattle.record.proofs.inner.held.hold.Tie as tie
+
+word-at-requires : tie.Need-word-at-requires
+word-at-requires c κs = search needs
+
+slice-read-held : tie.Need-slice-read-held
+slice-read-held c = search needs
+
+sub-refill : tie.Need-sub-refill
+sub-refill c = search needs
+
+part-refill-start : tie.Need-part-refill-start
+part-refill-start c = search needs
+
+part-refill-end : tie.Need-part-refill-end
+part-refill-end c = search needs
+
+refill-requires : tie.Need-refill-requires
+unfolding heldMask
+refill-requires c κs =
+    let b = c .before .before .before .before .before in
+    slots-asked _ (b .args .body .now) (b .args .rec .now) (c .before .before .word-at .ensures) (b .pre .0) (b .pre .1)
+
+slice-write-rec : tie.Need-slice-write-rec
+slice-write-rec c = search needs
+
+same-length : tie.Need-same-length
+same-length c = search needs
+
+returns : tie.Need-returns
+unfolding heldMask
+returns c =
+    let b = c .before .before .before .before .before .before .before .before in
+    slots-lent _ _ _ (c .before .before .before .before .before .word-at .ensures) (b .pre .0) (b .pre .1) _ (c .before .before .refill .ensures)
+
+pub hold-spec : {M : Type 1} → statement M
+hold-spec =
+    tie.close
+    (tie.spec
+    word-at-requires
+    slice-read-held
+    sub-refill
+    part-refill-start
+    part-refill-end
+    refill-requires
+    slice-write-rec
+    same-length
+    returns)

@@ -1,0 +1,51 @@
+-- A record after an accepted packet: its type is counted, and the fields that a Context packet carries are held.
+use mathlib.Core.Path.{_≡_}
+use Prim.Native.Nat.{ℕ, _+_, _-_, _*_, _/_, _%_, _^_, _≤_}
+use mathlib.Core.Bool.{Bool, true}
+use mathlib.Core.List.{List}
+use lib.Bits.{bitAnd, bitOr}
+use lib.Dec.{eqb}
+use lib.ListN.{length, getD, set}
+use Rattle.words.specs.Tests.{pick}
+use Rattle.words.specs.Word.{has}
+use Rattle.words.specs.Part.{part, put}
+use Rattle.words.specs.SetBits.{bitsOf, above}
+use Rattle.fields.specs.Sizes.{sizeOf, sizesOf}
+use Rattle.fields.specs.Layout.{indicatorOf, fieldOf}
+use Rattle.record.specs.Held.{heldMask, heldBits, inOrder}
+use Rattle.record.specs.Layout.{headWords, slotWords, heldOf, orderOf, slotIn, slotsOf}
+use Rattle.record.specs.Counts.{countRecord, addedTo}
+
+-- what a slot is after a packet: the field's words where the packet carries it, and else what it was.
+-- "An accepted Context packet replaces each field .. that it carries, whole."
+unfoldable pub slotAfter : Bool → List ℕ → List ℕ → List ℕ
+slotAfter carried field slot = pick carried field slot
+
+-- the slots after a packet with this body
+unfoldable pub slotsAfter : List ℕ → List ℕ → List ℕ
+slotsAfter body slots = inOrder heldBits (λ b. slotAfter (has (indicatorOf body) b) (fieldOf b body) (slotIn b slots))
+
+-- the held indicator after it: the carried bits of held fields are gained
+unfoldable pub heldAfter : ℕ → ℕ → ℕ
+heldAfter indicator held = bitOr held (bitAnd indicator heldMask)
+
+-- a record after a packet's fields are held
+unfoldable pub holdRecord : List ℕ → List ℕ → List ℕ
+holdRecord body r = set (put headWords slotWords (slotsAfter body (slotsOf r)) r) 1 (heldAfter (indicatorOf body) (heldOf r))
+
+-- a record after a packet of this type, count and body, and what it adds to missing
+unfoldable pub recordAfter : ℕ → ℕ → List ℕ → List ℕ → List ℕ
+recordAfter kind count body r = pick (eqb kind 4) (holdRecord body (countRecord (orderOf kind) count r)) (countRecord (orderOf kind) count r)
+
+unfoldable pub addedBy : ℕ → ℕ → List ℕ → ℕ
+addedBy kind count r = addedTo (orderOf kind) count r
+
+-- ---- fields that stand elsewhere than in a packet
+
+-- the slots where the fields of these bits stand in ws, one after the other from the place at on
+unfoldable pub refilled : ℕ → ℕ → List ℕ → List ℕ → List ℕ
+refilled bits at ws slots = inOrder heldBits (λ b. slotAfter (has bits b) (part (at + sizesOf (above b (bitsOf 31 bits))) (sizeOf b) ws) (slotIn b slots))
+
+-- the field of each of these bits, where they stand so, lies inside the words
+abbrev pub Inside : ℕ → ℕ → List ℕ → Type 0
+Inside bits at ws = (b : ℕ) → has bits b ≡ true → at + sizesOf (above b (bitsOf 31 bits)) + sizeOf b ≤ length ws

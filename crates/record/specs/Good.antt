@@ -1,0 +1,55 @@
+-- Document 01, 'The table and its page', of a stream's record: "unheld fields .. zero; held fields obey their rules; a count not started has zeros; a last
+-- count is at most 15; no field held unless type 4 has started". Each is a test, and `Good` says the same in facts
+-- (proofs/GoodLaws.antt: `good-of`, `of-good`).
+use mathlib.Core.Path.{_≡_}
+use Prim.Native.Nat.{ℕ, _+_, _*_, _/_, _%_, _^_, _≤_, _<_}
+use mathlib.Core.Bool.{Bool, true, false}
+use mathlib.Core.List.{List}
+use lib.Bits.{bitAnd}
+use lib.Dec.{eqb, leb}
+use lib.ListN.{length, getD, replicate}
+use Rattle.words.specs.Tests.{pick, both}
+use Rattle.words.specs.Word.{has}
+use Rattle.words.specs.All.{all}
+use Rattle.fields.specs.Sizes.{sizeOf}
+use Rattle.fields.specs.Rules.{ruleOf}
+use Rattle.record.specs.Held.{heldMask, holds}
+use Rattle.record.specs.Layout.{heldOf, orderOf, countOf, seenOf, missingOf, lastOf, slotOf}
+
+-- the words are zero
+unfoldable pub zeros : List ℕ → Bool
+zeros ws = all (length ws) (λ i. eqb (getD ws i 0) 0)
+
+-- "a count not started has zeros; a last count is at most 15"
+unfoldable pub countGood : ℕ → ℕ → ℕ → Bool
+countGood seen missing last = pick (eqb last 0) (both (eqb seen 0) (eqb missing 0)) (leb last 16)
+
+unfoldable pub countGoodAt : List ℕ → ℕ → Bool
+countGoodAt r k = countGood (seenOf (countOf k r)) (missingOf (countOf k r)) (lastOf (countOf k r))
+
+-- no bit is held but those of held fields; "no field held unless type 4 has started"
+unfoldable pub heldGood : ℕ → ℕ → Bool
+heldGood held last = both (eqb (bitAnd held heldMask) held) (pick (eqb last 0) (eqb held 0) true)
+
+-- "unheld fields .. zero; held fields obey their rules", of the slot of bit b
+unfoldable pub slotGood : List ℕ → ℕ → Bool
+slotGood r b = pick (holds b) (pick (has (heldOf r) b) (ruleOf b (slotOf b r)) (zeros (slotOf b r))) true
+
+-- a record is good
+unfoldable pub recordGood : List ℕ → Bool
+recordGood r = both (heldGood (heldOf r) (lastOf (countOf 2 r))) (both (all 4 (countGoodAt r)) (all 31 (slotGood r)))
+
+-- ---- the same in facts
+
+pub record GoodCount (seen missing last : ℕ) : Type 0 where
+  pub unstarted : last ≡ 0 → (seen ≡ 0) × (missing ≡ 0)
+  pub most : last ≤ 16
+
+pub record Good (r : List ℕ) : Type 0 where
+  -- a held bit is one of a held field
+  pub bits : (b : ℕ) → has (heldOf r) b ≡ true → holds b ≡ true
+  pub small : heldOf r < 2 ^ 31
+  pub started : lastOf (countOf 2 r) ≡ 0 → heldOf r ≡ 0
+  pub counts : (k : ℕ) → k < 4 → GoodCount (seenOf (countOf k r)) (missingOf (countOf k r)) (lastOf (countOf k r))
+  pub unheld : (b : ℕ) → holds b ≡ true → has (heldOf r) b ≡ false → slotOf b r ≡ replicate (sizeOf b) 0
+  pub obeys : (b : ℕ) → holds b ≡ true → has (heldOf r) b ≡ true → ruleOf b (slotOf b r) ≡ true

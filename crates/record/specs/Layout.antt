@@ -1,0 +1,61 @@
+-- A stream's record. Its first words are those of its body in a page: identifier, held indicator, "for types 1, 3, 4, 5 three words each (seen,
+-- missing, last plus one or 0 if not started)"; then a slot for each held field, in field order.
+use Prim.Native.Nat.{ℕ, _+_, _*_}
+use mathlib.Core.List.{List}
+use lib.Dec.{eqb}
+use lib.ListN.{getD}
+use Rattle.words.specs.Tests.{pick}
+use Rattle.words.specs.Part.{part}
+use Rattle.fields.specs.Sizes.{sizeOf}
+use Rattle.record.specs.Held.{slotAt}
+
+-- the words before the slots, those of the slots, and all
+abbrev pub headWords : ℕ
+headWords = 14
+
+abbrev pub slotWords : ℕ
+slotWords = 74
+
+abbrev pub recordWords : ℕ
+recordWords = headWords + slotWords
+
+-- ---- what stands where
+
+abbrev pub identifierOf : List ℕ → ℕ
+identifierOf r = getD r 0 0
+
+-- the held indicator
+abbrev pub heldOf : List ℕ → ℕ
+heldOf r = getD r 1 0
+
+-- the types that are counted, in their order: 1, 3, 4, 5
+unfoldable pub orderOf : ℕ → ℕ
+orderOf kind = pick (eqb kind 1) 0 (pick (eqb kind 3) 1 (pick (eqb kind 4) 2 3))
+
+-- where the count of a type begins, by the type's order
+abbrev pub countAt : ℕ → ℕ
+countAt k = 2 + 3 * k
+
+-- its three words
+unfoldable pub countOf : ℕ → List ℕ → List ℕ
+countOf k r = part (countAt k) 3 r
+
+abbrev pub seenOf : List ℕ → ℕ
+seenOf count = getD count 0 0
+
+abbrev pub missingOf : List ℕ → ℕ
+missingOf count = getD count 1 0
+
+-- last plus one, or 0 where the count has not started
+abbrev pub lastOf : List ℕ → ℕ
+lastOf count = getD count 2 0
+
+-- the slot of bit b among the slots, and in a record
+unfoldable pub slotIn : ℕ → List ℕ → List ℕ
+slotIn b slots = part (slotAt b) (sizeOf b) slots
+
+unfoldable pub slotsOf : List ℕ → List ℕ
+slotsOf r = part headWords slotWords r
+
+unfoldable pub slotOf : ℕ → List ℕ → List ℕ
+slotOf b r = slotIn b (slotsOf r)

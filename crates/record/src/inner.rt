@@ -1,0 +1,16 @@
+// What the crates above use of a record.
+mod after;
+mod counts;
+mod good;
+mod held;
+
+pub use after::hear;
+pub use good::record_good;
+pub use held::refill;
+
+// The words of a record before its slots, those of its slots, and all.
+pub const HEAD_WORDS: usize = 14;
+
+pub const SLOT_WORDS: usize = 74;
+
+pub const RECORD_WORDS: usize = HEAD_WORDS + SLOT_WORDS;

@@ -1,0 +1,58 @@
+// The counts of a record, one for each of types 1, 3, 4 and 5.
+ghost use mathlib.Core.Path.{_≡_};
+ghost use Prim.Native.Nat.{_+_, _*_, _≤_, _<_};
+ghost use lib.ListN.{length, getD};
+ghost use Rattle.record.specs.Layout.{recordWords, orderOf, countOf, lastOf};
+ghost use Rattle.record.specs.Counts.{addedOf, countedOf, countRecord, addedTo};
+
+// The order of a type among those that are counted: 1, 3, 4, 5.
+pub fn order_of(kind: u32) -> usize
+    ensures { λ r. ⌜ (r ≡ orderOf kind) × (r < 4) ⌝ }
+{
+    if kind == 1 {
+        return 0;
+    }
+    if kind == 3 {
+        return 1;
+    }
+    if kind == 4 {
+        return 2;
+    }
+    3
+}
+
+// The missing that a packet of this count adds: nothing for the first, else (count - last - 1) modulo 16. Last is given as last plus one, or 0.
+fn added(last: u32, count: u32) -> u32
+    requires { ⌜ (last ≤ 16) × (count < 16) ⌝ }
+    ensures { λ r. ⌜ r ≡ addedOf last count ⌝ }
+{
+    if last == 0 {
+        return 0;
+    }
+    std::num::wrapping_sub_u32(count, last) % 16
+}
+
+// Counts a packet in the three words of its type: seen, missing, last plus one. Gives the missing that it adds.
+fn count_words(ws: &mut [u32], count: u32) -> u32
+    requires { ⌜ (length (now ws) ≡ 3) × (count < 16) × (lastOf (now ws) ≤ 16) ⌝ }
+    ensures { λ r. ⌜ (r ≡ addedOf (lastOf (now (ws .entry))) count) × (now (ws .exit) ≡ countedOf count (now (ws .entry))) ⌝ }
+{
+    let seen = ws[0];
+    let missing = ws[1];
+    let last = ws[2];
+    let more = added(last, count);
+    ws[0] = std::num::wrapping_add_u32(seen, 1);
+    ws[1] = std::num::wrapping_add_u32(missing, more);
+    ws[2] = count + 1;
+    more
+}
+
+// Counts a packet of the type of this order in a record. Gives the missing that it adds.
+pub fn count(rec: &mut [u32], order: usize, count: u32) -> u32
+    requires { ⌜ (length (now rec) ≡ recordWords) × (order < 4) × (count < 16) × (lastOf (countOf order (now rec)) ≤ 16) ⌝ }
+    ensures { λ r. ⌜ (r ≡ addedTo order count (now (rec .entry))) × (now (rec .exit) ≡ countRecord order count (now (rec .entry))) ⌝ }
+{
+    let at = 2 + 3 * order;
+    let end = at + 3;
+    count_words(&mut rec[at..end], count)
+}

@@ -1,0 +1,91 @@
+// The fields that a record holds, each in its slot.
+ghost use mathlib.Core.Path.{_≡_};
+ghost use mathlib.Core.Bool.{true};
+ghost use Prim.Native.Nat.{ℕ, _+_, _≤_, _<_};
+ghost use lib.Bits.{bitAnd};
+ghost use lib.ListN.{length};
+ghost use Rattle.words.specs.Outcome.{accepted};
+ghost use Rattle.words.specs.Word.{has};
+ghost use Rattle.fields.specs.Layout.{contextOf};
+ghost use Rattle.record.specs.Held.{heldMask, slotAt};
+ghost use Rattle.record.specs.Layout.{slotWords, recordWords};
+ghost use Rattle.record.specs.After.{Inside, refilled, holdRecord};
+
+// The bits of the held fields, 30 to 10.
+pub const HELD: u32 = 0x7FFF_FC00;
+
+// Where the slots begin among each other, by the bit of the field: each after those of the held bits above it.
+const SLOTS: [usize; 32] = [
+    74,
+    74,
+    74,
+    74,
+    74,
+    74,
+    74,
+    74,
+    74,
+    74,
+    73,
+    60,
+    47,
+    36,
+    25,
+    23,
+    22,
+    20,
+    19,
+    18,
+    16,
+    14,
+    13,
+    12,
+    11,
+    9,
+    7,
+    5,
+    3,
+    1,
+    0,
+    0,
+];
+
+// Where the slot of a field begins among the slots.
+pub fn slot_at(bit: u32) -> usize
+    requires { ⌜ bit < 32 ⌝ }
+    ensures { λ r. ⌜ (r ≡ slotAt bit) × (r ≤ slotWords) ⌝ }
+{
+    SLOTS[bit as usize]
+}
+
+// Each field of these bits into its slot, whole. The fields stand in the words one after the other, from a place on.
+pub fn refill(slots: &mut [u32], bits: u32, words: &[u32], at: usize)
+    requires { ⌜ (length (now slots) ≡ slotWords) × (bitAnd bits heldMask ≡ bits) × Inside bits at (now words) ⌝ }
+    ensures { λ _. ⌜ now (slots .exit) ≡ refilled bits at (now (words .entry)) (now (slots .entry)) ⌝ }
+{
+    let mut rest = bits;
+    let mut from = at;
+    while rest != 0 {
+        let f = fields::inner::next_field(rest);
+        let n = fields::inner::size_of(f.bit);
+        words::inner::copy_part(slots, slot_at(f.bit), words, from, n);
+        from += n;
+        rest = f.rest;
+    }
+}
+
+// Holds the fields that a Context packet carries: each replaces its slot whole, and the held indicator gains its bit.
+pub fn hold(rec: &mut [u32], body: &[u32])
+    requires { ⌜ (length (now rec) ≡ recordWords) × (contextOf (now body) ≡ accepted tt) ⌝ }
+    ensures { λ _. ⌜ now (rec .exit) ≡ holdRecord (now (body .entry)) (now (rec .entry)) ⌝ }
+{
+    let bits = words::inner::word_at(body, 0) & HELD;
+    let held = rec[1];
+    refill(
+        &mut rec[crate::inner::HEAD_WORDS..crate::inner::RECORD_WORDS],
+        bits,
+        body,
+        1,
+    );
+    rec[1] = held | bits;
+}

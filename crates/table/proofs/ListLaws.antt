@@ -1,0 +1,80 @@
+-- Lists of identifiers. The idea: `listGood` says what `GoodList` says in facts (`list-of`, `of-list`), and looks at the identifiers alone, not where they
+-- stand (`list-same`).
+use mathlib.Core.Path.{_≡_, ap, _∙_}
+use mathlib.Core.Bool.{Bool, true, false, not}
+use mathlib.Core.Logic.{⊎-elim}
+use mathlib.Core.List.{List}
+use Prim.Native.Nat.{ℕ, _+_, _*_, _≤_, _<_}
+use native.Mathlib.Nat.{mul-le-mul-left, mul-suc, zero-add, one-mul}
+use native.Mathlib.Omega.{arith}
+use borrow.Author.Tests.{eq-eqb, ne-eqb, le-leb, leb-true, eqb-false, not-true}
+use lib.Dec.{eqb, leb}
+use lib.ListN.{length, getD}
+use Rattle.words.specs.Tests.{both}
+use Rattle.words.specs.All.{all}
+use Rattle.words.proofs.Cases.{le-or-lt, both-left, both-right, both-true}
+use Rattle.words.proofs.AllLaws.{all-at, all-intro, all-same, First, first-is, first-one}
+use Rattle.table.specs.Layout.{streamsOf}
+use Rattle.table.specs.Identifiers.{spaced, listed, declared, apart, listGood, streamOf}
+use Rattle.table.specs.Well.{GoodList}
+
+-- ---- identifiers at equal distances
+
+pub spaced-less : (first step u s : ℕ) → u ≤ s → first + step * u ≤ first + step * s
+spaced-less first step u s h = omega (arith, mul-le-mul-left step h)
+
+pub spaced-inside : (first step s n l : ℕ) → 1 ≤ step → s < n → first + step * n ≤ l → first + step * s < l
+spaced-inside first step s n l o h g = omega (arith, mul-le-mul-left step h, mul-suc step s)
+
+-- ---- the test as facts
+
+pub list-of : (n : ℕ) (id : ℕ → ℕ) → listGood n id ≡ true → GoodList n id
+unfolding listGood apart
+list-of n id e =
+    let r = both-right (leb 1 n) (both (leb n 32) (all n (apart id))) e in
+    record {
+      some = leb-true 1 n (both-left (leb 1 n) (both (leb n 32) (all n (apart id))) e);
+      few = leb-true n 32 (both-left (leb n 32) (all n (apart id)) r);
+      apart = λ u s h g f.
+          eqb-false (id u) (id s)
+          (not-true _ (all-at (λ v. not (eqb (id v) (id s))) s u h (all-at (apart id) n s g (both-right (leb n 32) (all n (apart id)) r)))) f;
+    }
+
+pub of-list : (n : ℕ) (id : ℕ → ℕ) → GoodList n id → listGood n id ≡ true
+unfolding listGood apart
+of-list n id g =
+    both-true _ _ (le-leb 1 n (g .some))
+    (both-true _ _ (le-leb n 32 (g .few)) (all-intro (apart id) n (λ s h. all-intro _ s (λ u k. ap not (ne-eqb (id u) (id s) (g .apart u s k h))))))
+
+-- the same identifiers
+pub list-same : (n : ℕ) (id other : ℕ → ℕ) → ((s : ℕ) → s < n → id s ≡ other s) → listGood n id ≡ listGood n other
+unfolding listGood apart
+list-same n id other e =
+    ap (λ (t : Bool). both (leb 1 n) (both (leb n 32) t))
+    (all-same (apart id) (apart other) n (λ s h. all-same _ _ s (λ u k. rw (e u (omega arith), e s h))))
+
+-- a list whose identifiers stand one after the other
+pub list-next : (ids : List ℕ) → listGood (length ids) (spaced 0 1 ids) ≡ listGood (length ids) (listed ids)
+list-next ids = list-same (length ids) (spaced 0 1 ids) (listed ids) (λ s h. ap (λ (i : ℕ). getD ids i 0) (zero-add (1 * s) ∙ one-mul s))
+
+-- ---- the stream of an identifier
+
+-- one more is not it
+pub none-more : (t : List ℕ) (identifier s : ℕ) → ((i : ℕ) → i < s → eqb (declared t i) identifier ≡ false) → eqb (declared t s) identifier ≡ false
+    → (i : ℕ) → i < s + 1 → eqb (declared t i) identifier ≡ false
+none-more t identifier s b e i h = ⊎-elim (λ (g : s ≤ i). let k : i ≡ s = omega arith in rw k e) (λ (g : i < s). b i g) (le-or-lt s i)
+
+module _ (t : List ℕ) (identifier s n : ℕ) (e : n ≡ streamsOf t) (before : (i : ℕ) → i < s → eqb (declared t i) identifier ≡ false) where
+  pub stream-found : s < n → declared t s ≡ identifier → s ≡ streamOf identifier t
+  unfolding streamOf
+  stream-found h i =
+      first-one (streamsOf t) s _ (record { most = omega arith; passes = λ _. eq-eqb (declared t s) identifier i; before = before })
+
+  pub stream-none : s ≡ n → n ≡ streamOf identifier t
+  unfolding streamOf
+  stream-none i = rw i at (first-one (streamsOf t) s (λ u. eqb (declared t u) identifier) (record { most = omega arith; passes = λ g. absurd (omega arith); before = before }))
+
+-- what it is: one of the list where it is below S
+pub stream-is : (identifier : ℕ) (t : List ℕ) → First (streamsOf t) (λ s. eqb (declared t s) identifier) (streamOf identifier t)
+unfolding streamOf
+stream-is identifier t = first-is (streamsOf t) (λ s. eqb (declared t s) identifier)

@@ -1,0 +1,57 @@
+-- `write_records` meets its promise. The invariant `Writing` says that the records passed are fresh and the rest is as it was.
+use Prim.Native.Nat.{_-_}
+use lib.ListN.{length}
+use Rattle.table.proofs.StartLaws.{Writing, writing-start, writing-turn, writing-end}
+use native.Mathlib.Omega.{arith}
+use borrow.Author.Needs.{needs}
+use Rattle.table.proofs.records.write_records.Statement.{statement}
+use Rattle.table.proofs.records.write_records.Tie as tie
+
+abbrev Inv-loop : tie.InvT-loop
+Inv-loop table₀ ids s₀ table s = Writing ids table₀ table s
+
+abbrev μ-loop : tie.MeasureT-loop
+μ-loop table₀ ids s₀ table s = length ids - s
+
+loop-holds : tie.Need-loop-holds Inv-loop μ-loop
+loop-holds c = writing-start _ _
+
+mul-write-record : tie.Need-mul-write-record Inv-loop μ-loop
+mul-write-record c = search needs
+
+shared-slice-read-write-record : tie.Need-shared-slice-read-write-record Inv-loop μ-loop
+shared-slice-read-write-record c = search needs
+
+write-record-requires : tie.Need-write-record-requires Inv-loop μ-loop
+write-record-requires c κs = search needs
+
+add-s : tie.Need-add-s Inv-loop μ-loop
+add-s c = search needs
+
+loop-less : tie.Need-loop-less Inv-loop μ-loop
+loop-less c = search needs
+
+loop-again : tie.Need-loop-again Inv-loop μ-loop
+loop-again c = writing-turn _ _ _ _ _ (c .before .before .before .before .before .before .before .before .before .pre .1) (c .before .before .before .before .before .before .loop .inv) (c .before .before .before .before .before .loop-test .taken) (c .before .before .write-record .ensures)
+
+same-length : tie.Need-same-length Inv-loop μ-loop
+same-length c = c .before .loop .inv .same
+
+returns : tie.Need-returns Inv-loop μ-loop
+returns c = writing-end _ _ _ _ (omega arith) (c .before .loop .inv)
+
+pub write-records-spec : {M : Type 1} → statement M
+write-records-spec =
+    tie.close
+    (tie.spec
+    Inv-loop
+    μ-loop
+    loop-holds
+    mul-write-record
+    shared-slice-read-write-record
+    write-record-requires
+    add-s
+    loop-less
+    loop-again
+    same-length
+    returns)

@@ -1,0 +1,33 @@
+-- Document 01, 'Numbers given back', LIST: "0 or over 32 identifiers, or one twice". Identifiers are given as a function from their place in the list, so that
+-- a list that is handed in and the list of a table are judged alike.
+use Prim.Native.Nat.{ℕ, _+_, _*_}
+use mathlib.Core.Bool.{Bool, not}
+use mathlib.Core.List.{List}
+use lib.Dec.{eqb, leb}
+use lib.ListN.{getD}
+use Rattle.words.specs.Tests.{both}
+use Rattle.words.specs.All.{all, firstOf}
+use Rattle.table.specs.Layout.{streamsOf, base}
+
+-- the identifiers that stand at equal distances
+abbrev pub spaced : ℕ → ℕ → List ℕ → ℕ → ℕ
+spaced first step ws s = getD ws (first + step * s) 0
+
+-- those of a list, and of a table
+abbrev pub listed : List ℕ → ℕ → ℕ
+listed ids s = getD ids s 0
+
+abbrev pub declared : List ℕ → ℕ → ℕ
+declared t s = getD t (base s) 0
+
+-- none before s is that of s
+unfoldable pub apart : (ℕ → ℕ) → ℕ → Bool
+apart id s = all s (λ u. not (eqb (id u) (id s)))
+
+-- 1 to 32, and none twice
+unfoldable pub listGood : ℕ → (ℕ → ℕ) → Bool
+listGood n id = both (leb 1 n) (both (leb n 32) (all n (apart id)))
+
+-- the stream of an identifier: its place in the table's list, and S where it is not declared
+unfoldable pub streamOf : ℕ → List ℕ → ℕ
+streamOf identifier t = firstOf (streamsOf t) (λ s. eqb (declared t s) identifier)

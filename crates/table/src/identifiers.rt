@@ -1,0 +1,51 @@
+// Whether a list of identifiers is valid. The identifiers stand at equal distances: in a list one after the other, in a table a record apart.
+ghost use mathlib.Core.Path.{_≡_};
+ghost use Prim.Native.Nat.{_+_, _*_, _≤_, _<_};
+ghost use lib.ListN.{length};
+ghost use Rattle.words.specs.All.{all};
+ghost use Rattle.table.specs.Identifiers.{spaced, apart, listGood};
+
+// Whether no identifier before number s is that of s.
+fn is_apart(words: &[u32], first: usize, step: usize, s: usize) -> bool
+    requires { ⌜ first + step * s < length (now words) ⌝ }
+    ensures { λ r. ⌜ r ≡ apart (spaced first step (now (words .entry))) s ⌝ }
+{
+    let mine = words[first + step * s];
+    let mut u = 0;
+    while u < s {
+        if words[first + step * u] == mine {
+            return false;
+        }
+        u += 1;
+    }
+    true
+}
+
+// Whether no identifier of n stands twice.
+fn all_apart(words: &[u32], first: usize, step: usize, n: usize) -> bool
+    requires { ⌜ (1 ≤ step) × (first + step * n ≤ length (now words)) ⌝ }
+    ensures { λ r. ⌜ r ≡ all n (apart (spaced first step (now (words .entry)))) ⌝ }
+{
+    let mut s = 0;
+    while s < n {
+        if !is_apart(words, first, step, s) {
+            return false;
+        }
+        s += 1;
+    }
+    true
+}
+
+// Whether the list is 1 to 32 identifiers, none twice.
+pub fn list_good(words: &[u32], first: usize, step: usize, n: usize) -> bool
+    requires { ⌜ (1 ≤ step) × (first + step * n ≤ length (now words)) ⌝ }
+    ensures { λ r. ⌜ r ≡ listGood n (spaced first step (now (words .entry))) ⌝ }
+{
+    if n < 1 {
+        return false;
+    }
+    if 32 < n {
+        return false;
+    }
+    all_apart(words, first, step, n)
+}
