@@ -23,7 +23,7 @@ first-word at ws = getD-drop at ws 0 0 ∙ ap (λ (i : ℕ). getD ws i 0) (add-z
 pub second-word : (at : ℕ) (ws : List ℕ) → getD (drop at ws) 1 0 ≡ getD ws (at + 1) 0
 second-word at ws = getD-drop at ws 1 0
 
-rest-whole : (at : ℕ) (ws : List ℕ) → take (length ws - at) (drop at ws) ≡ drop at ws
+pub rest-whole : (at : ℕ) (ws : List ℕ) → take (length ws - at) (drop at ws) ≡ drop at ws
 rest-whole at ws = take-all (length ws - at) (drop at ws) (omega (arith, length-drop at ws))
 
 -- ---- a field that lies inside its body, or not

@@ -1,7 +1,7 @@
 -- A record after a packet, part by part. The idea: a count changes its three words alone, and holding changes the slots and the held indicator alone; the
 -- slots after a packet are read by `in-order-at`.
 use mathlib.Core.Path.{_≡_, refl, sym, ap, _∙_}
-use mathlib.Core.Bool.{Bool, true, false}
+use mathlib.Core.Bool.{true}
 use mathlib.Core.Logic.{⊎-elim}
 use mathlib.Core.List.{List, _++_}
 use Prim.Native.Nat.{ℕ, _+_, _-_, _^_, _≤_, _<_}
@@ -15,7 +15,7 @@ use Rattle.words.specs.Word.{has}
 use Rattle.words.specs.SetBits.{bitsOf, above}
 use Rattle.words.specs.Part.{part, put}
 use Rattle.words.specs.Outcome.{accepted}
-use Rattle.words.proofs.Cases.{le-or-lt, true-or-false, both-left, both-yes}
+use Rattle.words.proofs.Cases.{le-or-lt, true-or-false, both-left, both-yes, both-twice}
 use Rattle.words.proofs.BitLaws.{has-and, has-or, word-same}
 use Rattle.words.proofs.SetBitLaws.{above-agree}
 use Rattle.words.proofs.PartLaws.{seen, lent-to, part-length, put-length, part-put, part-put-before, part-put-after, part-set-before, getD-put-before}
@@ -31,11 +31,6 @@ use Rattle.record.proofs.SlotLaws.{in-order-same, in-order-length, in-o
 use Rattle.record.proofs.HoldLaws.{slot-inside, within-holds}
 
 -- ---- the carried bits of held fields
-
-both-twice : (a b : Bool) → both (both a b) b ≡ both a b
-both-twice true true = refl
-both-twice true false = refl
-both-twice false b = refl
 
 masked-small : (n : ℕ) → bitAnd n heldMask < 2 ^ 31
 masked-small n = lt-of-le-of-lt (and-le-r n heldMask) held-small

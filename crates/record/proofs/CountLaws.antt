@@ -7,6 +7,7 @@ use native.Mathlib.Omega.{arith}
 use borrow.Author.Tests.{eq-eqb, ne-eqb}
 use lib.ListN.{length, take, drop, getD, set}
 use Rattle.words.specs.Part.{part}
+use Rattle.words.proofs.LaidLaws.{sets-all}
 use Rattle.words.proofs.PartLaws.{seen, lent-to, part-length}
 use Rattle.record.specs.Layout.{recordWords, countAt, countOf}
 use Rattle.record.specs.Counts.{missedOf, addedOf, countedOf, countRecord}
@@ -29,18 +30,11 @@ added-samples = (refl, refl, refl)
 
 -- ---- the three words of a count
 
-stored : (ws : List ℕ) (x y z : ℕ) → length ws ≡ 3 → set (set (set ws 0 x) 1 y) 2 z ≡ x ∷ y ∷ z ∷ []
-stored [] x y z l = absurd (omega arith)
-stored (a ∷ []) x y z l = absurd (omega arith)
-stored (a ∷ b ∷ []) x y z l = absurd (omega arith)
-stored (a ∷ b ∷ c ∷ []) x y z l = refl
-stored (a ∷ b ∷ c ∷ d ∷ ws) x y z l = absurd (omega arith)
-
 pub count-stored : (ws : List ℕ) (count more seen missing : ℕ) → length ws ≡ 3 → more ≡ addedOf (getD ws 2 0) count
     → seen ≡ (getD ws 0 0 + 1) % 2 ^ 32 → missing ≡ (getD ws 1 0 + more) % 2 ^ 32
     → set (set (set ws 0 seen) 1 missing) 2 (count + 1) ≡ countedOf count ws
 unfolding countedOf
-count-stored ws count more seen missing l e es em = stored ws seen missing (count + 1) l ∙ rw (es, em, e)
+count-stored ws count more seen missing l e es em = sets-all (seen ∷ missing ∷ (count + 1) ∷ []) ws l ∙ rw (es, em, e)
 
 -- ---- a record of which a count is lent
 

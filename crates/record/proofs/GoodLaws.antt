@@ -17,7 +17,7 @@ use Rattle.words.specs.Word.{has}
 use Rattle.words.specs.Part.{part}
 use Rattle.words.specs.All.{all}
 use Rattle.words.specs.Outcome.{accepted}
-use Rattle.words.proofs.Cases.{true-or-false, same-or-not, both-left, both-right, both-true, both-yes, true-is-false}
+use Rattle.words.proofs.Cases.{true-or-false, same-or-not, both-left, both-right, both-true, both-yes, pick-true, true-is-false}
 use Rattle.words.proofs.AllLaws.{all-at, all-intro}
 use Rattle.words.proofs.BitLaws.{has-and, word-same}
 use Rattle.words.proofs.PartLaws.{seen, getD-part, part-part, part-length}
@@ -122,10 +122,6 @@ unfolding holds
 within-mask held h e =
     word-same 31 (bitAnd held heldMask) held (lt-of-le-of-lt (and-le-l held heldMask) h) h
     (λ b l. has-and held heldMask b ∙ ⊎-elim (λ t. rw t (e b t)) (λ t. rw t) (true-or-false (has held b)))
-
-pick-true : (t a : Bool) → (t ≡ true → a ≡ true) → pick t a true ≡ true
-pick-true true a f = f refl
-pick-true false a f = refl
 
 -- a record
 pub good-of : (r : List ℕ) → length r ≡ recordWords → recordGood r ≡ true → Good r

@@ -4,6 +4,8 @@
 pub mod SlotLaws
 -- fields put into their slots
 pub mod HoldLaws
+-- slots and their held words, both ways
+pub mod SqueezeLaws
 -- a record after a packet, part by part
 pub mod AfterLaws
 -- counts after a packet

@@ -20,7 +20,7 @@ use Rattle.words.specs.All.{all}
 use Rattle.words.proofs.AllLaws.{all-at}
 use Rattle.words.proofs.Cases.{le-or-lt, true-or-false, true-is-false}
 use Rattle.words.proofs.PartLaws.{part-is, part-front, part-past, part-drop}
-use Rattle.words.proofs.SetBitLaws.{has-above, bits-yes, bits-no, bits-split, above-none, above-kept}
+use Rattle.words.proofs.SetBitLaws.{has-above, bits-zero, bits-yes, bits-no, bits-split, above-none, above-kept}
 use Rattle.fields.specs.Sizes.{sizeOf, sizesOf}
 use Rattle.fields.proofs.SizeLaws.{sizes-none, sizes-more, sizes-append}
 use Rattle.fields.proofs.WalkLaws.{none-left}
@@ -28,10 +28,6 @@ use Rattle.record.specs.Held.{heldMask, holds, heldBits, inOrder}
 use Rattle.record.specs.Layout.{slotWords}
 
 -- ---- places
-
-bits-zero : (n : ℕ) → bitsOf 0 n ≡ []
-unfolding bitsOf
-bits-zero n = refl
 
 -- where the words of bit b begin among those of the set bits of n below k
 abbrev pub placed : ℕ → ℕ → ℕ → ℕ

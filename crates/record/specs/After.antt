@@ -1,11 +1,11 @@
 -- A record after an accepted packet: its type is counted, and the fields that a Context packet carries are held.
 use mathlib.Core.Path.{_≡_}
-use Prim.Native.Nat.{ℕ, _+_, _-_, _*_, _/_, _%_, _^_, _≤_}
+use Prim.Native.Nat.{ℕ, _+_, _-_, _≤_}
 use mathlib.Core.Bool.{Bool, true}
 use mathlib.Core.List.{List}
 use lib.Bits.{bitAnd, bitOr}
 use lib.Dec.{eqb}
-use lib.ListN.{length, getD, set}
+use lib.ListN.{length, set}
 use Rattle.words.specs.Tests.{pick}
 use Rattle.words.specs.Word.{has}
 use Rattle.words.specs.Part.{part, put}
@@ -49,3 +49,7 @@ refilled bits at ws slots = inOrder heldBits (λ b. slotAfter (has bits b) (part
 -- the field of each of these bits, where they stand so, lies inside the words
 abbrev pub Inside : ℕ → ℕ → List ℕ → Type 0
 Inside bits at ws = (b : ℕ) → has bits b ≡ true → at + sizesOf (above b (bitsOf 31 bits)) + sizeOf b ≤ length ws
+
+-- the held words in field order, of slots: what stands of them in a page
+unfoldable pub heldWords : ℕ → List ℕ → List ℕ
+heldWords held slots = inOrder (bitsOf 31 held) (λ b. slotIn b slots)

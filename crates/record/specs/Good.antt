@@ -2,7 +2,7 @@
 -- count is at most 15; no field held unless type 4 has started". Each is a test, and `Good` says the same in facts
 -- (proofs/GoodLaws.antt: `good-of`, `of-good`).
 use mathlib.Core.Path.{_≡_}
-use Prim.Native.Nat.{ℕ, _+_, _*_, _/_, _%_, _^_, _≤_, _<_}
+use Prim.Native.Nat.{ℕ, _/_, _^_, _≤_, _<_}
 use mathlib.Core.Bool.{Bool, true, false}
 use mathlib.Core.List.{List}
 use lib.Bits.{bitAnd}
@@ -14,7 +14,7 @@ use Rattle.words.specs.All.{all}
 use Rattle.fields.specs.Sizes.{sizeOf}
 use Rattle.fields.specs.Rules.{ruleOf}
 use Rattle.record.specs.Held.{heldMask, holds}
-use Rattle.record.specs.Layout.{heldOf, orderOf, countOf, seenOf, missingOf, lastOf, slotOf}
+use Rattle.record.specs.Layout.{heldOf, countOf, seenOf, missingOf, lastOf, slotOf}
 
 -- the words are zero
 unfoldable pub zeros : List ℕ → Bool

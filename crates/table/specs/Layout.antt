@@ -24,7 +24,3 @@ recordAt s t = part (base s) recordWords t
 
 unfoldable pub withRecord : ℕ → List ℕ → List ℕ → List ℕ
 withRecord s r t = put (base s) recordWords r t
-
--- the words of the layout
-unfoldable pub layoutOf : List ℕ → List ℕ
-layoutOf t = part 0 (base (streamsOf t)) t

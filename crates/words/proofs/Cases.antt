@@ -46,6 +46,11 @@ pub both-yes : (a : Bool) → both a true ≡ a
 both-yes true = refl
 both-yes false = refl
 
+pub both-twice : (a b : Bool) → both (both a b) b ≡ both a b
+both-twice true true = refl
+both-twice true false = refl
+both-twice false b = refl
+
 pub both-no : (a : Bool) → both a false ≡ false
 both-no true = refl
 both-no false = refl
@@ -53,6 +58,11 @@ both-no false = refl
 pub both-assoc : (a b c : Bool) → both (both a b) c ≡ both a (both b c)
 both-assoc true b c = refl
 both-assoc false b c = refl
+
+-- ---- a test that matters only where another holds
+pub pick-true : (t a : Bool) → (t ≡ true → a ≡ true) → pick t a true ≡ true
+pick-true true a f = f refl
+pick-true false a f = refl
 
 -- ---- an optional number
 pub when-most : (t : Bool) (n : ℕ) → when t n ≤ n

@@ -37,6 +37,13 @@ sets-more l s i h =
     (ap (λ (k : ℕ). set (sets l 0 (take i s)) k (getD s i 0)) (sym (zero-add (length (take i s)) ∙ length-take-le i s (omega arith)))
     ∙ sets-append l 0 (take i s) (getD s i 0 ∷ []))
 
+-- stores that fill a list
+pub sets-all : (vs ws : List ℕ) → length ws ≡ length vs → sets ws 0 vs ≡ vs
+sets-all vs ws l =
+    let g : 0 + length vs ≤ length ws = omega arith in
+    let h : length ws ≤ 0 + length vs = omega arith in
+    sets-eq vs ws 0 g ∙ rw (drop-of-length-le ws h) (append-nil vs)
+
 -- ---- the writers' contracts, composed
 pub then : {l m n : List ℕ} {at i k : ℕ} {a b : List ℕ} → Laid l at a i m → Laid m i b k n → Laid l at (a ++ b) k n
 then {l} {m} {n} {at} {i} {k} {a} {b} p q = record {

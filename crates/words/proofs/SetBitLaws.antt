@@ -20,7 +20,11 @@ use Rattle.words.specs.Word.{has}
 use Rattle.words.specs.SetBits.{bitsOf, above}
 use Rattle.words.proofs.Cases.{le-or-lt}
 
--- ---- one bit more
+-- ---- none, and one bit more
+pub bits-zero : (n : ℕ) → bitsOf 0 n ≡ []
+unfolding bitsOf
+bits-zero n = refl
+
 pub bits-yes : (k n : ℕ) → has n k ≡ true → bitsOf (suc k) n ≡ k ∷ bitsOf k n
 unfolding bitsOf
 bits-yes k n e = rw e

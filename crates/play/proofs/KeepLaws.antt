@@ -1,0 +1,152 @@
+-- What play keeps. The idea: an accepted packet replaces one record by a good one of the same identifier (`well-with`), so the table stays well made, its list
+-- and the other records stay, and so do the words past the layout.
+use mathlib.Core.Path.{_≡_, refl, sym, ap, _∙_}
+use mathlib.Core.Bool.{true}
+use mathlib.Core.Logic.{⊎-elim}
+use mathlib.Core.List.{List}
+use Prim.Native.Nat.{ℕ, _<_}
+use lib.ListN.{length, drop}
+use Rattle.words.specs.Part.{part}
+use Rattle.words.specs.Outcome.{Outcome, refused, accepted, Done, leftOf}
+use Rattle.words.proofs.Cases.{true-or-false, after-passed, onward-passed, accepted-same}
+use Rattle.fields.specs.Layout.{contextOf}
+use Rattle.packet.specs.declared.Packet.{Packet}
+use Rattle.packet.specs.Read.{readOf}
+use Rattle.packet.proofs.ReadLaws.{count-small, body-context}
+use Rattle.record.specs.Layout.{recordWords, identifierOf}
+use Rattle.record.specs.After.{recordAfter}
+use Rattle.record.proofs.PacketLaws.{after-length, after-identifier, after-good}
+use Rattle.table.specs.Layout.{streamsOf, base, Has, recordAt, withRecord}
+use Rattle.table.specs.Identifiers.{declared}
+use Rattle.table.specs.Well.{wellMade}
+use Rattle.table.proofs.RecordLaws.{record-length, record-identifier, with-length, record-with, record-with-other, streams-with, past-with}
+use Rattle.table.proofs.WellLaws.{well-whole, well-record, layout-has, list-with, well-with}
+use Rattle.play.specs.declared.Heard.{Heard}
+use Rattle.play.specs.Play.{soughtOf, heardOf, tableAfter, madeOf, stepOf, playOf}
+use Rattle.play.proofs.PlayLaws.{sought-below, made-well, play-step, play-refuses}
+
+-- ---- an accepted packet: what was read, and its stream
+pub record Taken (t ws : List ℕ) (d : Done Heard (List ℕ)) : Type 0 where
+  pub packet : Packet
+  pub stream : ℕ
+  pub reads : readOf ws ≡ accepted packet
+  pub seeks : soughtOf (packet .parts .kind) (packet .parts .identifier) t ≡ accepted stream
+  pub says : heardOf packet stream t ≡ d .says
+  pub leaves : tableAfter packet stream ws t ≡ d .leaves
+
+pub step-taken : (t ws : List ℕ) (d : Done Heard (List ℕ)) → stepOf t ws ≡ accepted d → Taken t ws d
+unfolding stepOf
+step-taken t ws d e =
+    let a = onward-passed (readOf ws) _ d e in
+    let b = onward-passed (soughtOf (a .0 .parts .kind) (a .0 .parts .identifier) t) _ d (a .2) in
+    let f = accepted-same (b .2) in
+    record { packet = a .0; stream = b .0; reads = a .1; seeks = b .1; says = ap (λ (x : Done Heard (List ℕ)). x .says) f; leaves = ap (λ (x : Done Heard (List ℕ)). x .leaves) f }
+
+-- the other way round
+pub taken-step : (t ws : List ℕ) (p : Packet) (s : ℕ) → readOf ws ≡ accepted p → soughtOf (p .parts .kind) (p .parts .identifier) t ≡ accepted s
+    → stepOf t ws ≡ accepted (record { says = heardOf p s t; leaves = tableAfter p s ws t })
+unfolding stepOf
+taken-step t ws p s e f = rw (e, f)
+
+-- ---- what it keeps
+module _ (t ws : List ℕ) (w : wellMade t ≡ true) (d : Done Heard (List ℕ)) (k : Taken t ws d) where
+  abbrev p : Packet
+  p = k .packet
+
+  abbrev s : ℕ
+  s = k .stream
+
+  abbrev body : List ℕ
+  body = part (p .body) (p .length) ws
+
+  abbrev new : List ℕ
+  new = recordAfter (p .parts .kind) (p .parts .count) body (recordAt s t)
+
+  below : s < streamsOf t
+  below = sought-below t ws p (k .reads) s (k .seeks)
+
+  has-it : Has s t
+  has-it = layout-has t s (well-whole t w) below
+
+  old-length : length (recordAt s t) ≡ recordWords
+  old-length = record-length s t has-it
+
+  fields-fine : p .parts .kind ≡ 4 → contextOf body ≡ accepted tt
+  fields-fine = body-context ws p (k .reads)
+
+  new-length : length new ≡ recordWords
+  new-length = after-length (p .parts .kind) (p .parts .count) body (recordAt s t) old-length fields-fine
+
+  new-identifier : identifierOf new ≡ declared t s
+  new-identifier = after-identifier (p .parts .kind) (p .parts .count) body (recordAt s t) old-length fields-fine ∙ record-identifier s t
+
+  leaves-is : d .leaves ≡ withRecord s new t
+  unfolding tableAfter
+  leaves-is = sym (k .leaves)
+
+  pub taken-well : wellMade (d .leaves) ≡ true
+  taken-well =
+      ap wellMade leaves-is
+      ∙ well-with s new t w below new-length new-identifier
+      (after-good (p .parts .kind) (p .parts .count) body (recordAt s t) old-length fields-fine (count-small ws p (k .reads)) (well-record t w s below))
+
+  pub taken-length : length (d .leaves) ≡ length t
+  taken-length = ap length leaves-is ∙ with-length s new t has-it new-length
+
+  -- the list
+  pub taken-streams : streamsOf (d .leaves) ≡ streamsOf t
+  taken-streams = ap streamsOf leaves-is ∙ streams-with s new t has-it new-length
+
+  pub taken-list : (u : ℕ) → declared (d .leaves) u ≡ declared t u
+  taken-list u = ap (λ (x : List ℕ). declared x u) leaves-is ∙ list-with s new t w below new-length new-identifier u
+
+  -- its stream's record, and the others
+  pub taken-record : recordAt (k .stream) (d .leaves) ≡ recordAfter (k .packet .parts .kind) (k .packet .parts .count) (part (k .packet .body) (k .packet .length) ws) (recordAt (k .stream) t)
+  taken-record = ap (recordAt s) leaves-is ∙ record-with s new t has-it new-length
+
+  pub taken-other : (u : ℕ) → (u ≡ k .stream → ⊥) → recordAt u (d .leaves) ≡ recordAt u t
+  taken-other u n = ap (recordAt u) leaves-is ∙ record-with-other s new t has-it new-length u n
+
+  -- the words past the layout
+  pub taken-past : drop (base (streamsOf t)) (d .leaves) ≡ drop (base (streamsOf t)) t
+  taken-past = ap (drop (base (streamsOf t))) leaves-is ∙ past-with s new t has-it new-length (streamsOf t) below
+
+-- ---- play, whatever it answers
+
+pub record Kept (t after : List ℕ) : Type 0 where
+  pub well : wellMade t ≡ true → wellMade after ≡ true
+  pub whole : length after ≡ length t
+  pub streams : streamsOf after ≡ streamsOf t
+  pub list : (u : ℕ) → declared after u ≡ declared t u
+  pub past : drop (base (streamsOf t)) after ≡ drop (base (streamsOf t)) t
+
+pub nothing-changed : (t : List ℕ) → Kept t t
+nothing-changed t = record { well = λ w. w; whole = refl; streams = refl; list = λ u. refl; past = refl }
+
+kept-by : (o : Outcome (Done Heard (List ℕ))) (t ws : List ℕ) → wellMade t ≡ true → stepOf t ws ≡ o → Kept t (leftOf o t)
+kept-by (refused n) t ws w e = nothing-changed t
+kept-by (accepted d) t ws w e =
+    let k = step-taken t ws d e in
+    record { well = λ _. taken-well t ws w d k; whole = taken-length t ws w d k; streams = taken-streams t ws w d k; list = taken-list t ws w d k; past = taken-past t ws w d k }
+
+pub step-keeps : (t ws : List ℕ) → wellMade t ≡ true → Kept t (leftOf (stepOf t ws) t)
+step-keeps t ws w = kept-by (stepOf t ws) t ws w refl
+
+-- a table stays well made, with its length, its list and the words past its layout
+pub play-keeps : (t ws : List ℕ) → Kept t (leftOf (playOf t ws) t)
+play-keeps t ws =
+    ⊎-elim (λ w. rw (play-step t ws w) (step-keeps t ws w)) (λ w. rw (play-refuses t ws w) (nothing-changed t)) (true-or-false (wellMade t))
+
+-- an accepted packet was read and has a stream, and the table was well made
+pub play-taken : (t ws : List ℕ) (d : Done Heard (List ℕ)) → playOf t ws ≡ accepted d → (wellMade t ≡ true) × Taken t ws d
+unfolding playOf
+play-taken t ws d e =
+    let a = after-passed (madeOf t) (stepOf t ws) d e in
+    (made-well t (a .1), step-taken t ws d (a .2))
+
+-- another stream's record is not touched
+pub play-other : (t ws : List ℕ) (d : Done Heard (List ℕ)) → playOf t ws ≡ accepted d → (u : ℕ) → (u ≡ d .says .stream → ⊥) → recordAt u (d .leaves) ≡ recordAt u t
+unfolding heardOf
+play-other t ws d e u n =
+    let k = play-taken t ws d e in
+    taken-other t ws (k .0) d (k .1) u (λ i. n (i ∙ ap (λ (h : Heard). h .stream) (k .1 .says)))

@@ -1,0 +1,10 @@
+-- The laws of play, each beside its kin.
+
+-- the record of a stream lent to a packet, and the answers
+pub mod PlayLaws
+-- what play keeps
+pub mod KeepLaws
+-- a run of packets
+pub mod RunLaws
+-- two answers that meet a promise are equal
+pub mod Uniqueness

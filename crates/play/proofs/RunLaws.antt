@@ -1,0 +1,250 @@
+-- A run of packets. The idea: a step is play of the words from a place on (`stepped`); after n turns of the run the entries so far, then the walk that is left,
+-- are the whole walk (`Running`), and a turn takes one packet of it (`running-turn`, `running-stop`).
+use mathlib.Core.Path.{_≡_, refl, sym, ap, _∙_}
+use mathlib.Core.Bool.{Bool, true, false}
+use mathlib.Core.Logic.{⊎-elim}
+use mathlib.Core.List.{List, [], _∷_, _++_, append-assoc, append-nil}
+use Prim.Native.Nat.{ℕ, zero, suc, _+_, _-_, _*_, _/_, _%_, _^_, _≤_, _<_}
+use native.Mathlib.Nat.{zero-add, add-zero}
+use native.Mathlib.Omega.{arith}
+use borrow.Author.Tests.{le-leb, lt-leb}
+use lib.Dec.{eqb}
+use lib.ListN.{length, take, drop, getD, set, length-append}
+use lib.Seq.{drop-drop}
+use Rattle.words.specs.Numbers.{STREAM}
+use Rattle.words.specs.Tests.{pick, when}
+use Rattle.words.specs.Part.{put}
+use Rattle.words.specs.Outcome.{Outcome, refused, accepted, Done, saidOf, leftOf, Meets}
+use Rattle.words.proofs.Cases.{le-or-lt}
+use Rattle.words.proofs.LaidLaws.{sets-all}
+use Rattle.words.proofs.PartLaws.{put-at, put-length}
+use Rattle.fields.proofs.PlaceLaws.{rest-whole}
+use Rattle.table.specs.Layout.{base}
+use Rattle.table.specs.Well.{wellMade}
+use Rattle.table.proofs.WellLaws.{well-few}
+use Rattle.play.specs.declared.Heard.{Heard}
+use Rattle.play.specs.declared.inner.Happened.{Happened}
+use Rattle.play.specs.declared.Played.{Played}
+use Rattle.play.specs.declared.Played.the-variants.{Accepted, Refused}
+use Rattle.play.specs.declared.run.Reached.{Reached}
+use Rattle.play.specs.declared.run.Ran.the-variants as Ran
+use Rattle.play.specs.Play.{heardOf, stepOf, madeOf, playOf, paper}
+use Rattle.play.specs.Run.{goesOn, saidAt, leftAt, nextOf, Stepped, entryWords, entryOf, entryAt, SmallStream, Walk, ended, before, walkOf, wholeWalk, reachedOf, answersOf, WalkDone, runOf, runPaper}
+use Rattle.play.proofs.PlayLaws.{sought-below, play-step}
+use Rattle.play.proofs.KeepLaws.{step-taken, Kept, nothing-changed, play-keeps}
+
+-- ---- a step
+
+pub stepped : (t ws left : List ℕ) (at next : ℕ) (answer : Played) (on : Bool) → wellMade t ≡ true
+    → Meets paper (stepOf t (take (length ws - at) (drop at ws))) t answer left → on ≡ goesOn (paper answer) → next ≡ at + when on (getD ws at 0 % 2 ^ 16)
+    → Stepped t ws at (record { answer = answer; on = on; next = next }) left
+unfolding saidAt leftAt nextOf
+stepped t ws left at next answer on w m g n =
+    let o : playOf t (drop at ws) ≡ stepOf t (take (length ws - at) (drop at ws)) = play-step t (drop at ws) w ∙ ap (stepOf t) (sym (rest-whole at ws)) in
+    let a : paper answer ≡ saidOf (playOf t (drop at ws)) = m .answer ∙ ap saidOf (sym o) in
+    let h : on ≡ goesOn (saidOf (playOf t (drop at ws))) = g ∙ ap goesOn a in
+    record { answer = a; on = h; next = n ∙ ap (λ (b : Bool). at + when b (getD ws at 0 % 2 ^ 16)) h; table = m .buffer ∙ ap (λ (x : Outcome (Done Heard (List ℕ))). leftOf x t) (sym o) }
+
+-- a stream's number is small
+small-said : (o : Outcome (Done Heard (List ℕ))) (t ws : List ℕ) → wellMade t ≡ true → stepOf t ws ≡ o → SmallStream (saidOf o)
+unfolding heardOf
+small-said (refused n) t ws w e = tt
+small-said (accepted d) t ws w e =
+    let k = step-taken t ws d e in
+    rw (← k .says) (omega (arith, sought-below t ws (k .packet) (k .reads) (k .stream) (k .seeks), well-few t w))
+
+pub stepped-small : (t ws : List ℕ) (at : ℕ) (a : Played) → wellMade t ≡ true → paper a ≡ saidAt t ws at → SmallStream (paper a)
+unfolding saidAt
+stepped-small t ws at a w e = rw (e, play-step t (drop at ws) w) (small-said (stepOf t (drop at ws)) t (drop at ws) w refl)
+
+-- ---- an entry
+
+pub stream-fits : (a : Played) (h : Heard) → SmallStream (paper a) → a ≡ Accepted h → h .stream < 32
+stream-fits a h s e = rw e at s
+
+pub entry-heard : (a : Played) (h : Heard) (size : ℕ) → a ≡ Accepted h → 0 ∷ size ∷ h .kind ∷ h .stream ∷ h .missing ∷ [] ≡ entryOf (paper a) size
+unfolding entryOf
+entry-heard a h size e = rw e
+
+pub entry-refused : (a : Played) (n size k : ℕ) → a ≡ Refused n → k ≡ when (eqb n STREAM) size → n ∷ k ∷ 0 ∷ 0 ∷ 0 ∷ [] ≡ entryOf (paper a) size
+unfolding entryOf
+entry-refused a n size k e f = rw (e, f)
+
+pub entry-stored : (ws : List ℕ) (a b c d e : ℕ) → length ws ≡ entryWords → set (set (set (set (set ws 0 a) 1 b) 2 c) 3 d) 4 e ≡ a ∷ b ∷ c ∷ d ∷ e ∷ []
+entry-stored ws a b c d e l = sets-all (a ∷ b ∷ c ∷ d ∷ e ∷ []) ws l
+
+-- ---- the run
+
+-- n packets with their entries, then the walk that is left
+abbrev pub onto : ℕ → List ℕ → Walk → Walk
+onto n es w = record { packets = n + w .packets; next = w .next; table = w .table; entries = es ++ w .entries }
+
+entry-length : (o : Outcome Heard) (size : ℕ) → length (entryOf o size) ≡ entryWords
+unfolding entryOf
+entry-length (refused n) size = refl
+entry-length (accepted h) size = refl
+
+pub walk-zero : (ws : List ℕ) (at : ℕ) (t : List ℕ) → walkOf 0 ws at t ≡ ended at t
+unfolding walkOf
+walk-zero ws at t = refl
+
+pub walk-over : (n : ℕ) (ws : List ℕ) (at : ℕ) (t : List ℕ) → length ws ≤ at → walkOf n ws at t ≡ ended at t
+unfolding walkOf
+walk-over zero ws at t h = refl
+walk-over (suc n) ws at t h = rw (le-leb (length ws) at h)
+
+pub walk-more : (k n : ℕ) (ws : List ℕ) (at : ℕ) (t : List ℕ) → k ≡ suc n → at < length ws
+    → walkOf k ws at t ≡ before (entryAt t ws at) (pick (goesOn (saidAt t ws at)) (walkOf n ws (nextOf t ws at) (leftAt t ws at)) (ended (nextOf t ws at) (leftAt t ws at)))
+unfolding walkOf
+walk-more k n ws at t e h = rw (e, lt-leb (length ws) at h)
+
+onto-none : (w : Walk) → w ≡ onto 0 [] w
+onto-none w = ap (λ (p : ℕ). record { packets = p; next = w .next; table = w .table; entries = w .entries }) (sym (zero-add (w .packets)))
+
+onto-before : (n : ℕ) (es e : List ℕ) (w : Walk) → onto n es (before e w) ≡ onto (n + 1) (es ++ e) w
+onto-before n es e w =
+    let i : n + suc (w .packets) ≡ n + 1 + w .packets = omega arith in
+    ap (λ (p : ℕ). record { packets = p; next = w .next; table = w .table; entries = es ++ (e ++ w .entries) }) i
+    ∙ ap (λ (l : List ℕ). record { packets = n + 1 + w .packets; next = w .next; table = w .table; entries = l }) (sym (append-assoc es e (w .entries)))
+
+-- n packets are played and written, and `rest` is left
+pub record Running (most : ℕ) (ws : List ℕ) (from : ℕ) (t₀ buffer₀ t buffer : List ℕ) (n : ℕ) (rest : Walk) : Type 0 where
+  pub few : n ≤ most
+  pub well : wellMade t ≡ true
+  pub same : length t ≡ length t₀
+  pub long : length buffer ≡ length buffer₀
+  pub entries : List ℕ
+  pub size : length entries ≡ entryWords * n
+  pub wrote : buffer ≡ entries ++ drop (entryWords * n) buffer₀
+  pub is : walkOf most ws from t₀ ≡ onto n entries rest
+
+pub running-start : (most : ℕ) (ws : List ℕ) (from : ℕ) (t buffer : List ℕ) → wellMade t ≡ true → Running most ws from t buffer t buffer 0 (walkOf (most - 0) ws from t)
+running-start most ws from t buffer w =
+    let e : most ≡ most - 0 = omega arith in
+    record {
+      few = omega arith;
+      well = w;
+      same = refl;
+      long = refl;
+      entries = [];
+      size = refl;
+      wrote = refl;
+      is = ap (λ (n : ℕ). walkOf n ws from t) e ∙ onto-none (walkOf (most - 0) ws from t);
+    }
+
+module _ {most from at n : ℕ} {ws t₀ buffer₀ t buffer : List ℕ} (p : Running most ws from t₀ buffer₀ t buffer n (walkOf (most - n) ws at t)) where
+  -- the words end, or the answers are full
+  pub running-over : length ws ≤ at → Running most ws from t₀ buffer₀ t buffer n (ended at t)
+  running-over h = rw (walk-over (most - n) ws at t h) at p
+
+  pub running-full : n ≡ most → Running most ws from t₀ buffer₀ t buffer n (ended at t)
+  running-full h = let e : most - n ≡ 0 = omega arith in rw (e, walk-zero ws at t) at p
+
+  -- a packet more
+  module _ (less : n < most) (room : most ≡ length buffer₀ / entryWords) (there : at < length ws) (r : Happened) (left written entry : List ℕ) (s : Stepped t ws at r left)
+      (e : entry ≡ entryOf (paper (r .answer)) (getD ws at 0 % 2 ^ 16)) (w : written ≡ put (entryWords * n) entryWords entry buffer) where
+    entry-is : entry ≡ entryAt t ws at
+    unfolding entryAt
+    entry-is = e ∙ ap (λ (o : Outcome Heard). entryOf o (getD ws at 0 % 2 ^ 16)) (s .answer)
+
+    entry-five : length entry ≡ entryWords
+    entry-five = ap length e ∙ entry-length (paper (r .answer)) (getD ws at 0 % 2 ^ 16)
+
+    fits : entryWords * n + entryWords ≤ length buffer
+    fits = omega (arith, p .long)
+
+    kept : Kept t left
+    unfolding leftAt
+    kept = rw (s .table) (play-keeps t (drop at ws))
+
+    abbrev more : Walk
+    more = pick (goesOn (saidAt t ws at)) (walkOf (most - (n + 1)) ws (nextOf t ws at) (leftAt t ws at)) (ended (nextOf t ws at) (leftAt t ws at))
+
+    turn : Running most ws from t₀ buffer₀ left written (n + 1) more
+    turn =
+        let five : entryWords * n + entryWords ≡ entryWords * (n + 1) = omega arith in
+        let k : most - n ≡ suc (most - (n + 1)) = omega arith in
+        record {
+          few = omega arith;
+          well = kept .well (p .well);
+          same = kept .whole ∙ p .same;
+          long = ap length w ∙ put-length (entryWords * n) entryWords entry buffer fits entry-five ∙ p .long;
+          entries = p .entries ++ entry;
+          size = length-append (p .entries) entry ∙ omega (arith, p .size, entry-five);
+          wrote =
+              w ∙ ap (put (entryWords * n) entryWords entry) (p .wrote)
+              ∙ put-at (entryWords * n) entryWords (p .entries) (drop (entryWords * n) buffer₀) entry (p .size)
+              ∙ ap (λ (l : List ℕ). p .entries ++ (entry ++ l)) (drop-drop entryWords (entryWords * n) buffer₀ ∙ ap (λ (m : ℕ). drop m buffer₀) five)
+              ∙ sym (append-assoc (p .entries) entry (drop (entryWords * (n + 1)) buffer₀));
+          is =
+              p .is ∙ ap (onto n (p .entries)) (walk-more (most - n) (most - (n + 1)) ws at t k there)
+              ∙ onto-before n (p .entries) (entryAt t ws at) more
+              ∙ ap (λ (l : List ℕ). onto (n + 1) (p .entries ++ l) more) (sym entry-is);
+        }
+
+    -- the walk goes on, or stops behind it
+    pub running-turn : r .on ≡ true → Running most ws from t₀ buffer₀ left written (n + 1) (walkOf (most - (n + 1)) ws (r .next) left)
+    running-turn o =
+        let g : goesOn (saidAt t ws at) ≡ true = sym (s .on) ∙ o in
+        rw (s .next, s .table) (rw (s .table, g) at turn)
+
+    pub running-stop : r .on ≡ false → Running most ws from t₀ buffer₀ left written (n + 1) (ended (r .next) left)
+    running-stop o =
+        let g : goesOn (saidAt t ws at) ≡ false = sym (s .on) ∙ o in
+        rw (s .next, s .table) (rw (s .table, g) at turn)
+
+-- nothing is left
+pub running-end : {most from at n : ℕ} {ws t₀ buffer₀ t buffer : List ℕ} → Running most ws from t₀ buffer₀ t buffer n (ended at t) → most ≡ length buffer₀ / entryWords
+    → WalkDone (wholeWalk t₀ ws from buffer₀) buffer₀ (record { packets = n; next = at }) t buffer
+unfolding wholeWalk
+running-end {most} {from} {at} {n} {ws} {t₀} {buffer₀} {t} {buffer} p room =
+    let e : walkOf (length buffer₀ / entryWords) ws from t₀ ≡ record { packets = n; next = at; table = t; entries = p .entries } =
+    ap (λ (m : ℕ). walkOf m ws from t₀) (sym room) ∙ p .is
+    ∙ ap (λ (m : ℕ). record { packets = m; next = at; table = t; entries = p .entries ++ [] }) (add-zero n)
+    ∙ ap (λ (l : List ℕ). record { packets = n; next = at; table = t; entries = l }) (append-nil (p .entries)) in
+    record {
+      reached = ap reachedOf (sym e);
+      table = ap (λ (w : Walk). w .table) (sym e);
+      answers = p .wrote ∙ ap (λ (m : ℕ). p .entries ++ drop m buffer₀) (sym (p .size)) ∙ ap (λ (w : Walk). answersOf w buffer₀) (sym e);
+    }
+
+-- ---- the answers of a run
+
+module _ (t ws : List ℕ) (from : ℕ) (answers : List ℕ) where
+  pub run-unmade : (n m : ℕ) → madeOf t ≡ refused n → m ≡ n → Meets runPaper (runOf t ws from answers) (t, answers) (Ran.Refused m) (t, answers)
+  unfolding runOf
+  run-unmade n m e i = record { answer = rw (e, i); buffer = rw e }
+
+  pub run-made : (r : Reached) (left written : List ℕ) → madeOf t ≡ accepted tt → WalkDone (wholeWalk t ws from answers) answers r left written
+      → Meets runPaper (runOf t ws from answers) (t, answers) (Ran.Accepted r) (left, written)
+  unfolding runOf
+  run-made r left written e d = record { answer = rw (e, d .reached); buffer = rw (e, d .table, d .answers) }
+
+-- ---- what a run keeps
+
+kept-then : {a b c : List ℕ} → Kept a b → Kept b c → Kept a c
+kept-then {a} {b} {c} p q = record {
+  well = λ w. q .well (p .well w);
+  whole = q .whole ∙ p .whole;
+  streams = q .streams ∙ p .streams;
+  list = λ u. q .list u ∙ p .list u;
+  past = ap (λ (n : ℕ). drop (base n) c) (sym (p .streams)) ∙ q .past ∙ ap (λ (n : ℕ). drop (base n) b) (p .streams) ∙ p .past;
+}
+
+left-kept : (t ws : List ℕ) (at : ℕ) → Kept t (leftAt t ws at)
+unfolding leftAt
+left-kept t ws at = play-keeps t (drop at ws)
+
+-- a table stays well made, with its length, its list and the words past its layout
+pub walk-keeps : (n : ℕ) (ws : List ℕ) (at : ℕ) (t : List ℕ) → Kept t (walkOf n ws at t .table)
+unfolding walkOf
+walk-keeps zero ws at t = nothing-changed t
+walk-keeps (suc n) ws at t =
+    ⊎-elim (λ (h : length ws ≤ at). rw (le-leb (length ws) at h) (nothing-changed t))
+    (λ (h : at < length ws). rw (lt-leb (length ws) at h) (on-kept (goesOn (saidAt t ws at)) (walk-keeps n ws (nextOf t ws at) (leftAt t ws at))))
+    (le-or-lt (length ws) at)
+  where
+    on-kept : (g : Bool) → Kept (leftAt t ws at) (walkOf n ws (nextOf t ws at) (leftAt t ws at) .table)
+        → Kept t (pick g (walkOf n ws (nextOf t ws at) (leftAt t ws at)) (ended (nextOf t ws at) (leftAt t ws at)) .table)
+    on-kept true k = kept-then (left-kept t ws at) k
+    on-kept false k = left-kept t ws at

@@ -1,0 +1,40 @@
+-- `store` meets its promise: five stores make the five words.
+use native.Mathlib.Omega.{arith}
+use lib.ListN.{length-set}
+use Rattle.play.proofs.RunLaws.{entry-stored}
+use borrow.Author.Needs.{needs}
+use Rattle.play.proofs.run.store.Statement.{statement}
+use Rattle.play.proofs.run.store.Tie as tie
+
+slice-write-place : tie.Need-slice-write-place
+slice-write-place c = search needs
+
+slice-write-place-2 : tie.Need-slice-write-place-2
+slice-write-place-2 c = search needs
+
+slice-write-place-3 : tie.Need-slice-write-place-3
+slice-write-place-3 c = search needs
+
+slice-write-place-4 : tie.Need-slice-write-place-4
+slice-write-place-4 c = search needs
+
+slice-write-place-5 : tie.Need-slice-write-place-5
+slice-write-place-5 c = simp length-set (omega arith)
+
+same-length : tie.Need-same-length
+same-length c = search needs
+
+returns : tie.Need-returns
+returns c = entry-stored (c .args .place .now) _ _ _ _ _ (c .pre)
+
+pub store-spec : {M : Type 1} → statement M
+store-spec =
+    tie.close
+    (tie.spec
+    slice-write-place
+    slice-write-place-2
+    slice-write-place-3
+    slice-write-place-4
+    slice-write-place-5
+    same-length
+    returns)

@@ -1,0 +1,6 @@
+-- Playing packets on a table, in reading order.
+
+-- one packet
+pub mod Play
+-- many, one after the other
+pub mod Run

@@ -1,0 +1,116 @@
+-- The walk over a recording. Document 01, of `vrtplay`: it "stops when no word is left"; "STREAM goes on by the size, any other ends at W". What a walk does is
+-- what play does, packet by packet.
+use mathlib.Core.Path.{_≡_}
+use Prim.Native.Nat.{ℕ, zero, suc, _+_, _-_, _/_, _<_}
+use mathlib.Core.Bool.{Bool, true}
+use mathlib.Core.List.{List, [], _∷_, _++_}
+use lib.Dec.{eqb, leb}
+use lib.ListN.{length, drop, getD}
+use Rattle.words.specs.Numbers.{STREAM}
+use Rattle.words.specs.Tests.{pick, when}
+use Rattle.words.specs.Outcome.{Outcome, refused, accepted, after, Done, saidOf, leftOf}
+use Rattle.packet.specs.Header.{sizeOf}
+use Rattle.play.specs.declared.Heard.{Heard}
+use Rattle.play.specs.declared.inner.Happened.{Happened}
+use Rattle.play.specs.declared.run.Entry.{Entry}
+use Rattle.play.specs.declared.run.Reached.{Reached}
+use Rattle.play.specs.declared.run.Ran.{Ran}
+use Rattle.play.specs.declared.run.Ran.the-variants.{Accepted, Refused}
+use Rattle.play.specs.Play.{madeOf, playOf, paper}
+
+-- ---- one step
+
+-- a walk goes on behind a packet that is heard, and behind one of no declared stream
+abbrev pub goesOn : Outcome Heard → Bool
+goesOn (refused n) = eqb n STREAM
+goesOn (accepted h) = true
+
+-- what play says of the packet at a place, and the table that it leaves
+unfoldable pub saidAt : List ℕ → List ℕ → ℕ → Outcome Heard
+saidAt t ws at = saidOf (playOf t (drop at ws))
+
+unfoldable pub leftAt : List ℕ → List ℕ → ℕ → List ℕ
+leftAt t ws at = leftOf (playOf t (drop at ws)) t
+
+-- the place of the next packet: past this one, or this one's own where the walk stops
+unfoldable pub nextOf : List ℕ → List ℕ → ℕ → ℕ
+nextOf t ws at = at + when (goesOn (saidAt t ws at)) (sizeOf (getD ws at 0))
+
+-- a step's answer r, and the table afterwards
+pub record Stepped (t ws : List ℕ) (at : ℕ) (r : Happened) (left : List ℕ) : Type 0 where
+  pub answer : paper (r .answer) ≡ saidAt t ws at
+  pub on : r .on ≡ goesOn (saidAt t ws at)
+  pub next : r .next ≡ nextOf t ws at
+  pub table : left ≡ leftAt t ws at
+
+-- ---- the words that are written of a packet
+
+abbrev pub entryWords : ℕ
+entryWords = 5
+
+-- the refusal's number or 0; the words that the walk goes on by; type, stream and missing, zero of a refusal
+unfoldable pub entryOf : Outcome Heard → ℕ → List ℕ
+entryOf (refused n) size = n ∷ when (eqb n STREAM) size ∷ 0 ∷ 0 ∷ 0 ∷ []
+entryOf (accepted h) size = 0 ∷ size ∷ h .kind ∷ h .stream ∷ h .missing ∷ []
+
+-- a stream's number is small
+abbrev pub SmallStream : Outcome Heard → Type 0
+SmallStream (refused n) = Unit
+SmallStream (accepted h) = h .stream < 32
+
+unfoldable pub entryAt : List ℕ → List ℕ → ℕ → List ℕ
+entryAt t ws at = entryOf (saidAt t ws at) (sizeOf (getD ws at 0))
+
+abbrev pub wordsOf : Entry → List ℕ
+wordsOf e = e .number ∷ e .size ∷ e .kind ∷ e .stream ∷ e .missing ∷ []
+
+-- ---- many
+
+-- how many packets have an entry, the place after them, the table and the entries
+pub record Walk : Type 0 where
+  pub packets : ℕ
+  pub next : ℕ
+  pub table : List ℕ
+  pub entries : List ℕ
+
+abbrev pub ended : ℕ → List ℕ → Walk
+ended at t = record { packets = 0; next = at; table = t; entries = [] }
+
+-- a packet more, before the others
+abbrev pub before : List ℕ → Walk → Walk
+before entry w = record { packets = suc (w .packets); next = w .next; table = w .table; entries = entry ++ w .entries }
+
+-- at most n packets of the words from a place on: until the words end, or a refusal other than STREAM, which still has its entry
+unfoldable pub walkOf : ℕ → List ℕ → ℕ → List ℕ → Walk
+walkOf zero ws at t = ended at t
+walkOf (suc n) ws at t =
+    pick (leb (length ws) at) (ended at t)
+    (before (entryAt t ws at)
+    (pick (goesOn (saidAt t ws at)) (walkOf n ws (nextOf t ws at) (leftAt t ws at)) (ended (nextOf t ws at) (leftAt t ws at))))
+
+-- the walk that answers of this length have room for
+unfoldable pub wholeWalk : List ℕ → List ℕ → ℕ → List ℕ → Walk
+wholeWalk t ws from answers = walkOf (length answers / entryWords) ws from t
+
+abbrev pub reachedOf : Walk → Reached
+reachedOf w = record { packets = w .packets; next = w .next }
+
+-- the entries at the front of the answers
+abbrev pub answersOf : Walk → List ℕ → List ℕ
+answersOf w answers = w .entries ++ drop (length (w .entries)) answers
+
+-- a walk's answer r, and the table and the answers afterwards
+pub record WalkDone (w : Walk) (buffer : List ℕ) (r : Reached) (left written : List ℕ) : Type 0 where
+  pub reached : r ≡ reachedOf w
+  pub table : left ≡ w .table
+  pub answers : written ≡ answersOf w buffer
+
+-- what a run answers, and what it leaves in the table and in the answers: TABLE, or the walk
+unfoldable pub runOf : List ℕ → List ℕ → ℕ → List ℕ → Outcome (Done Reached (List ℕ × List ℕ))
+runOf t ws from answers =
+    after (madeOf t)
+    (accepted (record { says = reachedOf (wholeWalk t ws from answers); leaves = (wholeWalk t ws from answers .table, answersOf (wholeWalk t ws from answers) answers) }))
+
+abbrev pub runPaper : Ran → Outcome Reached
+runPaper (Refused n) = refused n
+runPaper (Accepted r) = accepted r

@@ -1,0 +1,121 @@
+// A run of packets over a recording, with an entry of answers for each.
+ghost use mathlib.Core.Path.{_≡_};
+ghost use mathlib.Core.Bool.{true};
+ghost use Prim.Native.Nat.{_+_, _≤_};
+ghost use lib.Dec.{eqb};
+ghost use lib.ListN.{length};
+ghost use Rattle.words.specs.Numbers.{STREAM};
+ghost use Rattle.words.specs.Tests.{when};
+ghost use Rattle.words.specs.Part.{put};
+ghost use Rattle.table.specs.Well.{wellMade};
+ghost use Rattle.play.specs.Play.{paper};
+ghost use Rattle.play.specs.Run.{entryWords, entryOf, wordsOf, wholeWalk, SmallStream, WalkDone};
+
+// The words that are written of each packet.
+pub const ENTRY_WORDS: usize = 5;
+
+// An entry: the refusal's number or 0; the words that the walk goes on by; type, stream and missing, zero of a refusal.
+pub struct Entry {
+    pub number: u32,
+    pub size: u32,
+    pub kind: u32,
+    pub stream: u32,
+    pub missing: u32,
+}
+
+// How many packets have an entry, and the place after them: of the next packet, or of the one whose refusal stopped the run.
+pub struct Reached {
+    pub packets: usize,
+    pub next: usize,
+}
+
+// What a run answers: how far it went, or the number of the refusal.
+pub enum Ran {
+    Accepted(Reached),
+    Refused(u32),
+}
+
+// The words that the walk goes on by behind a refusal: STREAM alone goes on.
+fn skipped(number: u32, size: u32) -> u32
+    ensures { λ r. ⌜ r ≡ when (eqb number STREAM) size ⌝ }
+{
+    if number == words::STREAM { size } else { 0 }
+}
+
+// The entry of an answer, of a packet whose header says this size.
+fn entry_of(answer: crate::Played, size: u32) -> Entry
+    requires { ⌜ SmallStream (paper answer) ⌝ }
+    ensures { λ r. ⌜ wordsOf r ≡ entryOf (paper answer) size ⌝ }
+{
+    match answer {
+        crate::Played::Accepted(h) => Entry {
+            number: 0,
+            size,
+            kind: h.kind,
+            stream: h.stream as u32,
+            missing: h.missing,
+        },
+        crate::Played::Refused(n) => Entry {
+            number: n,
+            size: skipped(n, size),
+            kind: 0,
+            stream: 0,
+            missing: 0,
+        },
+    }
+}
+
+// Stores an entry.
+fn store(place: &mut [u32], e: Entry)
+    requires { ⌜ length (now place) ≡ entryWords ⌝ }
+    ensures { λ _. ⌜ now (place .exit) ≡ wordsOf e ⌝ }
+{
+    place[0] = e.number;
+    place[1] = e.size;
+    place[2] = e.kind;
+    place[3] = e.stream;
+    place[4] = e.missing;
+}
+
+// Stores an entry at a place of the answers.
+fn write_entry(answers: &mut [u32], at: usize, e: Entry)
+    requires { ⌜ at + entryWords ≤ length (now answers) ⌝ }
+    ensures { λ _. ⌜ now (answers .exit) ≡ put at entryWords (wordsOf e) (now (answers .entry)) ⌝ }
+{
+    let end = at + ENTRY_WORDS;
+    store(&mut answers[at..end], e);
+}
+
+// Plays packets one after the other on a table that is known to be well made.
+pub fn run_on(table: &mut [u32], words: &[u32], from: usize, answers: &mut [u32]) -> Reached
+    requires { ⌜ wellMade (now table) ≡ true ⌝ }
+    ensures { λ r. ⌜ WalkDone (wholeWalk (now (table .entry)) (now (words .entry)) from (now (answers .entry))) (now (answers .entry)) r (now (table .exit)) (now (answers .exit)) ⌝ }
+{
+    let most = answers.len() / ENTRY_WORDS;
+    let mut at = from;
+    let mut n = 0;
+    while n < most {
+        if words.len() <= at {
+            return Reached {
+                packets: n,
+                next: at,
+            };
+        }
+        let s = crate::inner::step(table, words, at);
+        let answer = s.answer;
+        let e = entry_of(answer, words[at] % 0x1_0000);
+        write_entry(answers, ENTRY_WORDS * n, e);
+        n += 1;
+        at = s.next;
+        if !s.on {
+            return Reached {
+                packets: n,
+                next: at,
+            };
+        }
+    }
+    Reached {
+        packets: n,
+        next: at,
+    }
+}

@@ -1,0 +1,70 @@
+-- Slots and their held words. The idea: held words stand in field order as the slots do, so each field is found at its place among them (`in-order-at`); words
+-- put back into zeroed slots give the slots again (`refilled-held`), and slots give the words again (`held-refilled`).
+use mathlib.Core.Path.{_≡_, sym, ap, _∙_}
+use mathlib.Core.Bool.{true, false}
+use mathlib.Core.Logic.{⊎-elim}
+use mathlib.Core.List.{List}
+use Prim.Native.Nat.{ℕ, _+_, _<_}
+use native.Mathlib.Nat.{zero-add}
+use native.Mathlib.Omega.{arith}
+use lib.Bits.{bitAnd}
+use lib.ListN.{length, drop}
+use Rattle.words.specs.Word.{has}
+use Rattle.words.specs.SetBits.{bitsOf}
+use Rattle.words.specs.Part.{part}
+use Rattle.words.proofs.Cases.{true-or-false}
+use Rattle.words.proofs.PartLaws.{part-drop, part-length}
+use Rattle.fields.specs.Sizes.{sizeOf, sizesOf}
+use Rattle.record.specs.Held.{heldMask, holds, heldBits, slotAt}
+use Rattle.record.specs.Layout.{slotWords, slotIn}
+use Rattle.record.specs.After.{slotAfter, refilled, heldWords}
+use Rattle.record.proofs.SlotLaws.{placed, placed-inside, in-order-same, in-order-length, in-order-at, in-order-parts, slots-whole}
+use Rattle.record.proofs.HoldLaws.{within-holds, slot-inside}
+
+-- fields that stand from a place on are those of the words from there on
+pub refilled-drop : (bits at : ℕ) (ws slots : List ℕ) → refilled bits at ws slots ≡ refilled bits 0 (drop at ws) slots
+unfolding refilled heldBits
+refilled-drop bits at ws slots =
+    in-order-same 31 heldMask _ _
+    (λ b h e. ap (λ (f : List ℕ). slotAfter (has bits b) f (slotIn b slots))
+    (sym (part-drop (placed 31 bits b) (sizeOf b) at ws) ∙ ap (λ (n : ℕ). part n (sizeOf b) (drop at ws)) (sym (zero-add (placed 31 bits b)))))
+
+slot-sized : (b : ℕ) (slots : List ℕ) → length slots ≡ slotWords → holds b ≡ true → length (slotIn b slots) ≡ sizeOf b
+unfolding slotIn
+slot-sized b slots l o = part-length (slotAt b) (sizeOf b) slots (omega (arith, slot-inside b o))
+
+module _ (held : ℕ) (within : bitAnd held heldMask ≡ held) where
+  pub held-length : (slots : List ℕ) → length slots ≡ slotWords → length (heldWords held slots) ≡ sizesOf (bitsOf 31 held)
+  unfolding heldWords
+  held-length slots l = in-order-length 31 held _ (λ b h e. slot-sized b slots l (within-holds held within b e))
+
+  -- what is put back of the held words of slots, into slots that agree with them where nothing is held
+  pub refilled-held : (slots blank : List ℕ) → length slots ≡ slotWords → ((b : ℕ) → holds b ≡ true → has held b ≡ false → slotIn b blank ≡ slotIn b slots)
+      → refilled held 0 (heldWords held slots) blank ≡ slots
+  unfolding refilled heldWords heldBits slotAfter slotIn slotAt holds
+  refilled-held slots blank l z =
+      in-order-same 31 heldMask _ (λ b. part (placed 31 heldMask b) (sizeOf b) slots)
+      (λ b h o.
+      ⊎-elim
+      (λ (y : has held b ≡ true). rw (y, zero-add (placed 31 held b))
+      (in-order-at 31 held b (λ x. part (placed 31 heldMask x) (sizeOf x) slots) (λ x g e. slot-sized x slots l (within-holds held within x e)) h y))
+      (λ (n : has held b ≡ false). rw n (z b o n))
+      (true-or-false (has held b)))
+      ∙ in-order-parts 31 heldMask slots (l ∙ sym slots-whole)
+
+  refilled-sized : (ws blank : List ℕ) → length ws ≡ sizesOf (bitsOf 31 held) → length blank ≡ slotWords → (x : ℕ) → x < 31 → holds x ≡ true
+      → length (slotAfter (has held x) (part (0 + placed 31 held x) (sizeOf x) ws) (slotIn x blank)) ≡ sizeOf x
+  unfolding slotAfter
+  refilled-sized ws blank l m x g o =
+      ⊎-elim (λ (y : has held x ≡ true). rw y (part-length (0 + placed 31 held x) (sizeOf x) ws (omega (arith, placed-inside 31 held x g y))))
+      (λ (n : has held x ≡ false). rw n (slot-sized x blank m o)) (true-or-false (has held x))
+
+  -- the held words of slots that words were put into
+  pub held-refilled : (ws blank : List ℕ) → length ws ≡ sizesOf (bitsOf 31 held) → length blank ≡ slotWords → heldWords held (refilled held 0 ws blank) ≡ ws
+  unfolding refilled heldWords heldBits slotAfter slotIn slotAt holds
+  held-refilled ws blank l m =
+      in-order-same 31 held _ (λ b. part (placed 31 held b) (sizeOf b) ws)
+      (λ b h y.
+      in-order-at 31 heldMask b _ (λ x g o. refilled-sized ws blank l m x g o) h (within-holds held within b y)
+      ∙ rw (y, zero-add (placed 31 held b)))
+      ∙ in-order-parts 31 held ws l
