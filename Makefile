@@ -14,4 +14,5 @@ vectors:
 	python3 -B tools/reference/read_vectors.py crates/read_vectors/stdin crates/read_vectors/stdout
 	python3 -B tools/reference/write_vectors.py crates/write_vectors/stdin crates/write_vectors/stdout
 	python3 -B tools/reference/payload_vectors.py crates/payload_vectors/stdin crates/payload_vectors/stdout
+	python3 -B tools/reference/play_vectors.py crates/play_vectors/stdin crates/play_vectors/stdout
 	python3 -B tools/reference/sample_packets.py samples/packets

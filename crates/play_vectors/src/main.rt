@@ -1,0 +1,163 @@
+// Plays the recordings of standard input with `table::start` and `play::play`, and writes what they answer and the table that they leave.
+// A recording is the room of the table, S and S identifiers, D and D stores (place, word) after the start, P, and P packets (n, and n words).
+use play::Played;
+use table::Started;
+
+// The line of a table that was played on: the words of its layout.
+fn show_table(table: &[u32], length: usize) {
+    if table.len() < length {
+        return;
+    }
+    wordio::inner::text(b"  table");
+    wordio::inner::list(&table[0..length]);
+    wordio::inner::text(b"\n");
+}
+
+// The line of the words past a place: their sum, modulo 2^32.
+fn show_past(table: &[u32], from: usize) {
+    if table.len() < from {
+        return;
+    }
+    wordio::inner::text(b"  past ");
+    wordio::inner::number(wordio::inner::sum_of(&table[from..]) as u64);
+    wordio::inner::text(b"\n");
+}
+
+// The line of packet j.
+fn show_played(j: u64, answer: Played) {
+    wordio::inner::text(b"  ");
+    wordio::inner::number(j);
+    match answer {
+        Played::Accepted(h) => {
+            wordio::inner::named(b"type", h.kind as u64);
+            wordio::inner::named(b"stream", h.stream as u64);
+            wordio::inner::named(b"missing", h.missing as u64);
+            wordio::inner::named(b"size", h.size as u64);
+        }
+        Played::Refused(n) => wordio::inner::named(b"refused", n as u64),
+    }
+    wordio::inner::text(b"\n");
+}
+
+// Stores a word at a place, where there is one.
+fn store_one(table: &mut [u32], at: usize, w: u32) {
+    if at < table.len() {
+        table[at] = w;
+    }
+}
+
+// The stores after a start: each a place and a word.
+fn store(table: &mut [u32], stores: u32) {
+    let mut i = 0;
+    while i < stores {
+        let at = wordio::inner::word() as usize;
+        store_one(table, at, wordio::inner::word());
+        i += 1;
+    }
+}
+
+// Plays the next packet of the input.
+fn play_next(j: u64, table: &mut [u32], words: &mut [u32]) {
+    let n = wordio::inner::word() as usize;
+    if words.len() < n {
+        return;
+    }
+    wordio::inner::fill(&mut words[0..n]);
+    show_played(j, play::play(table, &words[0..n]));
+}
+
+// Plays the packets of a recording.
+fn play_all(table: &mut [u32], words: &mut [u32], packets: u32) {
+    let mut j = 0;
+    while j < packets {
+        play_next(j as u64, table, words);
+        j += 1;
+    }
+}
+
+// Passes over the next n words of the input.
+fn skip(n: u32) {
+    let mut i = 0;
+    while i < n {
+        wordio::inner::word();
+        i += 1;
+    }
+}
+
+// Passes over the packets of a recording that is not played.
+fn skip_packets(packets: u32) {
+    let mut j = 0;
+    while j < packets {
+        skip(wordio::inner::word());
+        j += 1;
+    }
+}
+
+// A recording whose table was started: stores, packets, and the table afterwards.
+fn play_recording(length: usize, table: &mut [u32], words: &mut [u32]) {
+    wordio::inner::named(b"started", length as u64);
+    wordio::inner::text(b"\n");
+    store(table, wordio::inner::word());
+    play_all(table, words, wordio::inner::word());
+    show_table(table, length);
+    show_past(table, length);
+}
+
+// A recording whose table was refused.
+fn pass_over(n: u32, table: &[u32]) {
+    wordio::inner::named(b"refused", n as u64);
+    wordio::inner::text(b"\n");
+    show_past(table, 0);
+    let stores = wordio::inner::word();
+    if stores < 0x8000_0000 {
+        skip(2 * stores);
+    }
+    skip_packets(wordio::inner::word());
+}
+
+// Starts a table for the next identifiers of the input, and plays the recording.
+fn recording(table: &mut [u32], ids: &mut [u32], words: &mut [u32]) {
+    let n = wordio::inner::word() as usize;
+    if ids.len() < n {
+        return;
+    }
+    wordio::inner::fill(&mut ids[0..n]);
+    wordio::inner::pattern(table);
+    match table::start(&ids[0..n], table) {
+        Started::Accepted(length) => play_recording(length, table, words),
+        Started::Refused(number) => pass_over(number, table),
+    }
+}
+
+// Plays recording k; whether there was one.
+fn one_case(k: u64, table: &mut [u32], ids: &mut [u32], words: &mut [u32]) -> bool {
+    let next = wordio::inner::next_word();
+    let wordio::inner::Input::Word(w) = next else {
+        return false;
+    };
+    let room = w as usize;
+    if table.len() < room {
+        return false;
+    }
+    wordio::inner::number(k);
+    recording(&mut table[0..room], ids, words);
+    true
+}
+
+// A table has at most 2,900 words; a packet here at most 4,096.
+fn main() {
+    let mut table_space = [0u32; 2900];
+    let mut id_space = [0u32; 64];
+    let mut word_space = [0u32; 4096];
+    let table: &mut [u32] = &mut table_space;
+    let ids: &mut [u32] = &mut id_space;
+    let words: &mut [u32] = &mut word_space;
+    let mut k: u64 = 0;
+    while k < 0xFFFF_FFFF {
+        if one_case(k, table, ids, words) {
+            k += 1;
+        } else {
+            return;
+        }
+    }
+}
