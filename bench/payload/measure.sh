@@ -1,6 +1,7 @@
 #!/bin/sh
 # Instructions executed for each item, the proved calls against C by hand, 100,000 items, in one run.
 # Run it at the project's root: bench/payload/measure.sh. It needs x86_64-linux-gnu-gcc (or CC set) and Debian's qemu-user.
+# BY_HAND=by_hand_tighter.c measures against the tighter C.
 # The calls are exported by a crate that is made in a temporary folder from calls.txt.
 set -eu
 here=$(cd "$(dirname "$0")" && pwd)
@@ -13,7 +14,7 @@ for c in words fields bitstream payload; do rm -rf "$work/crates/$c"; cp -R "cra
 cp "$here/calls.txt" "$work/crates/payload_c/src/lib.rt"
 printf 'words:\nfields: words\nbitstream: words\npayload: words fields bitstream\npayload_c: words fields bitstream payload\n' >"$work/crates.txt"
 (cd "$work" && rt staticlib payload_c >"$work/log" 2>&1) || { tail -5 "$work/log"; exit 1; }
-$CC -O2 -c "$here/by_hand.c" -o "$work/by_hand.o"
+$CC -O2 -c "$here/${BY_HAND:-by_hand.c}" -o "$work/by_hand.o"
 $CC -O2 -static -DFU=c_unpack -DFP=c_pack "$here/drive.c" "$work/by_hand.o" -o "$work/c"
 $CC -O2 -static -DFU=r_unpack -DFP=r_pack "$here/drive.c" "$work/target/staticlib/libpayload_c.a" -o "$work/r"
 n=100000

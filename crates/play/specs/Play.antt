@@ -26,11 +26,11 @@ soughtOf kind identifier t =
     (pick (leb (streamsOf t) (streamOf identifier t)) (refused STREAM)
     (accepted (streamOf identifier t)))
 
--- what an accepted packet of stream s says, its words being the first of ws
+-- what an accepted packet of stream s says, played on the table t
 unfoldable pub heardOf : Packet → ℕ → List ℕ → Heard
 heardOf p s t = record { size = p .size; kind = p .parts .kind; stream = s; missing = addedBy (p .parts .kind) (p .parts .count) (recordAt s t) }
 
--- the table after it
+-- the table after it; the packet's words are the first of ws
 unfoldable pub tableAfter : Packet → ℕ → List ℕ → List ℕ → List ℕ
 tableAfter p s ws t = withRecord s (recordAfter (p .parts .kind) (p .parts .count) (part (p .body) (p .length) ws) (recordAt s t)) t
 
