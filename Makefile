@@ -1,9 +1,9 @@
 # The two commands of the README: make play, make test.
 .PHONY: play test vectors
 
-# reads the sample packets and prints what reading answers
+# plays the sample survey and prints a line for each packet
 play:
-	@tools/run read_vectors <samples/packets
+	@tools/run vrtplay <samples/recordings/survey.vrt
 
 # the gate
 test:
@@ -16,3 +16,4 @@ vectors:
 	python3 -B tools/reference/payload_vectors.py crates/payload_vectors/stdin crates/payload_vectors/stdout
 	python3 -B tools/reference/play_vectors.py crates/play_vectors/stdin crates/play_vectors/stdout
 	python3 -B tools/reference/sample_packets.py samples/packets
+	python3 -B tools/reference/recordings.py samples/recordings

@@ -9,7 +9,7 @@ pub enum Input {
 }
 
 // The word of four bytes, the first of them highest.
-fn big_endian(a: u8, b: u8, c: u8, d: u8) -> u32 {
+pub fn big_endian(a: u8, b: u8, c: u8, d: u8) -> u32 {
     ((a as u32 * 256 + b as u32) * 256 + c as u32) * 256 + d as u32
 }
 

@@ -1,0 +1,4 @@
+-- Shared laws of the program.
+
+-- why a walk ends
+pub mod WalkLaws

@@ -1,0 +1,120 @@
+// Plays a recording from standard input, as document 01 says of `vrtplay`: big-endian words, S, S identifiers, packets. It writes a line for each packet.
+ghost use mathlib.Core.Path.{_≡_};
+ghost use mathlib.Core.Bool.{true};
+ghost use Prim.Native.Nat.{_*_, _≤_};
+ghost use lib.ListN.{length};
+ghost use Rattle.table.specs.Well.{wellMade};
+use libc::STDIN_FILENO;
+use play::Played;
+use table::Started;
+
+// The words of bytes, four for each.
+fn words_of(words: &mut [u32], bytes: &[u8])
+    requires { ⌜ 4 * length (now words) ≤ length (now bytes) ⌝ }
+{
+    let mut i = 0;
+    while i < words.len() {
+        let at = 4 * i;
+        words[i] = wordio::inner::big_endian(
+            bytes[at],
+            bytes[at + 1],
+            bytes[at + 2],
+            bytes[at + 3],
+        );
+        i += 1;
+    }
+}
+
+// The line of a refusal at a place.
+fn show_refused(at: usize, n: u32) {
+    wordio::inner::text(b"at ");
+    wordio::inner::number(at as u64);
+    wordio::inner::named(b"refused", n as u64);
+    wordio::inner::text(b"\n");
+}
+
+// The line of a packet that was played.
+fn show_heard(at: usize, h: play::Heard) {
+    wordio::inner::text(b"at ");
+    wordio::inner::number(at as u64);
+    wordio::inner::named(b"type", h.kind as u64);
+    wordio::inner::named(b"stream", h.stream as u64);
+    wordio::inner::named(b"missing", h.missing as u64);
+    wordio::inner::text(b"\n");
+}
+
+// The line of the packet at a place.
+fn show_played(at: usize, answer: Played) {
+    match answer {
+        Played::Accepted(h) => show_heard(at, h),
+        Played::Refused(n) => show_refused(at, n),
+    }
+}
+
+// The last line: the stopping place, and the bytes modulo 4.
+fn show_end(at: usize, tail: usize) {
+    wordio::inner::text(b"end ");
+    wordio::inner::number(at as u64);
+    wordio::inner::named(b"tail", tail as u64);
+    wordio::inner::text(b"\n");
+}
+
+// Walks the packets from a place on, on a table that is well made. Gives the place where the walk stops.
+fn walk(table: &mut [u32], words: &[u32], from: usize) -> usize
+    requires { ⌜ wellMade (now table) ≡ true ⌝ }
+{
+    let mut at = from;
+    while at < words.len() {
+        let s = play::inner::step(table, words, at);
+        let answer = s.answer;
+        show_played(at, answer);
+        at = s.next;
+        if !s.on {
+            return at;
+        }
+    }
+    at
+}
+
+// A list that is refused, or not there: the walk does not begin.
+fn refuse_list() -> usize {
+    show_refused(0, words::LIST);
+    0
+}
+
+// Starts a table for the S identifiers behind word 0, and walks the packets after them. Gives the place where the walk stops.
+fn play_packets(table: &mut [u32], words: &[u32], s: u32) -> usize {
+    let streams = s as usize;
+    if words.len() <= streams {
+        return refuse_list();
+    }
+    let first = 1 + streams;
+    match table::start(&words[1..first], table) {
+        Started::Accepted(_) => walk(table, words, first),
+        Started::Refused(_) => refuse_list(),
+    }
+}
+
+// A recording: S, S identifiers, packets.
+fn play_words(words: &[u32]) -> usize {
+    if words.len() == 0 {
+        return refuse_list();
+    }
+    let mut space = [0u32; 2817];
+    let table: &mut [u32] = &mut space;
+    play_packets(table, words, words[0])
+}
+
+// Reads up to 65,536 bytes, plays them, and writes where it stopped.
+fn main() {
+    let mut byte_space = [0u8; 65536];
+    let bytes: &mut [u8] = &mut byte_space;
+    let mut word_space = [0u32; 16384];
+    let words: &mut [u32] = &mut word_space;
+    let n = io::read_full(STDIN_FILENO, bytes);
+    let whole = n / 4;
+    words_of(&mut words[0..whole], bytes);
+    let recording: &[u32] = words;
+    let end = play_words(&recording[0..whole]);
+    show_end(end, n % 4);
+}
