@@ -7,6 +7,7 @@ mod held;
 pub use after::hear;
 pub use good::record_good;
 pub use held::refill;
+pub use held::slot_at;
 
 // The words of a record before its slots, those of its slots, and all.
 pub const HEAD_WORDS: usize = 14;

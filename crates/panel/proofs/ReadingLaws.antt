@@ -1,0 +1,118 @@
+-- The answers. The idea: where nothing is refused the record is there and the bit has a slot; the slot is a part of the record, and so are the held words,
+-- also those of an absent field, which are none.
+use mathlib.Core.Path.{_≡_, refl, sym, ap, subst, _∙_}
+use mathlib.Core.Bool.{Bool, true, false, not}
+use mathlib.Core.List.{List, [], _++_}
+use Prim.Native.Nat.{ℕ, _+_, _-_, _≤_, _<_}
+use native.Mathlib.Omega.{arith}
+use borrow.Author.Tests.{lt-ltb, le-ltb, leb-false, ltb-false, not-false}
+use lib.Dec.{ltb, leb}
+use lib.ListN.{length, take, drop}
+use Rattle.words.specs.Numbers.{TABLE, STREAM, VALUE, ROOM}
+use Rattle.words.specs.Tests.{pick, when}
+use Rattle.words.specs.Part.{part, put}
+use Rattle.words.specs.Outcome.{refused, accepted, Meets}
+use Rattle.words.proofs.Cases.{passed, when-most}
+use Rattle.words.proofs.PartLaws.{seen, part-part, part-length}
+use Rattle.fields.specs.Sizes.{sizeOf}
+use Rattle.record.specs.Held.{holds, slotAt}
+use Rattle.record.specs.Layout.{headWords, slotWords, recordWords, slotIn, slotsOf, slotOf}
+use Rattle.record.proofs.SlotLaws.{held-all}
+use Rattle.record.proofs.HoldLaws.{slot-inside}
+use Rattle.table.specs.Layout.{streamsOf, base, Has, recordAt}
+use Rattle.table.specs.Well.{wellMade}
+use Rattle.table.proofs.WellLaws.{layout-has, well-whole, well-few}
+use Rattle.panel.specs.Readings.{absent, shownOf, isHeld, recordShows, askedOf, readingOf, readingPaper}
+use Rattle.panel.specs.HeldWords.{heldIn, copyOf, heldWordsOf, copiedPaper}
+use Rattle.panel.specs.declared.Dial.{Dial}
+use Rattle.panel.specs.declared.Dial.the-variants as dial
+use Rattle.panel.specs.declared.Copied.{Copied}
+use Rattle.panel.specs.declared.Copied.the-variants as copied
+
+-- ---- what may be asked for, in facts
+pub asked-facts : (t : List ℕ) (s b : ℕ) → askedOf t s b ≡ accepted tt → (s < 32) × Has s t × (10 ≤ b) × (b ≤ 30)
+unfolding askedOf
+asked-facts t s b e =
+    let p = passed (not (wellMade t)) TABLE _ tt e in
+    let w = not-false (wellMade t) (p .0) in
+    let q = passed (leb (streamsOf t) s) STREAM _ tt (p .1) in
+    let g : s < streamsOf t = leb-false (streamsOf t) s (q .0) in
+    let u = passed (ltb b 10) VALUE _ tt (q .1) in
+    let v = passed (ltb 30 b) VALUE _ tt (u .1) in
+    (omega (arith, well-few t w), layout-has t s (well-whole t w) g, ltb-false b 10 (u .0), ltb-false 30 b (v .0))
+
+-- ---- the public answers
+module _ (t : List ℕ) (s b : ℕ) where
+  pub reading-refused : (n : ℕ) → refused n ≡ askedOf t s b → readingPaper (dial.Refused n) ≡ readingOf t s b
+  unfolding readingOf
+  reading-refused n e = rw (sym e)
+
+  pub reading-shown : (r : Dial) → accepted tt ≡ askedOf t s b → readingPaper r ≡ accepted (recordShows b (recordAt s t)) → readingPaper r ≡ readingOf t s b
+  unfolding readingOf
+  reading-shown r e h = rw (sym e) h
+
+  pub words-refused : (out : List ℕ) (n : ℕ) → refused n ≡ askedOf t s b → Meets copiedPaper (heldWordsOf t s b out) out (copied.Refused n) out
+  unfolding heldWordsOf
+  words-refused out n e = record { answer = rw (sym e); buffer = rw (sym e) }
+
+  pub words-copied : (out last : List ℕ) (r : Copied) → accepted tt ≡ askedOf t s b → Meets copiedPaper (copyOf (heldIn b (recordAt s t)) out) out r last
+      → Meets copiedPaper (heldWordsOf t s b out) out r last
+  unfolding heldWordsOf
+  words-copied out last r e h = rw (sym e) h
+
+-- ---- a field in a record
+pub shows-absent : (r : List ℕ) (b : ℕ) → isHeld b r ≡ false → accepted absent ≡ accepted (recordShows b r)
+unfolding recordShows
+shows-absent r b e = rw e
+
+module _ (r : List ℕ) (b at : ℕ) (l : length r ≡ recordWords) (lo : 10 ≤ b) (hi : b ≤ 30) (ea : at ≡ slotAt b) where
+  held-here : holds b ≡ true
+  held-here = held-all b lo (omega arith)
+
+  slot-is : slotOf b r ≡ part (headWords + at) (sizeOf b) r
+  unfolding slotOf slotIn slotsOf
+  slot-is = rw ea (part-part (slotAt b) (sizeOf b) headWords slotWords r (slot-inside b held-here))
+
+  pub slot-most : headWords + at + sizeOf b ≤ length r
+  slot-most = omega (arith, slot-inside b held-here)
+
+  pub shows-held : (n : ℕ) (d : Dial) → n ≡ sizeOf b → isHeld b r ≡ true
+      → readingPaper d ≡ accepted (shownOf b (take (headWords + at + n - (headWords + at)) (drop (headWords + at) r))) → readingPaper d ≡ accepted (recordShows b r)
+  unfolding recordShows
+  shows-held n d en e h =
+      rw e (h ∙ ap (λ (ws : List ℕ). accepted (shownOf b ws)) (seen (headWords + at) (headWords + at + n) n r refl ∙ rw en (sym slot-is)))
+
+  -- the held words are a part of the record
+  part-when : (t : Bool) → pick t (slotOf b r) [] ≡ part (headWords + at) (when t (sizeOf b)) r
+  unfolding part
+  part-when true = slot-is
+  part-when false = refl
+
+  module _ (n : ℕ) (en : n ≡ when (isHeld b r) (sizeOf b)) where
+    pub held-most : headWords + at + n ≤ length r
+    held-most = omega (arith, slot-most, when-most (isHeld b r) (sizeOf b))
+
+    held-part : heldIn b r ≡ part (headWords + at) n r
+    unfolding heldIn
+    held-part = part-when (isHeld b r) ∙ ap (λ (k : ℕ). part (headWords + at) k r) (sym en)
+
+    held-length : length (heldIn b r) ≡ n
+    held-length = ap length held-part ∙ part-length (headWords + at) n r held-most
+
+    pub copy-room : (out : List ℕ) → length out < n → Meets copiedPaper (copyOf (heldIn b r) out) out (copied.Refused ROOM) out
+    unfolding copyOf
+    copy-room out h = let e = lt-ltb (length out) n h in record { answer = rw (held-length, e); buffer = rw (held-length, e) }
+
+    pub copy-made : (out last : List ℕ) → n ≤ length out → last ≡ put 0 n (part (headWords + at) n r) out
+        → Meets copiedPaper (copyOf (heldIn b r) out) out (copied.Accepted n) last
+    unfolding copyOf put
+    copy-made out last h p =
+        let e = le-ltb (length out) n h in
+        record { answer = rw (held-length, e); buffer = rw (held-length, e) (p ∙ ap (λ (ws : List ℕ). ws ++ drop n out) (sym held-part)) }
+
+-- ---- a record that is lent
+pub copy-lent : (t out last : List ℕ) (s b : ℕ) (r : Copied)
+    → Meets copiedPaper (copyOf (heldIn b (take (base s + recordWords - base s) (drop (base s) t))) out) out r last
+    → Meets copiedPaper (copyOf (heldIn b (recordAt s t)) out) out r last
+unfolding recordAt
+copy-lent t out last s b r h = subst (λ (l : List ℕ). Meets copiedPaper (copyOf (heldIn b l) out) out r last) (seen (base s) (base s + recordWords) recordWords t refl) h

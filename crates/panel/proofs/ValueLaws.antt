@@ -1,0 +1,86 @@
+-- Numbers out of held words. The idea: two's complement is `pos` below the sign bit's weight and `negsuc` from there on, so that a range, a remainder and a
+-- machine number follow by cases.
+use mathlib.Core.Path.{_≡_, refl, sym, ap, subst, _∙_}
+use mathlib.Core.Logic.{⊎-elim}
+use Prim.Native.Nat.{ℕ, zero, suc, _+_, _-_, _%_, _^_, _≤_, _<_}
+use native.Mathlib.Nat.{le-of-lt, lt-of-lt-of-le, zero-add}
+use native.Mathlib.Omega.{arith}
+use borrow.Author.Needs.{sfits-of}
+use borrow.Author.Tests.{lt-ltb, le-ltb, lt-leb}
+use lib.Dec.{T, le→leb, lt→ltb}
+use lib.IntN.{ℤ, pos, negsuc, _-ℤ_}
+use lib.Ieee.{binary32, inFloat}
+use lib.Pow.{pow-add, pow-mono}
+use lib.Signed.{mag}
+use mir.Syntax.{w64}
+use mir.Val.{toZ, ofZ}
+use mir.ValLaws.{toZ-ofZ}
+use Rattle.words.specs.Outcome.{refused, accepted}
+use Rattle.words.specs.Word.{highFirst}
+use Rattle.words.proofs.Cases.{le-or-lt, accepted-same}
+use Rattle.payload.specs.Signs.{twosComplement, signedOf}
+use Rattle.panel.specs.Values.{unitsOf, floorRem}
+
+-- ---- what the machine reads back from a signed number's bits
+pub back : (z : ℤ) {y : ℤ} → mag z < 2 ^ 63 → z ≡ y → toZ w64 (ofZ w64 z) ≡ y
+back z h e = toZ-ofZ w64 z (sfits-of h) ∙ e
+
+-- ---- two's complement
+
+-- the weight of the sign bit, twice, is the number of patterns
+twice : (w : ℕ) → 1 ≤ w → 2 ^ w ≡ 2 ^ (w - 1) + 2 ^ (w - 1)
+twice w h = ap (λ (k : ℕ). 2 ^ k) {x = w} {y = w - 1 + 1} (omega arith) ∙ pow-add 2 (w - 1) 1 ∙ omega arith
+
+value-low : (w n : ℕ) → n < 2 ^ (w - 1) → twosComplement w n ≡ pos n
+unfolding twosComplement
+value-low w n h = rw (lt-ltb n (2 ^ (w - 1)) h)
+
+value-high : (w n : ℕ) → 2 ^ (w - 1) ≤ n → n < 2 ^ w → twosComplement w n ≡ negsuc (2 ^ w - suc n)
+unfolding twosComplement
+value-high w n h b = simp (le-ltb n (2 ^ (w - 1)) h, lt-ltb n (2 ^ w) b)
+
+-- the range of w bits
+pub value-mag : (w n : ℕ) → 1 ≤ w → n < 2 ^ w → mag (twosComplement w n) < 2 ^ (w - 1)
+value-mag w n h b =
+    ⊎-elim (λ (g : 2 ^ (w - 1) ≤ n). rw (value-high w n g b) (omega (arith, twice w h)))
+    (λ (g : n < 2 ^ (w - 1)). rw (value-low w n g) g)
+    (le-or-lt (2 ^ (w - 1)) n)
+
+-- what `payload` answers of bits that fit
+module _ (w x : ℕ) (lo : 1 ≤ w) (hi : w ≤ 64) (b : x < 2 ^ w) where
+  value-fits : signedOf w x ≡ accepted (twosComplement w x)
+  unfolding signedOf
+  value-fits = simp (le-ltb w 1 lo, le-ltb 64 w hi, lt-leb (2 ^ w) x b)
+
+  pub value-told : (z : ℤ) → accepted z ≡ signedOf w x → toZ w64 (ofZ w64 z) ≡ twosComplement w x
+  value-told z e =
+      let i : z ≡ twosComplement w x = accepted-same (e ∙ value-fits) in
+      let most : 2 ^ (w - 1) ≤ 2 ^ 63 = pow-mono {i = w - 1} {j = 63} (omega arith) in
+      back z (subst (λ (y : ℤ). mag y < 2 ^ 63) (sym i) (lt-of-lt-of-le (value-mag w x lo b) most)) i
+
+  pub value-untold : (n : ℕ) → refused n ≡ signedOf w x → ⊥
+  value-untold n e = let f : refused n ≡ accepted (twosComplement w x) = e ∙ value-fits in let z : _≡_ {A = ℕ} 0 1 = cc in omega arith
+
+-- ---- a frequency's parts are the lower 20 bits of its second word
+pub parts-is : (h l : ℕ) → h < 2 ^ 32 → l < 2 ^ 32 → floorRem (unitsOf h l) 1048576 ≡ l % 1048576
+unfolding unitsOf
+parts-is h l p q =
+    let k : highFirst h l < 2 ^ 64 = omega arith in
+    ⊎-elim (λ (g : 2 ^ 63 ≤ highFirst h l). rw (value-high 64 (highFirst h l) g k) (omega arith))
+    (λ (g : highFirst h l < 2 ^ 63). rw (value-low 64 (highFirst h l) g) (omega arith))
+    (le-or-lt (2 ^ 63) (highFirst h l))
+
+-- ---- signed numbers of the machine
+
+pub in-float : (z : ℤ) → mag z < 2 ^ 24 → T (inFloat binary32 z)
+unfolding inFloat
+in-float (pos n) h = le→leb n (2 ^ 24) (le-of-lt h)
+in-float (negsuc n) h = lt→ltb n (2 ^ 24) h
+
+-- -1 - n, and -1 - (-1 - n)
+pub one-less : (n : ℕ) → negsuc 0 -ℤ pos n ≡ negsuc n
+one-less zero = refl
+one-less (suc n) = ap (λ (k : ℕ). negsuc (suc k)) (zero-add n)
+
+pub two-less : (n : ℕ) → negsuc 0 -ℤ negsuc n ≡ pos n
+two-less n = rw (le-ltb (suc n) 1 (omega arith)) (ap pos (omega arith))

@@ -1,0 +1,20 @@
+-- `degrees` meets its promise: 64 is 2 ^ 6, and the quotient is exact.
+use mathlib.Core.Path.{_∙_}
+use native.Mathlib.Omega.{arith}
+use lib.Dec.{lit≤}
+use lib.Ieee.{ofBits}
+use Rattle.panel.proofs.ValueLaws.{value-mag}
+use Rattle.panel.proofs.Quotient.{quotient}
+use borrow.Author.Needs.{needs}
+use Rattle.panel.proofs.values.degrees.Statement.{statement}
+use Rattle.panel.proofs.values.degrees.Tie as tie
+
+divided-requires : tie.Need-divided-requires
+divided-requires c κs = search needs
+
+returns : tie.Need-returns
+unfolding ofBits
+returns c = c .divided .ensures ∙ quotient 6 _ (lit≤ tt) (omega (arith, value-mag 16 (c .before .args .half) (lit≤ tt) (omega arith)))
+
+pub degrees-spec : {M : Type 1} → statement M
+degrees-spec = tie.close (tie.spec divided-requires returns)

@@ -1,0 +1,8 @@
+-- Readings for the panel, in reading order.
+
+-- whole hertz and parts, and exact quotients as floats
+pub mod Values
+-- what a reading shows, and its refusals
+pub mod Readings
+-- the held words themselves
+pub mod HeldWords

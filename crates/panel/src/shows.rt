@@ -1,0 +1,41 @@
+// What the words of a field show.
+ghost use mathlib.Core.Path.{_≡_};
+ghost use Rattle.words.specs.Outcome.{accepted};
+ghost use Rattle.panel.specs.Readings.{isFrequency, shownOf, readingPaper};
+
+// Whether the field of a bit is a frequency: bits 29 to 25, and 21.
+fn is_frequency(bit: u32) -> bool
+    ensures { λ r. ⌜ r ≡ isFrequency bit ⌝ }
+{
+    if bit == 21 {
+        return true;
+    }
+    words::inner::both_of(25 <= bit, bit <= 29)
+}
+
+// What the field of a bit shows, by its words.
+pub fn show(bit: u32, ws: &[u32]) -> crate::Dial
+    ensures { λ r. ⌜ readingPaper r ≡ accepted (shownOf bit (now (ws .entry))) ⌝ }
+{
+    let first = words::inner::word_at(ws, 0);
+    if is_frequency(bit) {
+        let low = words::inner::word_at(ws, 1);
+        return crate::Dial::Frequency {
+            hertz: crate::values::whole_hertz(crate::values::units(first, low)),
+            parts: low % 0x10_0000,
+        };
+    }
+    if bit == 24 {
+        return crate::Dial::Level(crate::values::decibels(first % 0x1_0000));
+    }
+    if bit == 23 {
+        return crate::Dial::Gain(crate::Stages {
+            stage1: crate::values::decibels(first % 0x1_0000),
+            stage2: crate::values::decibels(first / 0x1_0000 % 0x1_0000),
+        });
+    }
+    if bit == 18 {
+        return crate::Dial::Temperature(crate::values::degrees(first % 0x1_0000));
+    }
+    crate::Dial::Other
+}

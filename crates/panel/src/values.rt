@@ -1,0 +1,59 @@
+// Numbers out of held words: signed numbers, whole hertz, and exact quotients as f32.
+ghost use mathlib.Core.Path.{_≡_};
+ghost use Prim.Native.Nat.{_≤_, _<_, _^_};
+ghost use lib.Ieee.{binary32, ofInt, div};
+ghost use Rattle.payload.specs.Signs.{twosComplement};
+ghost use Rattle.panel.specs.Values.{unitsOf, floorDiv, over};
+
+// The two's complement value of some bits, as `payload` gives it; it refuses none that fit a width of 1 to 64.
+fn value_of(width: u32, bits: u64) -> i64
+    requires { ⌜ (1 ≤ width) × (width ≤ 64) × (bits < 2 ^ width) ⌝ }
+    ensures { λ r. ⌜ r ≡ twosComplement width bits ⌝ }
+{
+    match payload::signed(width, bits) {
+        payload::Shown::Value(z) => z,
+        payload::Shown::Refused(_) => 0,
+    }
+}
+
+// A half of a word, signed, over `by`, rounded by the float's own rule.
+fn divided(half: u32, by: f32) -> f32
+    requires { ⌜ half < 65536 ⌝ }
+    ensures { λ r. ⌜ r ≡ div binary32 (ofInt binary32 (twosComplement 16 half)) by ⌝ }
+{
+    let z = value_of(16, half as u64);
+    (z as f32) / by
+}
+
+// A half of a word as a level or a gain: signed, over 128.
+pub fn decibels(half: u32) -> f32
+    requires { ⌜ half < 65536 ⌝ }
+    ensures { λ r. ⌜ r ≡ over 7 (twosComplement 16 half) ⌝ }
+{
+    divided(half, 128.0)
+}
+
+// A half of a word as a temperature: signed, over 64.
+pub fn degrees(half: u32) -> f32
+    requires { ⌜ half < 65536 ⌝ }
+    ensures { λ r. ⌜ r ≡ over 6 (twosComplement 16 half) ⌝ }
+{
+    divided(half, 64.0)
+}
+
+// The two words of a frequency, high first, as units of 2^-20 hertz.
+pub fn units(high: u32, low: u32) -> i64
+    ensures { λ r. ⌜ r ≡ unitsOf high low ⌝ }
+{
+    value_of(64, words::inner::high_first(high, low))
+}
+
+// Whole hertz of units of 2^-20 hertz, rounded down. A division rounds towards zero, so below zero it is taken of the distance to -1.
+pub fn whole_hertz(z: i64) -> i64
+    ensures { λ r. ⌜ r ≡ floorDiv z 1048576 ⌝ }
+{
+    if z < 0 {
+        return -1 - (-1 - z) / 0x10_0000;
+    }
+    z / 0x10_0000
+}
