@@ -1,15 +1,20 @@
--- The bit pattern of the definition's float, which is not zero: its sign, exponent and fraction fields as whole numbers. The idea: n has `size n` bits, so its
--- fraction field is n moved up to 24 bits without the first of them, and the exponent field counts from there.
-use mathlib.Core.Path.{_≡_, sym, ap, _∙_, subst}
-use Prim.Native.Nat.{ℕ, zero, _+_, _-_, _*_, _/_, _^_, _≤_, _<_}
+-- The bit pattern of a level, a gain or a temperature: sign, exponent and fraction fields as whole numbers, zero being all zero bits. The idea: n has `size n`
+-- bits, so its fraction field is n moved up to 24 bits without the first of them, and the exponent field counts from there.
+use mathlib.Core.Path.{_≡_, refl, sym, ap, _∙_, subst}
+use Prim.Native.Nat.{ℕ, zero, suc, _+_, _-_, _*_, _/_, _^_, _≤_, _<_}
 use native.Mathlib.Nat.{mul-assoc, mul-le-mul-right, lt-of-lt-of-le, lt-of-not-le, not-le-of-lt}
 use native.Mathlib.Omega.{arith}
-use mathlib.Core.Bool.{Bool, cond}
+use mathlib.Core.Bool.{Bool, true, false, cond}
+use lib.IntN.{ℤ, pos, negsuc, natAbs}
+use lib.Dec.{lit≤}
+use lib.Signed.{mag}
 use lib.Pow.{pow-add, pow-pos, pow-mono, shl-lt, shl-shr}
 use lib.Ieee.{binary32, size, odd, toBits}
 use lib.Ieee.Digits.{size-lt, size-le, size-reaches}
 use lib.Ieee.Exact.{odd-sign}
-use Rattle.panel.specs.Values.{share}
+use Rattle.panel.specs.Values.{share, over}
+use Rattle.payload.specs.Signs.{twosComplement}
+use Rattle.panel.proofs.ValueLaws.{value-mag}
 use Rattle.panel.proofs.Quotient.{pattern, bits-of, share-odd}
 
 size-pos : (n : ℕ) → 0 < n → 0 < size n
@@ -25,8 +30,8 @@ size-shift n j h =
     let dn : z - 1 + j < size (n * 2 ^ j) = lt-of-not-le (λ (g : size (n * 2 ^ j) ≤ z - 1 + j). not-le-of-lt (lt-of-lt-of-le (size-lt (n * 2 ^ j)) (pow-mono {i = size (n * 2 ^ j)} {j = z - 1 + j} g)) lo′) in
     omega arith
 
-pub fields : (k : ℕ) (s : Bool) (n : ℕ) → k ≤ 125 → 0 < n → n < 2 ^ 24
-    → toBits binary32 (share k s n) ≡ cond s 2147483648 0 + (size n + 126 - k) * 8388608 + (n * 2 ^ (24 - size n) - 8388608)
+fields : (k : ℕ) (s : Bool) (n : ℕ) → k ≤ 125 → 0 < n → n < 2 ^ 24
+    → toBits binary32 (share k s n) ≡ cond s (2 ^ 31) 0 + (size n + 126 - k) * 2 ^ 23 + (n * 2 ^ (24 - size n) - 2 ^ 23)
 unfolding pattern
 fields k s n hk hp h =
     let j = 149 - k in
@@ -51,3 +56,54 @@ fields k s n hk hp h =
     ∙ ap (λ (x : ℕ). cond s 2147483648 0 + x * 8388608 + N / 2 ^ x) kk
     ∙ ap (λ (x : ℕ). cond s 2147483648 0 + K * 8388608 + x) quo
     ∙ omega arith
+
+-- ---- the three fields of z over 2 ^ k
+
+-- 1 below zero
+unfoldable pub signField : ℤ → ℕ
+signField (pos n) = 0
+signField (negsuc n) = 1
+
+-- 127 stands for 2 ^ 0, the place of a number's first bit; 0 of zero
+unfoldable pub exponentField : ℕ → ℕ → ℕ
+exponentField k zero = 0
+exponentField k (suc n) = size (suc n) + 126 - k
+
+-- the 23 bits after the first; 0 of zero
+unfoldable pub fractionField : ℕ → ℕ
+fractionField zero = 0
+fractionField (suc n) = suc n * 2 ^ (24 - size (suc n)) - 2 ^ 23
+
+-- the fields have 8 and 23 bits
+pub fields-fit : (k n : ℕ) → n < 2 ^ 24 → (exponentField k n < 2 ^ 8) × (fractionField n < 2 ^ 23)
+unfolding exponentField fractionField
+fields-fit k zero h = (omega arith, omega arith)
+fields-fit k (suc n) h =
+    let z = size (suc n) in
+    let z24 : z ≤ 24 = size-le (suc n) 24 h in
+    let most : suc n * 2 ^ (24 - z) < 2 ^ 24 =
+    subst (λ (x : ℕ). suc n * 2 ^ (24 - z) < 2 ^ x) {x = z + (24 - z)} {y = 24} (omega arith) (shl-lt z (24 - z) (size-lt (suc n))) in
+    (omega arith, omega arith)
+
+zero-pattern : (k : ℕ) → toBits binary32 (share k false 0) ≡ 0
+unfolding share toBits size
+zero-pattern k = refl
+
+over-pattern : (k : ℕ) (z : ℤ) → k ≤ 125 → natAbs z < 2 ^ 24
+    → toBits binary32 (over k z) ≡ signField z * 2 ^ 31 + exponentField k (natAbs z) * 2 ^ 23 + fractionField (natAbs z)
+unfolding over signField exponentField fractionField
+over-pattern k (pos zero) hk h = zero-pattern k
+over-pattern k (pos (suc n)) hk h = fields k false (suc n) hk (omega arith) h
+over-pattern k (negsuc n) hk h = fields k true (suc n) hk (omega arith) h
+
+-- ---- a signed half over 2 ^ k: a level or a gain where k is 7, a temperature where k is 6
+pub half-pattern : (k half : ℕ) → k ≤ 125 → half < 2 ^ 16
+    → let z = twosComplement 16 half in
+    toBits binary32 (over k z) ≡ signField z * 2 ^ 31 + exponentField k (natAbs z) * 2 ^ 23 + fractionField (natAbs z)
+half-pattern k half hk h =
+    let z = twosComplement 16 half in
+    over-pattern k z hk (near z (value-mag 16 half (lit≤ tt) h))
+  where
+    near : (z : ℤ) → mag z < 2 ^ 15 → natAbs z < 2 ^ 24
+    near (pos n) b = omega arith
+    near (negsuc n) b = omega arith
