@@ -2,24 +2,25 @@
 -- machine number follow by cases.
 use mathlib.Core.Path.{_≡_, refl, sym, ap, subst, _∙_}
 use mathlib.Core.Logic.{⊎-elim}
-use Prim.Native.Nat.{ℕ, zero, suc, _+_, _-_, _%_, _^_, _≤_, _<_}
-use native.Mathlib.Nat.{le-of-lt, lt-of-lt-of-le, zero-add}
+use Prim.Native.Nat.{ℕ, zero, suc, _+_, _-_, _*_, _/_, _%_, _^_, _≤_, _<_}
+use native.Mathlib.Nat.{le-of-lt, lt-of-lt-of-le, lt-of-le-of-lt}
 use native.Mathlib.Omega.{arith}
 use borrow.Author.Needs.{sfits-of}
 use borrow.Author.Tests.{lt-ltb, le-ltb, lt-leb}
 use lib.Dec.{T, le→leb, lt→ltb}
-use lib.IntN.{ℤ, pos, negsuc, _-ℤ_}
+use lib.IntN.{ℤ, pos, negsuc, negℤ, _-ℤ_}
 use lib.Ieee.{binary32, inFloat}
 use lib.Pow.{pow-add, pow-mono}
-use lib.Signed.{mag}
+use lib.Signed.{mag, ltZ, quotZ, remZ, mag-rem}
 use mir.Syntax.{w64}
-use mir.Val.{toZ, ofZ}
+use mir.Val.{SFits, toZ, ofZ}
 use mir.ValLaws.{toZ-ofZ}
+use Rattle.words.specs.Tests.{pick}
 use Rattle.words.specs.Outcome.{refused, accepted}
 use Rattle.words.specs.Word.{highFirst}
 use Rattle.words.proofs.Cases.{le-or-lt, accepted-same}
 use Rattle.payload.specs.Signs.{twosComplement, signedOf}
-use Rattle.panel.specs.Values.{unitsOf, floorRem}
+use Rattle.panel.specs.Values.{unitsOf, floorDiv, floorRem}
 
 -- ---- what the machine reads back from a signed number's bits
 pub back : (z : ℤ) {y : ℤ} → mag z < 2 ^ 63 → z ≡ y → toZ w64 (ofZ w64 z) ≡ y
@@ -77,10 +78,43 @@ unfolding inFloat
 in-float (pos n) h = le→leb n (2 ^ 24) (le-of-lt h)
 in-float (negsuc n) h = lt→ltb n (2 ^ 24) h
 
--- -1 - n, and -1 - (-1 - n)
-pub one-less : (n : ℕ) → negsuc 0 -ℤ pos n ≡ negsuc n
-one-less zero = refl
-one-less (suc n) = ap (λ (k : ℕ). negsuc (suc k)) (zero-add n)
+-- ---- rounding down
 
-pub two-less : (n : ℕ) → negsuc 0 -ℤ negsuc n ≡ pos n
-two-less n = rw (le-ltb (suc n) 1 (omega arith)) (ap pos (omega arith))
+-- a division towards zero, less 1 where it left something below zero
+below-floor : (n q r : ℕ) → suc n ≡ q * 1048576 + r → r < 1048576
+    → negℤ (pos q) -ℤ pick (ltZ (negℤ (pos r)) (pos 0)) (pos 1) (pos 0) ≡ negsuc (n / 1048576)
+below-floor n zero zero e h = absurd (omega arith)
+below-floor n (suc q) zero e h = rw (lt-ltb 0 (suc q) (omega arith)) (ap negsuc (omega arith))
+below-floor n zero (suc r) e h = ap negsuc (omega arith)
+below-floor n (suc q) (suc r) e h = ap negsuc (omega arith)
+
+floor-is : (z : ℤ) → quotZ z (pos 1048576) -ℤ pick (ltZ (remZ z (pos 1048576)) (pos 0)) (pos 1) (pos 0) ≡ floorDiv z 1048576
+floor-is (pos n) = rw (le-ltb (n % 1048576) 0 (omega arith)) (ap pos (omega arith))
+floor-is (negsuc n) = below-floor n (suc n / 1048576) (suc n % 1048576) (omega arith) (omega arith)
+
+quot-mag : (z : ℤ) → mag z < 2 ^ 63 → mag (quotZ z (pos 1048576)) < 2 ^ 63
+quot-mag (pos n) h = omega arith
+quot-mag (negsuc n) h = less (suc n / 1048576) (omega arith)
+  where
+    less : (q : ℕ) → q < 2 ^ 63 → mag (negℤ (pos q)) < 2 ^ 63
+    less zero b = b
+    less (suc q) b = omega arith
+
+floor-mag : (z : ℤ) → mag z < 2 ^ 63 → mag (floorDiv z 1048576) < 2 ^ 63
+floor-mag (pos n) h = omega arith
+floor-mag (negsuc n) h = omega arith
+
+-- the same of the machine's numbers
+module _ (z : ℤ) (h : mag z < 2 ^ 63) where
+  pub quot-fits : SFits w64 (quotZ (toZ w64 (ofZ w64 z)) (pos 1048576))
+  quot-fits = subst (λ (y : ℤ). SFits w64 (quotZ y (pos 1048576))) (sym (back z h refl)) (sfits-of (quot-mag z h))
+
+  module _ (up : ℤ) (b : mag up < 2 ^ 63)
+      (e : up ≡ pick (ltZ (toZ w64 (ofZ w64 (remZ (toZ w64 (ofZ w64 z)) (pos 1048576)))) (pos 0)) (pos 1) (pos 0)) where
+    pub floored : toZ w64 (ofZ w64 (quotZ (toZ w64 (ofZ w64 z)) (pos 1048576))) -ℤ toZ w64 (ofZ w64 up) ≡ floorDiv z 1048576
+    floored =
+        rw (back up b refl, e, back z h refl, back (quotZ z (pos 1048576)) (quot-mag z h) refl, back (remZ z (pos 1048576)) (lt-of-le-of-lt (mag-rem z (pos 1048576)) h) refl)
+        (floor-is z)
+
+    pub floored-fits : SFits w64 (toZ w64 (ofZ w64 (quotZ (toZ w64 (ofZ w64 z)) (pos 1048576))) -ℤ toZ w64 (ofZ w64 up))
+    floored-fits = subst (λ (y : ℤ). SFits w64 y) (sym floored) (sfits-of (floor-mag z h))

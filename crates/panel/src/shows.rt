@@ -29,9 +29,11 @@ pub fn show(bit: u32, ws: &[u32]) -> crate::Dial
         return crate::Dial::Level(crate::values::decibels(first % 0x1_0000));
     }
     if bit == 23 {
+        let lower = crate::values::decibels(first % 0x1_0000);
+        let upper = crate::values::decibels(first / 0x1_0000 % 0x1_0000);
         return crate::Dial::Gain(crate::Stages {
-            stage1: crate::values::decibels(first % 0x1_0000),
-            stage2: crate::values::decibels(first / 0x1_0000 % 0x1_0000),
+            stage1: lower,
+            stage2: upper,
         });
     }
     if bit == 18 {

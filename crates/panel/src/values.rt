@@ -1,7 +1,10 @@
 // Numbers out of held words: signed numbers, whole hertz, and exact quotients as f32.
 ghost use mathlib.Core.Path.{_≡_};
 ghost use Prim.Native.Nat.{_≤_, _<_, _^_};
+ghost use lib.IntN.{pos};
+ghost use lib.Signed.{ltZ};
 ghost use lib.Ieee.{binary32, ofInt, div};
+ghost use Rattle.words.specs.Tests.{pick};
 ghost use Rattle.payload.specs.Signs.{twosComplement};
 ghost use Rattle.panel.specs.Values.{unitsOf, floorDiv, over};
 
@@ -48,12 +51,19 @@ pub fn units(high: u32, low: u32) -> i64
     value_of(64, words::inner::high_first(high, low))
 }
 
-// Whole hertz of units of 2^-20 hertz, rounded down. A division rounds towards zero, so below zero it is taken of the distance to -1.
+// How far a division, which rounds towards zero, stands above one that rounds down: 1 where it leaves something below zero, and else 0.
+fn rounded_up(left: i64) -> i64
+    ensures { λ r. ⌜ r ≡ pick (ltZ left (pos 0)) (pos 1) (pos 0) ⌝ }
+{
+    if left < 0 {
+        return 1;
+    }
+    0
+}
+
+// Whole hertz of units of 2^-20 hertz, rounded down.
 pub fn whole_hertz(z: i64) -> i64
     ensures { λ r. ⌜ r ≡ floorDiv z 1048576 ⌝ }
 {
-    if z < 0 {
-        return -1 - (-1 - z) / 0x10_0000;
-    }
-    z / 0x10_0000
+    z / 0x10_0000 - rounded_up(z % 0x10_0000)
 }
