@@ -46,11 +46,10 @@ pub fn print_refused(k: u64, e: u32) {
 
 // The case's number and its signed value, as a line.
 pub fn print_signed(k: u64, v: i64) {
-    if v < 0 {
-        print_accepted(k, b" value -", !v as u64 + 1);
-    } else {
-        print_accepted(k, b" value ", v as u64);
-    }
+    wordio::inner::number(k);
+    wordio::inner::text(b" value ");
+    wordio::inner::signed(v);
+    wordio::inner::text(b"\n");
 }
 
 // A number, after a space.

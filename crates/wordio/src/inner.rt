@@ -65,6 +65,16 @@ pub fn number(n: u64) {
     io::print_decimal(STDOUT_FILENO, n);
 }
 
+// Writes a signed number in decimal.
+pub fn signed(v: i64) {
+    if v < 0 {
+        text(b"-");
+        number(!v as u64 + 1);
+    } else {
+        number(v as u64);
+    }
+}
+
 // Writes a name and a number, as ` size 5`.
 pub fn named(name: &[u8], n: u64) {
     text(b" ");

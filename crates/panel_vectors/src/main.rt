@@ -1,0 +1,154 @@
+// Asks what standard input says with `panel::reading` and `panel::held_words`, and writes what they answer and leave.
+// A case begins with what is asked: 1, a reading, by the table (n, and n words), stream and bit; 2, held words, by the same and the room of the buffer;
+// 3, a sweep over every half of a word.
+mod decimal;
+
+use panel::Copied;
+use panel::Dial;
+
+// A frequency: whole hertz and parts of 2^20.
+fn show_frequency(hertz: i64, parts: u32) {
+    wordio::inner::text(b" frequency ");
+    wordio::inner::signed(hertz);
+    wordio::inner::named(b"parts", parts as u64);
+}
+
+// A gain: both stages.
+fn show_gain(stage1: f32, stage2: f32) {
+    wordio::inner::text(b" gain ");
+    decimal::print(stage1, 7);
+    wordio::inner::text(b" ");
+    decimal::print(stage2, 7);
+}
+
+// A level, a multiple of 1/128.
+fn show_level(x: f32) {
+    wordio::inner::text(b" level ");
+    decimal::print(x, 7);
+}
+
+// A temperature, a multiple of 1/64.
+fn show_temperature(x: f32) {
+    wordio::inner::text(b" temperature ");
+    decimal::print(x, 6);
+}
+
+// What a reading answers.
+fn show(answer: Dial) {
+    match answer {
+        Dial::Frequency { hertz, parts } => show_frequency(hertz, parts),
+        Dial::Level(x) => show_level(x),
+        Dial::Gain(g) => show_gain(g.stage1, g.stage2),
+        Dial::Temperature(x) => show_temperature(x),
+        Dial::Other => wordio::inner::text(b" other"),
+        Dial::Absent => wordio::inner::text(b" absent"),
+        Dial::Refused(n) => wordio::inner::named(b"refused", n as u64),
+    }
+}
+
+// The reading of a table that was read.
+fn ask_reading(k: u64, table: &[u32]) {
+    let stream = wordio::inner::word() as usize;
+    let bit = wordio::inner::word();
+    wordio::inner::number(k);
+    show(panel::reading(table, stream, bit));
+    wordio::inner::text(b"\n");
+}
+
+// The line of `held_words`: how many, or the refusal.
+fn show_copied(k: u64, answer: Copied) {
+    wordio::inner::number(k);
+    match answer {
+        Copied::Accepted(n) => wordio::inner::named(b"held", n as u64),
+        Copied::Refused(n) => wordio::inner::named(b"refused", n as u64),
+    }
+    wordio::inner::text(b"\n");
+}
+
+// The held words of a table that was read, in a buffer of the room that is asked for.
+fn ask_words(k: u64, table: &[u32], out: &mut [u32]) {
+    let stream = wordio::inner::word() as usize;
+    let bit = wordio::inner::word();
+    let room = wordio::inner::word() as usize;
+    if out.len() < room {
+        return;
+    }
+    wordio::inner::pattern(&mut out[0..room]);
+    show_copied(k, panel::held_words(table, stream, bit, &mut out[0..room]));
+    wordio::inner::text(b"  words");
+    wordio::inner::list(&out[0..room]);
+    wordio::inner::text(b"\n");
+}
+
+// The line of a half in the sweep: the three readings of its table.
+fn show_half(h: u32, table: &[u32; 89]) {
+    wordio::inner::number(h as u64);
+    show(panel::reading(table, 0, 24));
+    show(panel::reading(table, 0, 23));
+    show(panel::reading(table, 0, 18));
+    wordio::inner::text(b"\n");
+}
+
+// Every half as a level and a temperature, and as the first stage of a gain beside another half. The table has one stream, 7, which holds fields 24, 23 and 18.
+fn sweep(k: u64) {
+    wordio::inner::number(k);
+    wordio::inner::text(b" sweep\n");
+    let mut table = [0u32; 89];
+    table[0] = 1;
+    table[1] = 7;
+    table[2] = 0x0184_0000;
+    table[9] = 1;
+    table[11] = 1;
+    let mut h: u32 = 0;
+    while h < 0x1_0000 {
+        table[26] = h;
+        table[27] = h + h * 40503 % 0x1_0000 * 0x1_0000;
+        table[34] = h;
+        show_half(h, &table);
+        h += 1;
+    }
+}
+
+// A case that asks something of a table: reads the table first.
+fn ask(k: u64, asked: u32, table: &mut [u32], out: &mut [u32]) {
+    let n = wordio::inner::word() as usize;
+    if table.len() < n {
+        return;
+    }
+    wordio::inner::fill(&mut table[0..n]);
+    if asked == 1 {
+        ask_reading(k, &table[0..n]);
+    } else {
+        ask_words(k, &table[0..n], out);
+    }
+}
+
+// Case k; whether there was one.
+fn one_case(k: u64, table: &mut [u32], out: &mut [u32]) -> bool {
+    let next = wordio::inner::next_word();
+    let wordio::inner::Input::Word(asked) = next else {
+        return false;
+    };
+    if asked == 3 {
+        sweep(k);
+    } else {
+        ask(k, asked, table, out);
+    }
+    true
+}
+
+// A table here has at most 2,900 words, a buffer for held words 20.
+fn main() {
+    let mut table_space = [0u32; 2900];
+    let mut out_space = [0u32; 20];
+    let table: &mut [u32] = &mut table_space;
+    let out: &mut [u32] = &mut out_space;
+    let mut k: u64 = 0;
+    while k < 0xFFFF_FFFF {
+        if one_case(k, table, out) {
+            k += 1;
+        } else {
+            return;
+        }
+    }
+}
