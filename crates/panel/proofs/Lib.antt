@@ -1,10 +1,10 @@
 -- The laws of readings, each beside its kin.
 
--- two's complement, parts of a hertz, and signed numbers as the machine has them
+-- two's complement, whole hertz and parts, and signed numbers as the machine has them
 pub mod ValueLaws
 -- an exact quotient as a float
 pub mod Quotient
--- the bit pattern of that float
+-- the bit pattern of that float, by its three fields
 pub mod Pattern
 -- refusals, fields in a record, and the answers
 pub mod ReadingLaws

@@ -17,6 +17,7 @@ use Rattle.payload.specs.Signs.{twosComplement}
 use Rattle.panel.proofs.ValueLaws.{value-mag}
 use Rattle.panel.proofs.Quotient.{pattern, bits-of, share-odd}
 
+-- ---- how many bits a number has
 size-pos : (n : ℕ) → 0 < n → 0 < size n
 size-pos n h = lt-of-not-le (λ (g : size n ≤ 0). not-le-of-lt (lt-of-lt-of-le (size-lt n) (pow-mono {i = size n} {j = 0} g)) h)
 
@@ -30,6 +31,7 @@ size-shift n j h =
     let dn : z - 1 + j < size (n * 2 ^ j) = lt-of-not-le (λ (g : size (n * 2 ^ j) ≤ z - 1 + j). not-le-of-lt (lt-of-lt-of-le (size-lt (n * 2 ^ j)) (pow-mono {i = size (n * 2 ^ j)} {j = z - 1 + j} g)) lo′) in
     omega arith
 
+-- ---- a number that is not zero
 fields : (k : ℕ) (s : Bool) (n : ℕ) → k ≤ 125 → 0 < n → n < 2 ^ 24
     → toBits binary32 (share k s n) ≡ cond s (2 ^ 31) 0 + (size n + 126 - k) * 2 ^ 23 + (n * 2 ^ (24 - size n) - 2 ^ 23)
 unfolding pattern
@@ -39,22 +41,22 @@ fields k s n hk hp h =
     let z = size n in
     let zp = size-pos n hp in
     let z24 : z ≤ 24 = size-le n 24 h in
-    let K = z + 125 - k in
+    let d = z + 125 - k in
     let q = 24 - z in
-    let N = n * 2 ^ j in
+    let m = n * 2 ^ j in
     let big : 8388608 ≤ n * 2 ^ q =
     subst (λ (x : ℕ). x ≤ n * 2 ^ q) (sym (pow-add 2 (z - 1) q) ∙ ap (λ (x : ℕ). 2 ^ x) {x = z - 1 + q} {y = 23} (omega arith))
     (mul-le-mul-right (2 ^ q) (size-reaches n (z - 1) (omega arith))) in
-    let kk : size N - 24 ≡ K = ap (λ (x : ℕ). x - 24) (size-shift n j hp) ∙ omega arith in
-    let quo : N / 2 ^ K ≡ n * 2 ^ q =
-    ap (λ (x : ℕ). n * x / 2 ^ K) (ap (λ (x : ℕ). 2 ^ x) {x = j} {y = q + K} (omega arith) ∙ pow-add 2 q K)
-    ∙ ap (λ (x : ℕ). x / 2 ^ K) (sym (mul-assoc n (2 ^ q) (2 ^ K)))
-    ∙ shl-shr (n * 2 ^ q) K in
+    let dropped : size m - 24 ≡ d = ap (λ (x : ℕ). x - 24) (size-shift n j hp) ∙ omega arith in
+    let kept : m / 2 ^ d ≡ n * 2 ^ q =
+    ap (λ (x : ℕ). n * x / 2 ^ d) (ap (λ (x : ℕ). 2 ^ x) {x = j} {y = q + d} (omega arith) ∙ pow-add 2 q d)
+    ∙ ap (λ (x : ℕ). x / 2 ^ d) (sym (mul-assoc n (2 ^ q) (2 ^ d)))
+    ∙ shl-shr (n * 2 ^ q) d in
     ap (toBits binary32) (share-odd j k s n e)
-    ∙ bits-of binary32 (odd 24 s n j 149) s N (2 ^ 149) (pow-pos 149) (odd-sign 24 s n j 149)
-    ∙ ap (pattern binary32 s) (shl-shr N 149)
-    ∙ ap (λ (x : ℕ). cond s 2147483648 0 + x * 8388608 + N / 2 ^ x) kk
-    ∙ ap (λ (x : ℕ). cond s 2147483648 0 + K * 8388608 + x) quo
+    ∙ bits-of binary32 (odd 24 s n j 149) s m (2 ^ 149) (pow-pos 149) (odd-sign 24 s n j 149)
+    ∙ ap (pattern binary32 s) (shl-shr m 149)
+    ∙ ap (λ (x : ℕ). cond s 2147483648 0 + x * 8388608 + m / 2 ^ x) dropped
+    ∙ ap (λ (x : ℕ). cond s 2147483648 0 + d * 8388608 + x) kept
     ∙ omega arith
 
 -- ---- the three fields of z over 2 ^ k
@@ -64,12 +66,12 @@ unfoldable pub signField : ℤ → ℕ
 signField (pos n) = 0
 signField (negsuc n) = 1
 
--- 127 stands for 2 ^ 0, the place of a number's first bit; 0 of zero
+-- the place of the number's first bit, where 127 stands for 2 ^ 0; 0 of zero
 unfoldable pub exponentField : ℕ → ℕ → ℕ
 exponentField k zero = 0
 exponentField k (suc n) = size (suc n) + 126 - k
 
--- the 23 bits after the first; 0 of zero
+-- the 23 bits after that one; 0 of zero
 unfoldable pub fractionField : ℕ → ℕ
 fractionField zero = 0
 fractionField (suc n) = suc n * 2 ^ (24 - size (suc n)) - 2 ^ 23

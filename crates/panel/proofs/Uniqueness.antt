@@ -6,7 +6,6 @@ use Rattle.words.specs.Outcome.{Outcome, refused, accepted, Meets}
 use Rattle.words.proofs.Once.{once, meets-once}
 use Rattle.panel.specs.Readings.{Reading, frequency, level, gain, temperature, other, absent, readingOf, readingPaper}
 use Rattle.panel.specs.HeldWords.{heldWordsOf, copiedPaper}
-use Rattle.panel.specs.declared.Stages.{Stages}
 use Rattle.panel.specs.declared.Dial.{Dial}
 use Rattle.panel.specs.declared.Dial.the-variants as dial
 use Rattle.panel.specs.declared.Copied.{Copied}

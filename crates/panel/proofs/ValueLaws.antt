@@ -1,5 +1,5 @@
 -- Numbers out of held words. The idea: two's complement is `pos` below the sign bit's weight and `negsuc` from there on, so that a range, a remainder and a
--- machine number follow by cases.
+-- machine number follow by cases; and what a division leaves below zero says that it stands 1 above rounding down.
 use mathlib.Core.Path.{_≡_, refl, sym, ap, subst, _∙_}
 use mathlib.Core.Logic.{⊎-elim}
 use Prim.Native.Nat.{ℕ, zero, suc, _+_, _-_, _*_, _/_, _%_, _^_, _≤_, _<_}
@@ -8,7 +8,7 @@ use native.Mathlib.Omega.{arith}
 use borrow.Author.Needs.{sfits-of}
 use borrow.Author.Tests.{lt-ltb, le-ltb, lt-leb}
 use lib.Dec.{T, le→leb, lt→ltb}
-use lib.IntN.{ℤ, pos, negsuc, negℤ, _-ℤ_}
+use lib.IntN.{ℤ, pos, negsuc, negℤ, _+ℤ_, _-ℤ_, _*ℤ_}
 use lib.Ieee.{binary32, inFloat}
 use lib.Pow.{pow-add, pow-mono}
 use lib.Signed.{mag, ltZ, quotZ, remZ, mag-rem}
@@ -71,14 +71,23 @@ parts-is h l p q =
     (λ (g : highFirst h l < 2 ^ 63). rw (value-low 64 (highFirst h l) g) (omega arith))
     (le-or-lt (2 ^ 63) (highFirst h l))
 
--- ---- signed numbers of the machine
-
+-- ---- a signed number that an f32 has
 pub in-float : (z : ℤ) → mag z < 2 ^ 24 → T (inFloat binary32 z)
 unfolding inFloat
 in-float (pos n) h = le→leb n (2 ^ 24) (le-of-lt h)
 in-float (negsuc n) h = lt→ltb n (2 ^ 24) h
 
 -- ---- rounding down
+
+-- -p + r
+sum-below : (p r n : ℕ) → p ≡ r + suc n → negℤ (pos p) +ℤ pos r ≡ negsuc n
+sum-below zero r n e = absurd (omega arith)
+sum-below (suc p) r n e = rw (lt-ltb r (suc p) (omega arith)) (ap negsuc (omega arith))
+
+-- the definitions are "whole hertz rounded down, and 0 to 1,048,575 parts of 2^20"
+pub hertz-and-parts : (z : ℤ) → (floorDiv z 1048576 *ℤ pos 1048576 +ℤ pos (floorRem z 1048576) ≡ z) × (floorRem z 1048576 < 1048576)
+hertz-and-parts (pos n) = (ap pos (omega arith), omega arith)
+hertz-and-parts (negsuc n) = (sum-below (suc (n / 1048576) * 1048576) (1048576 - suc (n % 1048576)) n (omega arith), omega arith)
 
 -- a division towards zero, less 1 where it left something below zero
 below-floor : (n q r : ℕ) → suc n ≡ q * 1048576 + r → r < 1048576

@@ -14,12 +14,12 @@ use Rattle.payload.specs.Signs.{twosComplement}
 unfoldable pub unitsOf : ℕ → ℕ → ℤ
 unitsOf high low = twosComplement 64 (highFirst high low)
 
--- z over m "rounded down": -1 - n is -1 - n / m
+-- z over m "rounded down": -1 - n over m is -1 - n / m
 abbrev pub floorDiv : ℤ → ℕ → ℤ
 floorDiv (pos n) m = pos (n / m)
 floorDiv (negsuc n) m = negsuc (n / m)
 
--- and what is left, "0 to" m - 1
+-- and what that leaves: 0 to m - 1
 abbrev pub floorRem : ℤ → ℕ → ℕ
 floorRem (pos n) m = n % m
 floorRem (negsuc n) m = m - suc (n % m)
