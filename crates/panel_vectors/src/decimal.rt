@@ -62,7 +62,7 @@ fn print_parts(minus: bool, n: u32, places: usize)
     print_places(n % 128 * 78125, places);
 }
 
-// Writes a float with so many places. A minus sign stands before every float whose sign is set, also a zero; what no 128ths give has no digits.
+// Writes a float with so many places; `inexact` where it is no whole number of 128ths. The minus sign is the float's own, also before a zero.
 pub fn print(x: f32, places: usize)
     requires { ⌜ places ≤ 7 ⌝ }
 {
