@@ -1,0 +1,203 @@
+-- A record and its body. The idea: their first words are the same; the rest of a body is the held words of the record's slots, and crate record's laws of
+-- squeezing say that slots give the words again and words the slots (`record-body`, `body-record`).
+use mathlib.Core.Path.{_≡_, refl, sym, ap, ap₂, _∙_}
+use mathlib.Core.Logic.{⊎-elim}
+use mathlib.Core.Bool.{true, false}
+use mathlib.Core.List.{List, _∷_, _++_}
+use Prim.Native.Nat.{ℕ, zero, suc, _+_, _-_, _%_, _^_, _≤_, _<_}
+use native.Mathlib.Nat.{zero-add, mod-lt}
+use native.Mathlib.Omega.{arith}
+use borrow.Author.Tests.{eqb-true}
+use lib.Bits.{bitAnd}
+use lib.Dec.{eqb}
+use lib.ListN.{length, drop, getD, replicate, length-append, length-drop, length-replicate, take-append-drop}
+use lib.Seq.{drop-at, ext-getD}
+use Rattle.words.specs.Word.{has}
+use Rattle.words.specs.Part.{part}
+use Rattle.words.specs.SetBits.{bitsOf}
+use Rattle.words.specs.All.{all}
+use Rattle.words.proofs.AllLaws.{all-at}
+use Rattle.words.proofs.SetBitLaws.{bits-zero, bits-yes, bits-no, bits-none, bits-trim, bits-mod}
+use Rattle.words.proofs.Cases.{both-left, true-or-false}
+use Rattle.words.proofs.PartLaws.{getD-part, part-length, part-front, part-past, part-whole, part-is}
+use Rattle.fields.specs.Sizes.{sizeOf, sizesOf}
+use Rattle.fields.proofs.SizeLaws.{sizes-none, sizes-more}
+use Rattle.record.specs.Held.{heldMask, holds, heldBits, slotAt}
+use Rattle.record.specs.Layout.{headWords, slotWords, recordWords, heldOf, countOf, lastOf, slotIn, slotsOf, slotOf}
+use Rattle.record.specs.After.{slotAfter, refilled, heldWords}
+use Rattle.record.specs.Good.{recordGood, heldGood}
+use Rattle.record.proofs.SlotLaws.{placed, placed-inside, in-order-length, slots-whole}
+use Rattle.record.proofs.HoldLaws.{slot-inside}
+use Rattle.record.proofs.GoodLaws.{zero-at, good-of}
+use Rattle.record.proofs.SqueezeLaws.{refilled-drop, held-length, refilled-held, held-refilled}
+use Rattle.page.specs.Body.{bodyOf, bodyWords, recordOf}
+use Rattle.page.proofs.JoinedLaws.{part-join}
+
+-- ---- the first words
+
+-- a word of the first ones, where words follow them
+front-word : (i : ℕ) (x rest : List ℕ) → i < headWords → headWords ≤ length x → getD (part 0 headWords x ++ rest) i 0 ≡ getD x i 0
+front-word i x rest h g =
+    let l : length (part 0 headWords x) ≡ headWords = part-length 0 headWords x g in
+    rw zero-add at
+    (sym (getD-part 0 headWords i (part 0 headWords x ++ rest) h)
+    ∙ ap (λ (z : List ℕ). getD z i 0) (part-front headWords (part 0 headWords x) rest l)
+    ∙ getD-part 0 headWords i x h)
+
+pub body-word : (r : List ℕ) (i : ℕ) → i < headWords → headWords ≤ length r → getD (bodyOf r) i 0 ≡ getD r i 0
+unfolding bodyOf
+body-word r i h g = front-word i r _ h g
+
+pub record-word : (b : List ℕ) (i : ℕ) → i < headWords → headWords ≤ length b → getD (recordOf b) i 0 ≡ getD b i 0
+unfolding recordOf
+record-word b i h g = front-word i b _ h g
+
+-- a good record holds no bit but those of held fields
+pub good-within : (r : List ℕ) → recordGood r ≡ true → bitAnd (heldOf r) heldMask ≡ heldOf r
+unfolding recordGood heldGood
+good-within r e = eqb-true _ _ (both-left (eqb (bitAnd (heldOf r) heldMask) (heldOf r)) _ (both-left (heldGood (heldOf r) (lastOf (countOf 2 r))) _ e))
+
+-- ---- zeroed slots
+
+zero-slot : (b : ℕ) → holds b ≡ true → slotIn b (replicate slotWords 0) ≡ replicate (sizeOf b) 0
+unfolding slotIn
+zero-slot b o =
+    let l : length (replicate {A = ℕ} slotWords 0) ≡ slotWords = length-replicate {A = ℕ} slotWords 0 in
+    let m : length (part (slotAt b) (sizeOf b) (replicate slotWords 0)) ≡ sizeOf b = part-length (slotAt b) (sizeOf b) (replicate slotWords 0) (omega (arith, slot-inside b o)) in
+    ext-getD 0 _ (replicate (sizeOf b) 0) (m ∙ sym (length-replicate (sizeOf b) 0))
+    (λ i h.
+    getD-part (slotAt b) (sizeOf b) i (replicate slotWords 0) (omega arith)
+    ∙ zero-at slotWords (slotAt b + i) ∙ sym (zero-at (sizeOf b) i))
+
+-- ---- a record's body, and its record again
+
+module _ (r : List ℕ) (l : length r ≡ recordWords) (e : recordGood r ≡ true) where
+  head-length : length (part 0 headWords r) ≡ headWords
+  head-length = part-length 0 headWords r (omega arith)
+
+  slots-length : length (slotsOf r) ≡ slotWords
+  unfolding slotsOf
+  slots-length = part-length headWords slotWords r (omega arith)
+
+  pub body-length : length (bodyOf r) ≡ bodyWords (heldOf r)
+  unfolding bodyOf bodyWords
+  body-length =
+      length-append (part 0 headWords r) _
+      ∙ omega (arith, head-length, held-length (heldOf r) (good-within r e) (slotsOf r) slots-length)
+
+  slots-back : refilled (heldOf r) 0 (heldWords (heldOf r) (slotsOf r)) (replicate slotWords 0) ≡ slotsOf r
+  unfolding slotOf
+  slots-back =
+      refilled-held (heldOf r) (good-within r e) (slotsOf r) (replicate slotWords 0) slots-length
+      (λ b o n. zero-slot b o ∙ sym (good-of r l e .unheld b o n))
+
+  pub record-body : recordOf (bodyOf r) ≡ r
+  unfolding recordOf bodyOf slotsOf
+  record-body =
+      let rest : List ℕ = heldWords (heldOf r) (slotsOf r) in
+      let h : heldOf (bodyOf r) ≡ heldOf r = body-word r 1 (omega arith) (omega arith) in
+      let f : part 0 headWords (bodyOf r) ≡ part 0 headWords r = part-front headWords (part 0 headWords r) rest head-length in
+      let d : drop headWords (bodyOf r) ≡ rest = drop-at (part 0 headWords r) rest headWords head-length in
+      let s : refilled (heldOf (bodyOf r)) headWords (bodyOf r) (replicate slotWords 0) ≡ slotsOf r =
+      refilled-drop (heldOf (bodyOf r)) headWords (bodyOf r) (replicate slotWords 0) ∙ rw (d, h) slots-back in
+      ap₂ (λ (a b : List ℕ). a ++ b) f s ∙ part-join 0 headWords slotWords r ∙ rw l at (part-whole r)
+
+-- ---- how long a body is
+
+-- fewer bits take fewer words
+sizes-within : (k n m : ℕ) → ((b : ℕ) → b < k → has n b ≡ true → has m b ≡ true) → sizesOf (bitsOf k n) ≤ sizesOf (bitsOf k m)
+sizes-within zero n m w = omega (arith, ap sizesOf (bits-zero n), ap sizesOf (bits-zero m))
+sizes-within (suc k) n m w =
+    let rest = sizes-within k n m (λ b h. w b (omega arith)) in
+    let more : (x : ℕ) → has x k ≡ true → sizesOf (bitsOf (suc k) x) ≡ sizeOf k + sizesOf (bitsOf k x) = λ x y. ap sizesOf (bits-yes k x y) ∙ sizes-more k (bitsOf k x) in
+    ⊎-elim (λ (y : has n k ≡ true). omega (arith, rest, more n y, more m (w k (omega arith) y)))
+    (λ (y : has n k ≡ false).
+    ⊎-elim (λ (z : has m k ≡ true). omega (arith, rest, ap sizesOf (bits-no k n y), more m z))
+    (λ (z : has m k ≡ false). omega (arith, rest, ap sizesOf (bits-no k n y), ap sizesOf (bits-no k m z))) (true-or-false (has m k)))
+    (true-or-false (has n k))
+
+every-bit : (b : ℕ) → b < 31 → has (2 ^ 31 - 1) b ≡ true
+unfolding all
+every-bit b h = all-at (has (2 ^ 31 - 1)) 31 b h refl
+
+-- the fields of bits 30 to 0 that have a fixed size have 74 words together
+every-size : sizesOf (bitsOf 31 (2 ^ 31 - 1)) ≡ slotWords
+unfolding bitsOf sizesOf sizeOf
+every-size = refl
+
+pub words-most : (held : ℕ) → bodyWords held ≤ recordWords
+unfolding bodyWords
+words-most held = omega (arith, sizes-within 31 held (2 ^ 31 - 1) (λ b h y. every-bit b h), every-size)
+
+-- the loop that adds the fields: its start, a turn and its end. The length so far and the words of the bits that are left are the whole
+abbrev pub Adding : ℕ → ℕ → ℕ → Type 0
+Adding held rest n = n + sizesOf (bitsOf 32 rest) ≡ bodyWords held
+
+pub adding-start : (held rest : ℕ) → rest ≡ held % 2 ^ 31 → Adding held rest headWords
+unfolding bodyWords
+adding-start held rest e =
+    ap (λ (l : List ℕ). headWords + sizesOf l) (ap (bitsOf 32) e ∙ bits-trim 31 32 (held % 2 ^ 31) (omega arith) (mod-lt held (omega arith)) ∙ bits-mod 31 held)
+
+module _ (held rest n b rest′ w : ℕ) (p : Adding held rest n) (cut : bitsOf 32 rest ≡ b ∷ bitsOf 32 rest′) (e : w ≡ sizeOf b) where
+  pub adding-turn : Adding held rest′ (n + w)
+  adding-turn = omega (arith, p, ap sizesOf cut, sizes-more b (bitsOf 32 rest′))
+
+  pub adding-most : n + w ≤ recordWords
+  adding-most = omega (arith, adding-turn, words-most held)
+
+pub adding-end : (held rest n : ℕ) → Adding held rest n → rest ≡ 0 → (n ≡ bodyWords held) × (n ≤ recordWords)
+adding-end held rest n p z =
+    let e : n ≡ bodyWords held = omega (arith, p, ap sizesOf (bits-none 32 rest (omega arith)), sizes-none) in
+    (e, omega (arith, words-most held))
+
+-- ---- slots that words are put into
+
+module _ (held : ℕ) (ws blank : List ℕ) (l : length ws ≡ sizesOf (bitsOf 31 held)) (m : length blank ≡ slotWords) where
+  refilled-sized : (b : ℕ) → b < 31 → holds b ≡ true → length (slotAfter (has held b) (part (0 + placed 31 held b) (sizeOf b) ws) (slotIn b blank)) ≡ sizeOf b
+  unfolding slotAfter slotIn
+  refilled-sized b g o =
+      ⊎-elim (λ (y : has held b ≡ true). rw y (part-length (0 + placed 31 held b) (sizeOf b) ws (omega (arith, placed-inside 31 held b g y))))
+      (λ (n : has held b ≡ false). rw n (part-length (slotAt b) (sizeOf b) blank (omega (arith, slot-inside b o)))) (true-or-false (has held b))
+
+  refilled-length : length (refilled held 0 ws blank) ≡ slotWords
+  unfolding refilled heldBits holds
+  refilled-length = in-order-length 31 heldMask _ refilled-sized ∙ slots-whole
+
+-- ---- a body's record, and its body again
+
+module _ (b : List ℕ) (l : length b ≡ bodyWords (heldOf b)) where
+  pub body-some : headWords ≤ length b
+  unfolding bodyWords
+  body-some = omega (arith, l)
+
+  rest-length : length (drop headWords b) ≡ sizesOf (bitsOf 31 (heldOf b))
+  unfolding bodyWords
+  rest-length = length-drop headWords b ∙ omega (arith, l)
+
+  front-length : length (part 0 headWords b) ≡ headWords
+  front-length = part-length 0 headWords b body-some
+
+  zeros-length : length (replicate {A = ℕ} slotWords 0) ≡ slotWords
+  zeros-length = length-replicate {A = ℕ} slotWords 0
+
+  refilled-here : length (refilled (heldOf b) headWords b (replicate slotWords 0)) ≡ slotWords
+  refilled-here =
+      ap length (refilled-drop (heldOf b) headWords b (replicate slotWords 0))
+      ∙ refilled-length (heldOf b) (drop headWords b) (replicate slotWords 0) rest-length zeros-length
+
+  pub record-length : length (recordOf b) ≡ recordWords
+  unfolding recordOf
+  record-length = length-append (part 0 headWords b) _ ∙ omega (arith, front-length, refilled-here)
+
+  pub body-record : bitAnd (heldOf b) heldMask ≡ heldOf b → bodyOf (recordOf b) ≡ b
+  unfolding recordOf bodyOf slotsOf
+  body-record w =
+      let rest : List ℕ = refilled (heldOf b) headWords b (replicate slotWords 0) in
+      let h : heldOf (recordOf b) ≡ heldOf b = record-word b 1 (omega arith) body-some in
+      let f : part 0 headWords (recordOf b) ≡ part 0 headWords b = part-front headWords (part 0 headWords b) rest front-length in
+      let m : length rest ≡ slotWords = refilled-here in
+      let s : slotsOf (recordOf b) ≡ rest =
+      part-past headWords 0 slotWords (part 0 headWords b) rest front-length ∙ rw m at (part-whole rest) in
+      let q : heldWords (heldOf (recordOf b)) (slotsOf (recordOf b)) ≡ drop headWords b =
+      rw (h, s, refilled-drop (heldOf b) headWords b (replicate slotWords 0)) (held-refilled (heldOf b) w (drop headWords b) (replicate slotWords 0) rest-length zeros-length) in
+      ap₂ (λ (x y : List ℕ). x ++ y) f q ∙ rw part-is (take-append-drop headWords b)

@@ -1,0 +1,104 @@
+-- Right contents. The idea: the test says what `GoodContents` says in facts (`contents-of`, `of-contents`); the page of bodies whose lengths are those of
+-- their held indicators has right contents (`page-contents`), and in right contents each body is as long as its held indicator says (`body-words`).
+use mathlib.Core.Path.{_≡_, sym, ap, _∙_}
+use mathlib.Core.Bool.{Bool, true}
+use mathlib.Core.List.{List}
+use Prim.Native.Nat.{ℕ, _+_, _≤_, _<_}
+use native.Mathlib.Nat.{le-of-lt, le-refl}
+use native.Mathlib.Omega.{arith}
+use borrow.Author.Tests.{eq-eqb, le-leb, eqb-true, leb-true}
+use lib.Dec.{eqb, leb}
+use lib.ListN.{length, getD}
+use Rattle.words.specs.Tests.{both}
+use Rattle.words.specs.All.{all}
+use Rattle.words.proofs.Cases.{both-left, both-right, both-true}
+use Rattle.words.proofs.AllLaws.{all-at, all-intro}
+use Rattle.words.proofs.PartLaws.{getD-part}
+use Rattle.record.specs.Layout.{headWords, heldOf}
+use Rattle.page.specs.Body.{bodyWords}
+use Rattle.page.specs.Layout.{contentsWords, offsetOf, pageFrom, bodiesIn, offsetAt, lengthAt, beginsAt, bodyAt}
+use Rattle.page.specs.Good.{pairGood, contentsGood, GoodContents}
+use Rattle.page.proofs.LayoutLaws.{offset-inside, page-length, body-part, offset-at, length-at, begins-at, body-sized}
+
+-- ---- the test as facts
+
+pub contents-of : (p : List ℕ) → contentsGood p ≡ true → GoodContents p
+unfolding contentsGood pairGood
+contents-of p e =
+    let n : ℕ = bodiesIn p in
+    let pairs : Bool = all n (pairGood p) in
+    let ends : Bool = eqb (beginsAt p n) (length p) in
+    let second : Bool = eqb (getD p 1 0) (length p) in
+    let room : Bool = leb (contentsWords n) (length p) in
+    let a = both-right (leb n 32) (both room (both second (both pairs ends))) e in
+    let b = both-right room (both second (both pairs ends)) a in
+    let c = both-right second (both pairs ends) b in
+    let pair : (s : ℕ) → s < n → pairGood p s ≡ true = λ s h. all-at (pairGood p) n s h (both-left pairs ends c) in
+    record {
+      few = leb-true n 32 (both-left (leb n 32) (both room (both second (both pairs ends))) e);
+      room = leb-true (contentsWords n) (length p) (both-left room (both second (both pairs ends)) a);
+      second = eqb-true (getD p 1 0) (length p) (both-left second (both pairs ends) b);
+      gapless = λ s h. eqb-true (offsetAt p s) (beginsAt p s) (both-left (eqb (offsetAt p s) (beginsAt p s)) _ (pair s h));
+      inside = λ s h.
+          leb-true (beginsAt p s + lengthAt p s) (length p)
+          (both-left (leb (beginsAt p s + lengthAt p s) (length p)) _ (both-right (eqb (offsetAt p s) (beginsAt p s)) _ (pair s h)));
+      lengths = λ s h.
+          eqb-true (lengthAt p s) _
+          (both-right (leb (beginsAt p s + lengthAt p s) (length p)) _ (both-right (eqb (offsetAt p s) (beginsAt p s)) _ (pair s h)));
+      ends = eqb-true (beginsAt p n) (length p) (both-right pairs ends c);
+    }
+
+pub of-contents : (p : List ℕ) → GoodContents p → contentsGood p ≡ true
+unfolding contentsGood pairGood
+of-contents p g =
+    both-true _ _ (le-leb (bodiesIn p) 32 (g .few))
+    (both-true _ _ (le-leb (contentsWords (bodiesIn p)) (length p) (g .room))
+    (both-true _ _ (eq-eqb (getD p 1 0) (length p) (g .second))
+    (both-true _ _
+    (all-intro (pairGood p) (bodiesIn p)
+    (λ s h.
+    both-true _ _ (eq-eqb (offsetAt p s) (beginsAt p s) (g .gapless s h))
+    (both-true _ _ (le-leb (beginsAt p s + lengthAt p s) (length p) (g .inside s h)) (eq-eqb (lengthAt p s) _ (g .lengths s h)))))
+    (eq-eqb (beginsAt p (bodiesIn p)) (length p) (g .ends)))))
+
+-- ---- a body's words, in the page
+
+-- a body has its first words
+pub words-some : (held : ℕ) → headWords ≤ bodyWords held
+unfolding bodyWords
+words-some held = omega arith
+
+contents-before : (n : ℕ) (f : ℕ → List ℕ) → contentsWords n ≤ offsetOf n f n
+unfolding offsetOf
+contents-before n f = omega arith
+
+pub page-contents : (n : ℕ) (f : ℕ → List ℕ) → n ≤ 32 → ((s : ℕ) → s < n → length (f s) ≡ bodyWords (heldOf (f s))) → GoodContents (pageFrom n f)
+unfolding pageFrom
+page-contents n f few l =
+    let p : List ℕ = pageFrom n f in
+    record {
+      few = few;
+      room = omega (arith, page-length n f, contents-before n f);
+      second = sym (page-length n f);
+      gapless = λ s h. offset-at n f s h ∙ sym (begins-at n f s (le-of-lt h));
+      inside = λ s h. omega (arith, begins-at n f s (le-of-lt h), length-at n f s h, offset-inside n f s h, page-length n f);
+      lengths = λ s h.
+          let w : getD p (offsetOf n f s + 1) 0 ≡ heldOf (f s) =
+          sym (getD-part (offsetOf n f s) (length (f s)) 1 p (omega (arith, l s h, words-some (heldOf (f s))))) ∙ ap (λ (b : List ℕ). getD b 1 0) (body-part n f s h) in
+          length-at n f s h ∙ l s h ∙ ap bodyWords (sym (ap (λ (k : ℕ). getD p (k + 1) 0) (begins-at n f s (le-of-lt h)) ∙ w));
+      ends = begins-at n f n (le-refl n) ∙ sym (page-length n f);
+    }
+
+module _ (p : List ℕ) (g : GoodContents p) (s : ℕ) (h : s < bodiesIn p) where
+  body-given : length (bodyAt p s) ≡ lengthAt p s
+  body-given = body-sized p (g .room) (g .second) (g .gapless) (g .inside) (g .ends) s h
+
+  -- word i of body s
+  pub word-in : (i : ℕ) → i < headWords → getD (bodyAt p s) i 0 ≡ getD p (offsetAt p s + i) 0
+  unfolding bodyAt
+  word-in i k = getD-part (offsetAt p s) (lengthAt p s) i p (omega (arith, g .lengths s h, words-some (getD p (beginsAt p s + 1) 0)))
+
+  pub body-words : length (bodyAt p s) ≡ bodyWords (heldOf (bodyAt p s))
+  body-words =
+      body-given ∙ g .lengths s h
+      ∙ ap bodyWords (ap (λ (k : ℕ). getD p (k + 1) 0) (sym (g .gapless s h)) ∙ sym (word-in 1 (omega arith)))

@@ -1,0 +1,24 @@
+-- The laws of pages, each beside its kin.
+
+-- numbered pieces, one after the other
+pub mod JoinedLaws
+-- a record and its body
+pub mod BodyLaws
+-- the page of some bodies, and the table of some records
+pub mod LayoutLaws
+-- when contents are right
+pub mod ContentsLaws
+-- save and put back undo each other, and the tests accept exactly the pages that are saved
+pub mod Exact
+-- the same over words below 2^32
+pub mod WordsLaws
+-- how long a page is
+pub mod Bounds
+-- how saving goes: the bodies' lengths, and its refusals
+pub mod SaveLaws
+-- the held words of a record, laid into a page
+pub mod SqueezeLaws
+-- saving and putting back, one after the other
+pub mod RoundTrip
+-- two answers that meet a promise are equal
+pub mod Uniqueness

@@ -1,0 +1,91 @@
+-- The loop that lays the held words of a record's slots into a page. The idea: what is laid so far, with the slots of the bits that are left, is all held
+-- words (`Squeezing`); a turn lays the slot of the first of these bits.
+use mathlib.Core.Path.{_≡_, refl, sym, ap, _∙_}
+use mathlib.Core.Bool.{true, false}
+use mathlib.Core.Logic.{⊎-elim}
+use mathlib.Core.List.{List, [], _∷_, _++_, append-assoc, append-nil}
+use Prim.Native.Nat.{ℕ, zero, suc, _+_, _^_, _≤_, _<_}
+use native.Mathlib.Nat.{add-zero, lt-of-le-of-lt}
+use native.Mathlib.Omega.{arith}
+use lib.Bits.{bitAnd, and-le-r}
+use lib.ListN.{length}
+use lib.Seq.{sets}
+use Rattle.words.specs.Word.{has}
+use Rattle.words.specs.Part.{part, put}
+use Rattle.words.specs.SetBits.{bitsOf}
+use Rattle.words.specs.Laid.{Laid}
+use Rattle.words.proofs.LaidLaws.{then, laid-length, sets-put}
+use Rattle.words.proofs.PartLaws.{part-length}
+use Rattle.words.proofs.SetBitLaws.{bits-zero, bits-yes, bits-no, bits-trim, bits-none}
+use Rattle.words.proofs.Cases.{true-or-false}
+use Rattle.fields.specs.Sizes.{sizeOf, sizesOf}
+use Rattle.fields.proofs.SizeLaws.{sizes-more}
+use Rattle.record.specs.Held.{heldMask, holds, slotAt, inOrder}
+use Rattle.record.specs.Layout.{slotWords, slotIn}
+use Rattle.record.specs.After.{heldWords}
+use Rattle.record.proofs.SlotLaws.{in-order-none, in-order-more, held-small}
+use Rattle.record.proofs.HoldLaws.{slot-inside, within-holds}
+
+-- the bits of a list are those of held fields
+abbrev pub AllHeld : List ℕ → Type 0
+AllHeld [] = Unit
+AllHeld (b ∷ bs) = (holds b ≡ true) × AllHeld bs
+
+all-held : (k held : ℕ) → ((b : ℕ) → has held b ≡ true → holds b ≡ true) → AllHeld (bitsOf k held)
+all-held zero held w = rw (bits-zero held) tt
+all-held (suc k) held w =
+    ⊎-elim (λ (y : has held k ≡ true). rw (bits-yes k held y) (w k y, all-held k held w)) (λ (n : has held k ≡ false). rw (bits-no k held n) (all-held k held w)) (true-or-false (has held k))
+
+pub record Squeezing (held at : ℕ) (slots before after : List ℕ) (rest to : ℕ) : Type 0 where
+  pub done : List ℕ
+  pub laid : Laid before at done to after
+  pub left : done ++ inOrder (bitsOf 32 rest) (λ b. slotIn b slots) ≡ heldWords held slots
+  pub bits : AllHeld (bitsOf 32 rest)
+  pub fits : to + sizesOf (bitsOf 32 rest) ≡ at + sizesOf (bitsOf 31 held)
+
+pub squeezing-start : (held at : ℕ) (slots page : List ℕ) → bitAnd held heldMask ≡ held → Squeezing held at slots page page held at
+unfolding heldWords
+squeezing-start held at slots page w =
+    let h : held < 2 ^ 31 = rw w at (lt-of-le-of-lt (and-le-r held heldMask) held-small) in
+    record {
+      done = [];
+      laid = record { past = sym (add-zero at); kept = refl };
+      left = ap (λ (l : List ℕ). inOrder l (λ b. slotIn b slots)) (bits-trim 31 32 held (omega arith) h);
+      bits = all-held 32 held (within-holds held w);
+      fits = ap (λ (l : List ℕ). at + sizesOf l) (bits-trim 31 32 held (omega arith) h);
+    }
+
+module _ {held at rest to : ℕ} {slots before page : List ℕ} (p : Squeezing held at slots before page rest to) (b rest′ n : ℕ) (cut : bitsOf 32 rest ≡ b ∷ bitsOf 32 rest′) where
+  pub squeezing-holds : holds b ≡ true
+  squeezing-holds = (rw cut at (p .bits)) .0
+
+  pub squeezing-room : n ≡ sizeOf b → at + sizesOf (bitsOf 31 held) ≤ length before → to + n ≤ length page
+  squeezing-room e h = omega (arith, p .fits, ap sizesOf cut, sizes-more b (bitsOf 32 rest′), laid-length (p .laid))
+
+pub squeezing-turn : {held at rest to : ℕ} {slots before page : List ℕ} → Squeezing held at slots before page rest to
+    → (b rest′ n : ℕ) (page′ : List ℕ) → bitsOf 32 rest ≡ b ∷ bitsOf 32 rest′ → n ≡ sizeOf b → holds b ≡ true → length slots ≡ slotWords
+    → to + n ≤ length page → page′ ≡ put to n (part (slotAt b) n slots) page → Squeezing held at slots before page′ rest′ (to + n)
+unfolding slotIn
+squeezing-turn {held} {at} {rest} {to} {slots} {before} {page} p b rest′ n page′ cut e o l room q =
+    let f : ℕ → List ℕ = λ x. slotIn x slots in
+    let k : length (slotIn b slots) ≡ n = part-length (slotAt b) (sizeOf b) slots (omega (arith, slot-inside b o)) ∙ sym e in
+    let w : page′ ≡ sets page to (slotIn b slots) =
+    q ∙ ap (λ (m : ℕ). put to n (part (slotAt b) m slots) page) e
+    ∙ sym (sets-put page (slotIn b slots) to (omega arith) ∙ ap (λ (m : ℕ). put to m (slotIn b slots) page) k) in
+    record {
+      done = p .done ++ slotIn b slots;
+      laid = then (p .laid) (record { past = ap (λ (m : ℕ). to + m) (sym k); kept = w });
+      left =
+          append-assoc (p .done) (slotIn b slots) (inOrder (bitsOf 32 rest′) f)
+          ∙ ap (λ (z : List ℕ). p .done ++ z) (sym (ap (λ (z : List ℕ). inOrder z f) cut ∙ in-order-more b (bitsOf 32 rest′) f)) ∙ p .left;
+      bits = (rw cut at (p .bits)) .1;
+      fits = omega (arith, p .fits, ap sizesOf cut, sizes-more b (bitsOf 32 rest′));
+    }
+
+pub squeezing-end : {held at rest to : ℕ} {slots before page : List ℕ} → Squeezing held at slots before page rest to → rest ≡ 0
+    → Laid before at (heldWords held slots) to page
+squeezing-end {held} {at} {rest} {to} {slots} {before} {page} p z =
+    let f : ℕ → List ℕ = λ x. slotIn x slots in
+    let e : p .done ≡ heldWords held slots =
+    sym (append-nil (p .done)) ∙ ap (λ (y : List ℕ). p .done ++ y) (sym (ap (λ (y : List ℕ). inOrder y f) (bits-none 32 rest (omega arith)) ∙ in-order-none f)) ∙ p .left in
+    rw e at (p .laid)

@@ -1,0 +1,8 @@
+-- Numbered pieces, one after the other: the bodies of a page, the pairs of its contents, the records of a table.
+use Prim.Native.Nat.{ℕ, zero, suc}
+use mathlib.Core.List.{List, [], _++_}
+
+-- the pieces of numbers 0 to n - 1
+unfoldable pub joined : ℕ → (ℕ → List ℕ) → List ℕ
+joined zero f = []
+joined (suc n) f = joined n f ++ f n

@@ -1,0 +1,74 @@
+-- Document 01, 'The table and its page': "Page, contents first: word 0 is S; word 1 the page's length; then S pairs, offset from word 0 and length of each
+-- body, in list order without gaps; then bodies."
+use Prim.Native.Nat.{ℕ, zero, suc, _+_, _*_}
+use mathlib.Core.List.{List, [], _∷_, _++_}
+use lib.ListN.{length, getD}
+use Rattle.words.specs.Part.{part}
+use Rattle.table.specs.Layout.{streamsOf, recordAt}
+use Rattle.page.specs.Joined.{joined}
+use Rattle.page.specs.Body.{bodyOf, recordOf}
+
+-- ---- the page of n bodies
+
+-- the words before the bodies: S, the length, and the pairs
+abbrev pub contentsWords : ℕ → ℕ
+contentsWords n = 2 + 2 * n
+
+-- where body s begins: "without gaps", after the contents and the bodies before it
+unfoldable pub offsetOf : ℕ → (ℕ → List ℕ) → ℕ → ℕ
+offsetOf n body s = contentsWords n + length (joined s body)
+
+-- "offset from word 0 and length of each body"
+unfoldable pub pairOf : ℕ → (ℕ → List ℕ) → ℕ → List ℕ
+pairOf n body s = offsetOf n body s ∷ length (body s) ∷ []
+
+unfoldable pub pageFrom : ℕ → (ℕ → List ℕ) → List ℕ
+pageFrom n body = n ∷ offsetOf n body n ∷ (joined n (pairOf n body) ++ joined n body)
+
+-- ---- the page of a table
+
+-- the body of stream s
+unfoldable pub savedBody : List ℕ → ℕ → List ℕ
+savedBody t s = bodyOf (recordAt s t)
+
+unfoldable pub pageOf : List ℕ → List ℕ
+pageOf t = pageFrom (streamsOf t) (savedBody t)
+
+-- the page's length
+unfoldable pub pageLength : List ℕ → ℕ
+pageLength t = offsetOf (streamsOf t) (savedBody t) (streamsOf t)
+
+-- ---- what stands where in a page
+
+-- S
+abbrev pub bodiesIn : List ℕ → ℕ
+bodiesIn p = getD p 0 0
+
+-- the offset and the length that the contents give for body s
+abbrev pub offsetAt : List ℕ → ℕ → ℕ
+offsetAt p s = getD p (2 + 2 * s) 0
+
+abbrev pub lengthAt : List ℕ → ℕ → ℕ
+lengthAt p s = getD p (3 + 2 * s) 0
+
+-- where body s begins by the lengths before it: "in list order without gaps"
+unfoldable pub beginsAt : List ℕ → ℕ → ℕ
+beginsAt p zero = contentsWords (bodiesIn p)
+beginsAt p (suc s) = beginsAt p s + lengthAt p s
+
+-- body s
+unfoldable pub bodyAt : List ℕ → ℕ → List ℕ
+bodyAt p s = part (offsetAt p s) (lengthAt p s) p
+
+-- ---- the table of a page
+
+-- the record of stream s
+unfoldable pub savedRecord : List ℕ → ℕ → List ℕ
+savedRecord p s = recordOf (bodyAt p s)
+
+-- the layout of n records
+unfoldable pub tableFrom : ℕ → (ℕ → List ℕ) → List ℕ
+tableFrom n rec = n ∷ joined n rec
+
+unfoldable pub tableOf : List ℕ → List ℕ
+tableOf p = tableFrom (bodiesIn p) (savedRecord p)

@@ -1,0 +1,14 @@
+-- The page of a table, in reading order.
+
+-- lists of numbered pieces, one after the other
+pub mod Joined
+-- a stream's body in a page
+pub mod Body
+-- the page of a table, and what stands where in a page
+pub mod Layout
+-- when a page is well made
+pub mod Good
+-- what saving answers and leaves
+pub mod Save
+-- what putting back answers and leaves
+pub mod PutBack

@@ -1,0 +1,63 @@
+// The bodies of a page, one for each stream.
+ghost use mathlib.Core.Path.{_≡_};
+ghost use mathlib.Core.Bool.{true};
+ghost use Prim.Native.Nat.{_+_, _≤_};
+ghost use lib.Bits.{bitAnd};
+ghost use lib.ListN.{length};
+ghost use Rattle.words.specs.SetBits.{bitsOf};
+ghost use Rattle.words.specs.Laid.{Laid};
+ghost use Rattle.fields.specs.Sizes.{sizesOf};
+ghost use Rattle.record.specs.Held.{heldMask};
+ghost use Rattle.record.specs.Layout.{slotWords, recordWords};
+ghost use Rattle.record.specs.After.{heldWords};
+ghost use Rattle.table.specs.Well.{wellMade};
+ghost use Rattle.page.specs.Body.{bodyWords};
+ghost use Rattle.page.specs.Layout.{pageLength};
+
+// The length of a body, by its held indicator: the first words, and the words of each held field.
+pub fn body_words(held: u32) -> usize
+    ensures { λ r. ⌜ (r ≡ bodyWords held) × (r ≤ recordWords) ⌝ }
+{
+    let mut rest = held % 0x8000_0000;
+    let mut length = record::inner::HEAD_WORDS;
+    while rest != 0 {
+        let f = fields::inner::next_field(rest);
+        length += fields::inner::size_of(f.bit);
+        rest = f.rest;
+    }
+    length
+}
+
+// The length of the page of a well-made table: the contents, and each body.
+pub fn page_words(table: &[u32]) -> usize
+    requires { ⌜ wellMade (now table) ≡ true ⌝ }
+    ensures { λ r. ⌜ (r ≡ pageLength (now (table .entry))) × (r ≤ 2882) ⌝ }
+{
+    let n = table::inner::streams(table);
+    let mut length = 2 + 2 * n;
+    let mut s = 0;
+    while s < n {
+        let at = 1 + record::inner::RECORD_WORDS * s;
+        length += body_words(table[at + 1]);
+        s += 1;
+    }
+    length
+}
+
+// The held words of a record's slots, in field order, into a page from a place on. Gives the place past them.
+fn squeeze(page: &mut [u32], at: usize, held: u32, slots: &[u32]) -> usize
+    requires { ⌜ (length (now slots) ≡ slotWords) × (bitAnd held heldMask ≡ held) × (at + sizesOf (bitsOf 31 held) ≤ length (now page)) ⌝ }
+    ensures { λ r. ⌜ Laid (now (page .entry)) at (heldWords held (now (slots .entry))) r (now (page .exit)) ⌝ }
+{
+    let mut rest = held;
+    let mut to = at;
+    while rest != 0 {
+        let f = fields::inner::next_field(rest);
+        let n = fields::inner::size_of(f.bit);
+        let from = record::inner::slot_at(f.bit);
+        words::inner::copy_part(page, to, slots, from, n);
+        to += n;
+        rest = f.rest;
+    }
+    to
+}

@@ -1,0 +1,31 @@
+// The page of a table: save and put back.
+mod bodies;
+
+ghost use mathlib.Core.Path.{_≡_};
+ghost use Rattle.page.specs.Save.{lengthOf, paper};
+
+// What saving answers: the page's length in words, or the number of the refusal.
+pub enum Saved {
+    Accepted(usize),
+    Refused(u32),
+}
+
+// What putting back answers: the layout's length in words, or the number of the refusal.
+pub enum PutBack {
+    Accepted(usize),
+    Refused(u32),
+}
+
+// The length of the page of a table, for a caller who must make room: TABLE where the table is not well made; SIZE where the page exceeds 65,535 words.
+pub fn page_length(table: &[u32]) -> Saved
+    ensures { λ r. ⌜ paper r ≡ lengthOf (now (table .entry)) ⌝ }
+{
+    if !table::well_made(table) {
+        return Saved::Refused(words::TABLE);
+    }
+    let length = bodies::page_words(table);
+    if 65535 < length {
+        return Saved::Refused(words::SIZE);
+    }
+    Saved::Accepted(length)
+}
