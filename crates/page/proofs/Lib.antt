@@ -14,6 +14,8 @@ pub mod Exact
 pub mod WordsLaws
 -- how long a page is
 pub mod Bounds
+-- pieces that are written one after the other
+pub mod WriteLaws
 -- how saving goes: the bodies' lengths, and its refusals
 pub mod SaveLaws
 -- the held words of a record, laid into a page

@@ -1,26 +1,43 @@
--- How saving goes. The idea: after s streams the length is the offset of body s (`Summing`), and a body's length is that of the held indicator in its record.
-use mathlib.Core.Path.{_≡_, sym, ap, _∙_}
-use mathlib.Core.Bool.{true, false}
-use mathlib.Core.List.{List}
-use Prim.Native.Nat.{ℕ, _+_, _*_, _≤_, _<_}
+-- How saving goes. The idea: after s streams the length is the offset of body s (`Summing`), and a body's length is that of the held indicator in its record;
+-- the pairs and the bodies are pieces laid one after the other (`Pairing`, `Laying`).
+use mathlib.Core.Path.{_≡_, refl, sym, ap, ap₂, _∙_}
+use mathlib.Core.Bool.{Bool, true, false, not}
+use mathlib.Core.List.{List, [], _∷_, _++_}
+use Prim.Native.Nat.{ℕ, _+_, _-_, _*_, _≤_, _<_}
 use native.Mathlib.Numerals.{add-one}
 use native.Mathlib.Omega.{arith}
-use borrow.Author.Tests.{lt-ltb, le-ltb}
-use lib.ListN.{length, getD}
-use Rattle.words.specs.Numbers.{TABLE, SIZE}
-use Rattle.words.specs.Outcome.{refused, accepted}
-use Rattle.words.proofs.PartLaws.{getD-part}
-use Rattle.record.specs.Layout.{recordWords}
+use borrow.Author.Tests.{lt-ltb, le-ltb, not-false}
+use lib.Bits.{bitAnd}
+use lib.Dec.{ltb}
+use lib.ListN.{length, getD, take, drop, set}
+use Rattle.words.specs.Numbers.{TABLE, SIZE, ROOM}
+use Rattle.words.specs.Tests.{pick}
+use Rattle.words.specs.Outcome.{Outcome, refused, accepted, numberOf, Done, saidOf, leftOf, Meets}
+use Rattle.words.specs.Part.{part, put}
+use Rattle.words.specs.SetBits.{bitsOf}
+use Rattle.words.specs.Laid.{Laid}
+use Rattle.words.proofs.Cases.{passed, accepted-same}
+use Rattle.words.proofs.LaidLaws.{then, laid-length}
+use Rattle.words.proofs.PartLaws.{seen, getD-part, part-length}
+use Rattle.fields.specs.Sizes.{sizesOf}
+use Rattle.record.specs.Held.{heldMask}
+use Rattle.record.specs.Layout.{headWords, slotWords, recordWords, heldOf, slotsOf}
+use Rattle.record.specs.After.{heldWords}
+use Rattle.record.specs.Good.{recordGood}
 use Rattle.table.specs.Layout.{streamsOf, base, recordAt}
 use Rattle.table.specs.Well.{wellMade}
 use Rattle.table.proofs.RecordLaws as Records
 use Rattle.table.proofs.WellLaws.{layout-has, well-whole, well-record}
-use Rattle.page.specs.Body.{bodyWords}
-use Rattle.page.specs.Layout.{offsetOf, savedBody, pageLength}
-use Rattle.page.specs.Save.{lengthOf}
-use Rattle.page.proofs.BodyLaws.{body-length}
+use Rattle.page.specs.Joined.{joined}
+use Rattle.page.specs.Body.{bodyOf, bodyWords}
+use Rattle.page.specs.Layout.{contentsWords, offsetOf, pairOf, pageFrom, savedBody, pageOf, pageLength}
+use Rattle.page.specs.Save.{lengthOf, saveOf, paper}
+use Rattle.page.specs.declared.Saved.{Saved}
+use Rattle.page.specs.declared.Saved.the-variants.{Accepted, Refused}
+use Rattle.page.proofs.BodyLaws.{good-within, body-length}
 use Rattle.page.proofs.LayoutLaws.{offset-first, offset-next, offset-inside}
-use Rattle.page.proofs.Bounds.{page-small}
+use Rattle.page.proofs.Bounds.{page-between, page-small, page-whole}
+use Rattle.page.proofs.WriteLaws.{laid-part, laid-two, laid-none, laid-next, laid-front}
 
 -- ---- the loop that adds the bodies' lengths
 
@@ -63,6 +80,114 @@ module _ (t : List ℕ) (w : wellMade t ≡ true) where
       let q : total ≡ pageLength t = p .sum ∙ ap (offsetOf (streamsOf t) (savedBody t)) i in
       (q, omega (arith, page-small t w))
 
+-- ---- a body
+
+-- what `write_body` asks, and what its two writers leave
+module _ (r page : List ℕ) (at : ℕ) (l : length r ≡ recordWords) (g : recordGood r ≡ true) (h : at + length (bodyOf r) ≤ length page) where
+  pub body-room : at + bodyWords (heldOf r) ≤ length page
+  body-room = omega (arith, h, body-length r l g)
+
+  pub head-room : at + headWords ≤ length page
+  unfolding bodyWords
+  head-room = omega (arith, body-room)
+
+  head-laid : (page′ : List ℕ) → page′ ≡ put at headWords (part 0 headWords r) page → Laid page at (part 0 headWords r) (at + headWords) page′
+  head-laid page′ e = laid-part page (part 0 headWords r) page′ at headWords (part-length 0 headWords r (omega arith)) head-room e
+
+  slots-seen : take (recordWords - headWords) (drop headWords r) ≡ slotsOf r
+  unfolding slotsOf
+  slots-seen = seen headWords recordWords slotWords r refl
+
+  pub squeeze-asks : (page′ : List ℕ) → page′ ≡ put at headWords (part 0 headWords r) page
+      → (length (take (recordWords - headWords) (drop headWords r)) ≡ slotWords) × (bitAnd (heldOf r) heldMask ≡ heldOf r) × (at + headWords + sizesOf (bitsOf 31 (heldOf r)) ≤ length page′)
+  unfolding slotsOf bodyWords
+  squeeze-asks page′ e =
+      (ap length slots-seen ∙ part-length headWords slotWords r (omega arith), good-within r g, omega (arith, body-room, laid-length (head-laid page′ e)))
+
+  pub body-laid : (page′ page″ : List ℕ) (to : ℕ) → page′ ≡ put at headWords (part 0 headWords r) page
+      → Laid page′ (at + headWords) (heldWords (heldOf r) (take (recordWords - headWords) (drop headWords r))) to page″ → Laid page at (bodyOf r) to page″
+  unfolding bodyOf
+  body-laid page′ page″ to e p = then (head-laid page′ e) (rw slots-seen at p)
+
+-- ---- the loop that writes the pairs
+
+pub record Pairing (t before after : List ℕ) (n s at : ℕ) : Type 0 where
+  pub sums : Summing t n s at
+  pub laid : Laid before 2 (joined s (pairOf (streamsOf t) (savedBody t))) (2 + 2 * s) after
+
+-- ---- the loop that writes the bodies
+
+pub record Laying (t before after : List ℕ) (n s at : ℕ) : Type 0 where
+  pub most : s ≤ n
+  pub laid : Laid before (contentsWords (streamsOf t)) (joined s (savedBody t)) at after
+
+module _ (t before : List ℕ) (w : wellMade t ≡ true) (h : pageLength t ≤ length before) where
+  pub pairing-start : (n : ℕ) → n ≡ streamsOf t → Pairing t before before n 0 (2 + 2 * n)
+  pairing-start n e = record { sums = summing-start t w n e; laid = laid-none before 2 (pairOf (streamsOf t) (savedBody t)) }
+
+  module _ (after : List ℕ) (n s at : ℕ) (e : n ≡ streamsOf t) (p : Pairing t before after n s at) (g : s < n) where
+    pub pairing-room : 3 + 2 * s < length after
+    pairing-room = omega (arith, laid-length (p .laid), page-between t w .0)
+
+    pub pairing-turn : (k : ℕ) → k ≡ bodyWords (getD t (base s + 1) 0)
+        → Pairing t before (set (set after (2 + 2 * s) at) (3 + 2 * s) k) n (s + 1) (at + k)
+    unfolding pairOf
+    pairing-turn k l =
+        let i : 2 + 2 * s + 1 ≡ 3 + 2 * s = omega arith in
+        let j : 2 + 2 * s + 2 ≡ 2 + 2 * (s + 1) = omega arith in
+        let pair : (at ∷ k ∷ []) ≡ pairOf (streamsOf t) (savedBody t) s =
+        ap₂ (λ (x y : ℕ). x ∷ y ∷ []) (p .sums .sum) (l ∙ sym (held-length t w s (omega arith))) in
+        record {
+          sums = summing-turn t w n s at k e (p .sums) g l;
+          laid = laid-next s (pairOf (streamsOf t) (savedBody t)) (p .laid) (rw (i, j, pair) at (laid-two after (2 + 2 * s) at k));
+        }
+
+  pub pairing-end : (after : List ℕ) (n s at : ℕ) → n ≡ streamsOf t → Pairing t before after n s at → n ≤ s
+      → Laid before 2 (joined (streamsOf t) (pairOf (streamsOf t) (savedBody t))) (contentsWords (streamsOf t)) after
+  pairing-end after n s at e p g = let i : s ≡ streamsOf t = omega (arith, p .sums .most) in rw i at (p .laid)
+
+  pub laying-start : (n : ℕ) → n ≡ streamsOf t → Laying t before before n 0 (2 + 2 * n)
+  laying-start n e = record { most = omega arith; laid = rw e (laid-none before (contentsWords (streamsOf t)) (savedBody t)) }
+
+  module _ (after : List ℕ) (n s at : ℕ) (e : n ≡ streamsOf t) (p : Laying t before after n s at) (g : s < n) where
+    record-seen : take (base s + recordWords - base s) (drop (base s) t) ≡ recordAt s t
+    unfolding recordAt
+    record-seen = seen (base s) (base s + recordWords) recordWords t refl
+
+    pub laying-asks : (length (take (base s + recordWords - base s) (drop (base s) t)) ≡ recordWords)
+        × (recordGood (take (base s + recordWords - base s) (drop (base s) t)) ≡ true)
+        × (at + length (bodyOf (take (base s + recordWords - base s) (drop (base s) t))) ≤ length after)
+    unfolding savedBody pageLength offsetOf
+    laying-asks =
+        let i : s < streamsOf t = omega arith in
+        rw record-seen (
+          Records.record-length s t (layout-has t s (well-whole t w) i),
+          well-record t w s i,
+          omega (arith, h, p .laid .past, laid-length (p .laid), offset-inside (streamsOf t) (savedBody t) s i),
+        )
+
+    pub laying-turn : (after′ : List ℕ) (to : ℕ) → Laid after at (bodyOf (take (base s + recordWords - base s) (drop (base s) t))) to after′ → Laying t before after′ n (s + 1) to
+    unfolding savedBody
+    laying-turn after′ to q = record { most = omega arith; laid = laid-next s (savedBody t) (p .laid) (rw record-seen at q) }
+
+  pub laying-end : (after : List ℕ) (n s at : ℕ) → n ≡ streamsOf t → Laying t before after n s at → n ≤ s
+      → Laid before (contentsWords (streamsOf t)) (joined (streamsOf t) (savedBody t)) (pageLength t) after
+  unfolding pageLength offsetOf
+  laying-end after n s at e p g =
+      let i : s ≡ streamsOf t = omega (arith, p .most) in
+      let q : Laid before (contentsWords (streamsOf t)) (joined (streamsOf t) (savedBody t)) at after = rw i at (p .laid) in
+      rw (q .past) at q
+
+  -- S, the length, the pairs and the bodies are the page
+  pub page-laid : (n size : ℕ) (pairs after : List ℕ) → n ≡ streamsOf t → size ≡ pageLength t
+      → Laid (set (set before 0 n) 1 size) 2 (joined (streamsOf t) (pairOf (streamsOf t) (savedBody t))) (contentsWords (streamsOf t)) pairs
+      → Laid pairs (contentsWords (streamsOf t)) (joined (streamsOf t) (savedBody t)) (pageLength t) after → after ≡ pageOf t ++ drop (pageLength t) before
+  unfolding pageOf pageFrom pageLength
+  page-laid n size pairs after e f p q =
+      let l = page-whole t w in
+      let first : Laid before 0 (streamsOf t ∷ pageLength t ∷ []) 2 (set (set before 0 n) 1 size) = rw (e, f) (laid-two before 0 (streamsOf t) (pageLength t)) in
+      rw l at (laid-front (then (then first p) q) (omega (arith, h, l)))
+
 -- ---- the answers of the length
 
 pub length-ill : (t : List ℕ) → wellMade t ≡ false → refused TABLE ≡ lengthOf t
@@ -76,3 +201,43 @@ length-over t n w e h = rw (w, ← e, lt-ltb 65535 n h)
 pub length-fine : (t : List ℕ) (n : ℕ) → wellMade t ≡ true → n ≡ pageLength t → n ≤ 65535 → accepted n ≡ lengthOf t
 unfolding lengthOf
 length-fine t n w e h = rw (w, ← e, le-ltb 65535 n h)
+
+-- an accepted length
+pub length-well : (t : List ℕ) (n : ℕ) → lengthOf t ≡ accepted n → (wellMade t ≡ true) × (n ≡ pageLength t)
+unfolding lengthOf
+length-well t n e =
+    let a = passed (not (wellMade t)) _ _ n e in
+    let b = passed (ltb 65535 (pageLength t)) _ _ n (a .1) in
+    (not-false _ (a .0), sym (accepted-same (b .1)))
+
+-- ---- the answers of saving
+
+-- what the length refuses, saving refuses
+refused-alike : (ill over : Bool) (x n : ℕ) (rest : Outcome (Done ℕ (List ℕ))) → refused n ≡ pick ill (refused TABLE) (pick over (refused SIZE) (accepted x))
+    → refused n ≡ pick ill (refused TABLE) (pick over (refused SIZE) rest)
+refused-alike true over x n rest e = ap (λ (o : Outcome ℕ). refused (numberOf o)) e
+refused-alike false true x n rest e = ap (λ (o : Outcome ℕ). refused (numberOf o)) e
+refused-alike false false x n rest e = let z : _≡_ {A = ℕ} 0 1 = cc in absurd (omega arith)
+
+pub save-refused : (t page : List ℕ) (r : Saved) (n : ℕ) → r ≡ Refused n → paper r ≡ lengthOf t → Meets paper (saveOf t page) page r page
+unfolding lengthOf saveOf
+save-refused t page r n k e =
+    let f : refused n ≡ saveOf t page = refused-alike (not (wellMade t)) (ltb 65535 (pageLength t)) (pageLength t) n _ (sym (ap paper k) ∙ e) in
+    record { answer = ap paper k ∙ ap saidOf f; buffer = ap (λ (o : Outcome (Done ℕ (List ℕ))). leftOf o page) f }
+
+module _ (t page : List ℕ) (n : ℕ) (e : accepted n ≡ lengthOf t) where
+  pub save-short : length page < n → Meets paper (saveOf t page) page (Refused ROOM) page
+  unfolding saveOf
+  save-short h =
+      let a = length-well t n (sym e) in
+      let l : length page < pageLength t = omega (arith, a .1) in
+      let o : ltb 65535 (pageLength t) ≡ false = le-ltb 65535 (pageLength t) (omega (arith, page-small t (a .0))) in
+      record { answer = rw (a .0, o, lt-ltb (length page) (pageLength t) l); buffer = rw (a .0, o, lt-ltb (length page) (pageLength t) l) }
+
+  pub save-made : (after : List ℕ) → n ≤ length page → after ≡ pageOf t ++ drop (pageLength t) page → Meets paper (saveOf t page) page (Accepted n) after
+  unfolding saveOf
+  save-made after h l =
+      let a = length-well t n (sym e) in
+      let o : ltb 65535 (pageLength t) ≡ false = le-ltb 65535 (pageLength t) (omega (arith, page-small t (a .0))) in
+      let r : ltb (length page) (pageLength t) ≡ false = le-ltb (length page) (pageLength t) (omega (arith, a .1)) in
+      record { answer = rw (a .0, o, r, a .1); buffer = rw (a .0, o, r) l }

@@ -10,8 +10,9 @@ ghost use Rattle.fields.specs.Sizes.{sizesOf};
 ghost use Rattle.record.specs.Held.{heldMask};
 ghost use Rattle.record.specs.Layout.{slotWords, recordWords};
 ghost use Rattle.record.specs.After.{heldWords};
+ghost use Rattle.record.specs.Good.{recordGood};
 ghost use Rattle.table.specs.Well.{wellMade};
-ghost use Rattle.page.specs.Body.{bodyWords};
+ghost use Rattle.page.specs.Body.{bodyOf, bodyWords};
 ghost use Rattle.page.specs.Layout.{pageLength};
 
 // The length of a body, by its held indicator: the first words, and the words of each held field.
@@ -60,4 +61,18 @@ fn squeeze(page: &mut [u32], at: usize, held: u32, slots: &[u32]) -> usize
         rest = f.rest;
     }
     to
+}
+
+// The body of a good record, into a page from a place on: the record's first words, and then the held words. Gives the place past it.
+pub fn write_body(page: &mut [u32], at: usize, rec: &[u32]) -> usize
+    requires { ⌜ (length (now rec) ≡ recordWords) × (recordGood (now rec) ≡ true) × (at + length (bodyOf (now rec)) ≤ length (now page)) ⌝ }
+    ensures { λ r. ⌜ Laid (now (page .entry)) at (bodyOf (now (rec .entry))) r (now (page .exit)) ⌝ }
+{
+    words::inner::copy_part(page, at, rec, 0, record::inner::HEAD_WORDS);
+    squeeze(
+        page,
+        at + record::inner::HEAD_WORDS,
+        rec[1],
+        &rec[record::inner::HEAD_WORDS..record::inner::RECORD_WORDS],
+    )
 }

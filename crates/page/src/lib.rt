@@ -1,8 +1,10 @@
 // The page of a table: save and put back.
 mod bodies;
+mod saving;
 
 ghost use mathlib.Core.Path.{_≡_};
-ghost use Rattle.page.specs.Save.{lengthOf, paper};
+ghost use Rattle.words.specs.Outcome.{Meets};
+ghost use Rattle.page.specs.Save.{lengthOf, saveOf, paper};
 
 // What saving answers: the page's length in words, or the number of the refusal.
 pub enum Saved {
@@ -27,5 +29,21 @@ pub fn page_length(table: &[u32]) -> Saved
     if 65535 < length {
         return Saved::Refused(words::SIZE);
     }
+    Saved::Accepted(length)
+}
+
+// Saves a table: writes its page into the front of a buffer, and answers the page's length. TABLE and SIZE as `page_length` has them; ROOM where the buffer is
+// shorter than the page. A refusal changes nothing; words past the page stay.
+pub fn save(table: &[u32], page: &mut [u32]) -> Saved
+    ensures { λ r. ⌜ Meets paper (saveOf (now (table .entry)) (now (page .entry))) (now (page .entry)) r (now (page .exit)) ⌝ }
+{
+    let measured = page_length(table);
+    let Saved::Accepted(length) = measured else {
+        return measured;
+    };
+    if page.len() < length {
+        return Saved::Refused(words::ROOM);
+    }
+    saving::write_page(page, table, length);
     Saved::Accepted(length)
 }

@@ -6,6 +6,7 @@ mod held;
 
 pub use after::hear;
 pub use good::record_good;
+pub use held::HELD;
 pub use held::refill;
 pub use held::slot_at;
 

@@ -1,4 +1,5 @@
 // What the crates above use of a table.
+pub use crate::identifiers::list_good;
 ghost use mathlib.Core.Path.{_≡_};
 ghost use Prim.Native.Nat.{_^_, _≤_, _<_};
 ghost use lib.ListN.{length};

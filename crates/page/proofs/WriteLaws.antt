@@ -1,0 +1,47 @@
+-- Pieces that are written one after the other. The idea: what is written so far is the pieces joined (`laid-next`), so pairs, bodies and records are laid by one
+-- law; and words laid from the front on are followed by what stood there (`laid-front`).
+use mathlib.Core.Path.{_≡_, refl, sym, ap, _∙_}
+use mathlib.Core.List.{List, [], _∷_, _++_}
+use Prim.Native.Nat.{ℕ, _+_, _≤_}
+use native.Mathlib.Nat.{add-zero, zero-add}
+use native.Mathlib.Numerals.{add-one}
+use native.Mathlib.Omega.{arith}
+use lib.ListN.{length, drop, set}
+use lib.Seq.{sets, sets-eq}
+use Rattle.words.specs.Part.{put}
+use Rattle.words.specs.Laid.{Laid}
+use Rattle.words.proofs.LaidLaws.{then, sets-put}
+use Rattle.page.specs.Joined.{joined}
+use Rattle.page.proofs.JoinedLaws.{joined-none, joined-more}
+
+-- ---- one piece
+
+-- a part that is replaced
+pub laid-part : (before ws after : List ℕ) (at n : ℕ) → length ws ≡ n → at + n ≤ length before → after ≡ put at n ws before → Laid before at ws (at + n) after
+laid-part before ws after at n l h e = record {
+  past = ap (λ (m : ℕ). at + m) (sym l);
+  kept = e ∙ ap (λ (m : ℕ). put at m ws before) (sym l) ∙ sym (sets-put before ws at (omega arith));
+}
+
+-- two words
+pub laid-two : (before : List ℕ) (at a b : ℕ) → Laid before at (a ∷ b ∷ []) (at + 2) (set (set before at a) (at + 1) b)
+laid-two before at a b = record { past = refl; kept = ap (λ (i : ℕ). set (set before at a) i b) (add-one at) }
+
+-- ---- pieces joined
+
+pub laid-none : (before : List ℕ) (at : ℕ) (f : ℕ → List ℕ) → Laid before at (joined 0 f) at before
+laid-none before at f = record {
+  past = sym (ap (λ (l : List ℕ). at + length l) (joined-none f) ∙ add-zero at);
+  kept = sym (ap (sets before at) (joined-none f));
+}
+
+pub laid-next : {before after after′ : List ℕ} {at to to′ : ℕ} (s : ℕ) (f : ℕ → List ℕ)
+    → Laid before at (joined s f) to after → Laid after to (f s) to′ after′ → Laid before at (joined (s + 1) f) to′ after′
+laid-next {before} {after} {after′} {at} {to} {to′} s f p q =
+    let e : joined s f ++ f s ≡ joined (s + 1) f = sym (ap (λ (n : ℕ). joined n f) (add-one s) ∙ joined-more s f) in
+    rw e at (then p q)
+
+-- ---- from the front on
+
+pub laid-front : {before ws after : List ℕ} {to : ℕ} → Laid before 0 ws to after → length ws ≤ length before → after ≡ ws ++ drop (length ws) before
+laid-front {before} {ws} {after} {to} p h = rw (zero-add (length ws)) at (p .kept ∙ sets-eq ws before 0 (omega arith))

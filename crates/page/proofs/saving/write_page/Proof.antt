@@ -1,0 +1,51 @@
+-- `write_page` meets its promise: S, the size, the pairs and the bodies are laid one after the other, and `page-laid` says that they are the page.
+use mathlib.Core.Path.{_∙_}
+use native.Mathlib.Omega.{arith}
+use lib.ListN.{length-set}
+use Rattle.words.proofs.LaidLaws.{laid-length}
+use Rattle.page.proofs.Bounds.{page-between, page-small}
+use Rattle.page.proofs.SaveLaws.{page-laid}
+use borrow.Author.Needs.{needs}
+use Rattle.page.proofs.saving.write_page.Statement.{statement}
+use Rattle.page.proofs.saving.write_page.Tie as tie
+
+streams-requires : tie.Need-streams-requires
+streams-requires c κs = search needs
+
+cast-page : tie.Need-cast-page
+cast-page c = search needs
+
+slice-write-page : tie.Need-slice-write-page
+slice-write-page c = omega (arith, page-between _ (c .before .before .before .pre .0) .0, c .before .before .before .pre .1, c .before .before .before .pre .2)
+
+cast-page-2 : tie.Need-cast-page-2
+cast-page-2 c = omega (arith, page-small _ (c .before .before .before .pre .0), c .before .before .before .pre .1)
+
+slice-write-page-2 : tie.Need-slice-write-page-2
+slice-write-page-2 c = simp length-set (omega (arith, page-between _ (c .before .before .before .pre .0) .0, c .before .before .before .pre .1, c .before .before .before .pre .2))
+
+write-pairs-requires : tie.Need-write-pairs-requires
+write-pairs-requires c κs = (c .before .before .before .before .pre .0, simp length-set (omega (arith, c .before .before .before .before .pre .1, c .before .before .before .before .pre .2)))
+
+write-bodies-requires : tie.Need-write-bodies-requires
+write-bodies-requires c κs = let b = c .before .before .before .before .before .before .before .before in (b .pre .0, simp (laid-length (c .before .before .before .write-pairs .ensures), length-set) (omega (arith, b .pre .1, b .pre .2)))
+
+same-length : tie.Need-same-length
+same-length c = laid-length (c .before .before .write-bodies .ensures) ∙ laid-length (c .before .before .before .before .before .before .write-pairs .ensures) ∙ simp length-set
+
+returns : tie.Need-returns
+returns c = let b = c .before .before .before .before .before .before .before .before .before .before .before in page-laid _ _ (b .pre .0) (omega (arith, b .pre .1, b .pre .2)) _ _ _ _ (c .before .before .before .before .before .before .before .before .streams .ensures .0) (b .pre .1) (c .before .before .before .before .before .before .write-pairs .ensures) (c .before .before .write-bodies .ensures)
+
+pub write-page-spec : {M : Type 1} → statement M
+write-page-spec =
+    tie.close
+    (tie.spec
+    streams-requires
+    cast-page
+    slice-write-page
+    cast-page-2
+    slice-write-page-2
+    write-pairs-requires
+    write-bodies-requires
+    same-length
+    returns)

@@ -1,0 +1,56 @@
+// The page of a table, written: the contents, and then the bodies.
+ghost use mathlib.Core.Path.{_≡_};
+ghost use mathlib.Core.Bool.{true};
+ghost use mathlib.Core.List.{_++_};
+ghost use Prim.Native.Nat.{_≤_};
+ghost use lib.ListN.{length, drop};
+ghost use Rattle.words.specs.Laid.{Laid};
+ghost use Rattle.table.specs.Layout.{streamsOf};
+ghost use Rattle.table.specs.Well.{wellMade};
+ghost use Rattle.page.specs.Joined.{joined};
+ghost use Rattle.page.specs.Layout.{contentsWords, pairOf, savedBody, pageOf, pageLength};
+
+// The pairs of the contents: offset and length of each body, in list order without gaps.
+fn write_pairs(page: &mut [u32], table: &[u32])
+    requires { ⌜ (wellMade (now table) ≡ true) × (pageLength (now table) ≤ length (now page)) ⌝ }
+    ensures { λ _. ⌜ Laid (now (page .entry)) 2 (joined (streamsOf (now (table .entry))) (pairOf (streamsOf (now (table .entry))) (savedBody (now (table .entry))))) (contentsWords (streamsOf (now (table .entry)))) (now (page .exit)) ⌝ }
+{
+    let n = table::inner::streams(table);
+    let mut at = 2 + 2 * n;
+    let mut s = 0;
+    while s < n {
+        let held = table[1 + record::inner::RECORD_WORDS * s + 1];
+        let length = crate::bodies::body_words(held);
+        page[2 + 2 * s] = at as u32;
+        page[3 + 2 * s] = length as u32;
+        at += length;
+        s += 1;
+    }
+}
+
+// The bodies, one for each stream, behind the contents.
+fn write_bodies(page: &mut [u32], table: &[u32])
+    requires { ⌜ (wellMade (now table) ≡ true) × (pageLength (now table) ≤ length (now page)) ⌝ }
+    ensures { λ _. ⌜ Laid (now (page .entry)) (contentsWords (streamsOf (now (table .entry)))) (joined (streamsOf (now (table .entry))) (savedBody (now (table .entry)))) (pageLength (now (table .entry))) (now (page .exit)) ⌝ }
+{
+    let n = table::inner::streams(table);
+    let mut at = 2 + 2 * n;
+    let mut s = 0;
+    while s < n {
+        let from = 1 + record::inner::RECORD_WORDS * s;
+        let end = from + record::inner::RECORD_WORDS;
+        at = crate::bodies::write_body(page, at, &table[from..end]);
+        s += 1;
+    }
+}
+
+// The page of a well-made table, its size being known: S, the size, the pairs and the bodies. Words past the page stay.
+pub fn write_page(page: &mut [u32], table: &[u32], size: usize)
+    requires { ⌜ (wellMade (now table) ≡ true) × (size ≡ pageLength (now table)) × (size ≤ length (now page)) ⌝ }
+    ensures { λ _. ⌜ now (page .exit) ≡ pageOf (now (table .entry)) ++ drop (pageLength (now (table .entry))) (now (page .entry)) ⌝ }
+{
+    page[0] = table::inner::streams(table) as u32;
+    page[1] = size as u32;
+    write_pairs(page, table);
+    write_bodies(page, table);
+}
