@@ -22,8 +22,25 @@ use Rattle.page.proofs.LayoutLaws.{offset-inside, page-length, body-par
 
 -- ---- the test as facts
 
+pub record GoodPair (p : List ℕ) (s : ℕ) : Type 0 where
+  pub gapless : offsetAt p s ≡ beginsAt p s
+  pub inside : beginsAt p s + lengthAt p s ≤ length p
+  pub lengths : lengthAt p s ≡ bodyWords (getD p (beginsAt p s + 1) 0)
+
+pub pair-of : (p : List ℕ) (s : ℕ) → pairGood p s ≡ true → GoodPair p s
+unfolding pairGood
+pair-of p s e =
+    let here : Bool = eqb (offsetAt p s) (beginsAt p s) in
+    let inside : Bool = leb (beginsAt p s + lengthAt p s) (length p) in
+    let rest = both-right here _ e in
+    record {
+      gapless = eqb-true (offsetAt p s) (beginsAt p s) (both-left here _ e);
+      inside = leb-true (beginsAt p s + lengthAt p s) (length p) (both-left inside _ rest);
+      lengths = eqb-true (lengthAt p s) _ (both-right inside _ rest);
+    }
+
 pub contents-of : (p : List ℕ) → contentsGood p ≡ true → GoodContents p
-unfolding contentsGood pairGood
+unfolding contentsGood
 contents-of p e =
     let n : ℕ = bodiesIn p in
     let pairs : Bool = all n (pairGood p) in
@@ -33,18 +50,14 @@ contents-of p e =
     let a = both-right (leb n 32) (both room (both second (both pairs ends))) e in
     let b = both-right room (both second (both pairs ends)) a in
     let c = both-right second (both pairs ends) b in
-    let pair : (s : ℕ) → s < n → pairGood p s ≡ true = λ s h. all-at (pairGood p) n s h (both-left pairs ends c) in
+    let pair : (s : ℕ) → s < n → GoodPair p s = λ s h. pair-of p s (all-at (pairGood p) n s h (both-left pairs ends c)) in
     record {
       few = leb-true n 32 (both-left (leb n 32) (both room (both second (both pairs ends))) e);
       room = leb-true (contentsWords n) (length p) (both-left room (both second (both pairs ends)) a);
       second = eqb-true (getD p 1 0) (length p) (both-left second (both pairs ends) b);
-      gapless = λ s h. eqb-true (offsetAt p s) (beginsAt p s) (both-left (eqb (offsetAt p s) (beginsAt p s)) _ (pair s h));
-      inside = λ s h.
-          leb-true (beginsAt p s + lengthAt p s) (length p)
-          (both-left (leb (beginsAt p s + lengthAt p s) (length p)) _ (both-right (eqb (offsetAt p s) (beginsAt p s)) _ (pair s h)));
-      lengths = λ s h.
-          eqb-true (lengthAt p s) _
-          (both-right (leb (beginsAt p s + lengthAt p s) (length p)) _ (both-right (eqb (offsetAt p s) (beginsAt p s)) _ (pair s h)));
+      gapless = λ s h. pair s h .gapless;
+      inside = λ s h. pair s h .inside;
+      lengths = λ s h. pair s h .lengths;
       ends = eqb-true (beginsAt p n) (length p) (both-right pairs ends c);
     }
 

@@ -80,9 +80,12 @@ module _ (p : List ℕ) (e : pageOk p ≡ true) where
   abbrev list : Bool
   list = listGood (bodiesIn p) (identifierAt p)
 
-  pub ok-contents : GoodContents p
+  pub ok-tested : contentsGood p ≡ true
   unfolding pageOk
-  ok-contents = contents-of p (both-left (contentsGood p) (both list records) e)
+  ok-tested = both-left (contentsGood p) (both list records) e
+
+  pub ok-contents : GoodContents p
+  ok-contents = contents-of p ok-tested
 
   pub ok-list : listGood (bodiesIn p) (identifierAt p) ≡ true
   unfolding pageOk

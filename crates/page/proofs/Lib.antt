@@ -20,6 +20,10 @@ pub mod WriteLaws
 pub mod SaveLaws
 -- the held words of a record, laid into a page
 pub mod SqueezeLaws
+-- how a program tests a page
+pub mod GoodLaws
+-- how putting back goes: a body's record, and the records behind S
+pub mod PutLaws
 -- saving and putting back, one after the other
 pub mod RoundTrip
 -- two answers that meet a promise are equal

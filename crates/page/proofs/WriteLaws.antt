@@ -23,7 +23,10 @@ laid-part before ws after at n l h e = record {
   kept = e ∙ ap (λ (m : ℕ). put at m ws before) (sym l) ∙ sym (sets-put before ws at (omega arith));
 }
 
--- two words
+-- one word, and two
+pub laid-one : (before : List ℕ) (at a : ℕ) → Laid before at (a ∷ []) (at + 1) (set before at a)
+laid-one before at a = record { past = refl; kept = refl }
+
 pub laid-two : (before : List ℕ) (at a b : ℕ) → Laid before at (a ∷ b ∷ []) (at + 2) (set (set before at a) (at + 1) b)
 laid-two before at a b = record { past = refl; kept = ap (λ (i : ℕ). set (set before at a) i b) (add-one at) }
 

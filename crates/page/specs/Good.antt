@@ -9,7 +9,7 @@ use lib.ListN.{length, getD}
 use Rattle.words.specs.Tests.{both}
 use Rattle.words.specs.All.{all}
 use Rattle.record.specs.Good.{recordGood}
-use Rattle.table.specs.Identifiers.{listGood}
+use Rattle.table.specs.Identifiers.{listed, listGood}
 use Rattle.page.specs.Body.{bodyWords}
 use Rattle.page.specs.Layout.{contentsWords, bodiesIn, offsetAt, lengthAt, beginsAt, savedRecord}
 
@@ -33,6 +33,10 @@ contentsGood p =
 -- the identifier of body s
 abbrev pub identifierAt : List ℕ → ℕ → ℕ
 identifierAt p s = getD p (offsetAt p s) 0
+
+-- a list of the identifiers of n bodies
+abbrev pub Gathered : ℕ → List ℕ → List ℕ → Type 0
+Gathered n p ids = (s : ℕ) → s < n → listed ids s ≡ identifierAt p s
 
 -- held fields, counts and rules: the record that body s gives is good
 unfoldable pub recordGoodIn : List ℕ → ℕ → Bool

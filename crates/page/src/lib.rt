@@ -1,10 +1,13 @@
 // The page of a table: save and put back.
 mod bodies;
+mod good;
+mod putting;
 mod saving;
 
 ghost use mathlib.Core.Path.{_≡_};
 ghost use Rattle.words.specs.Outcome.{Meets};
 ghost use Rattle.page.specs.Save.{lengthOf, saveOf, paper};
+ghost use Rattle.page.specs.PutBack.{putBackOf, backPaper};
 
 // What saving answers: the page's length in words, or the number of the refusal.
 pub enum Saved {
@@ -46,4 +49,20 @@ pub fn save(table: &[u32], page: &mut [u32]) -> Saved
     }
     saving::write_page(page, table, length);
     Saved::Accepted(length)
+}
+
+// Puts a table back from its page, and answers the layout's length: PAGE where the words are not exactly one well-made page; ROOM where the table is shorter than
+// the layout. A refusal changes nothing; words past the layout stay.
+pub fn put_back(page: &[u32], table: &mut [u32]) -> PutBack
+    ensures { λ r. ⌜ Meets backPaper (putBackOf (now (page .entry)) (now (table .entry))) (now (table .entry)) r (now (table .exit)) ⌝ }
+{
+    if !good::page_ok(page) {
+        return PutBack::Refused(words::PAGE);
+    }
+    let length = 1 + record::inner::RECORD_WORDS * words::inner::word_at(page, 0) as usize;
+    if table.len() < length {
+        return PutBack::Refused(words::ROOM);
+    }
+    putting::write_table(table, page);
+    PutBack::Accepted(length)
 }

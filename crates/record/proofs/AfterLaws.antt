@@ -44,7 +44,7 @@ pub masked-has : (n b : ℕ) → holds b ≡ true → has (bitAnd n heldMask) b 
 unfolding holds
 masked-has n b e = has-and n heldMask b ∙ rw e (both-yes (has n b))
 
-masked-place : (n b : ℕ) → 9 ≤ b → above b (bitsOf 31 (bitAnd n heldMask)) ≡ above b (bitsOf 31 n)
+pub masked-place : (n b : ℕ) → 9 ≤ b → above b (bitsOf 31 (bitAnd n heldMask)) ≡ above b (bitsOf 31 n)
 masked-place n b h = above-agree 31 b (bitAnd n heldMask) n (λ x g l. masked-has n x (held-all x (omega arith) l))
 
 -- ---- the fields of an accepted body, as `refill` finds them

@@ -1,0 +1,176 @@
+-- How putting back goes. The idea: a body's first words and its held words are put into zeroed words (`filled-record`), and the records are pieces laid one
+-- after the other behind S (`Putting`).
+use mathlib.Core.Path.{_≡_, refl, sym, ap, ap₂, _∙_}
+use mathlib.Core.Bool.{true, false}
+use mathlib.Core.List.{List, [], _∷_, _++_, append-nil}
+use Prim.Native.Nat.{ℕ, _+_, _-_, _*_, _≤_, _<_}
+use native.Mathlib.Omega.{arith}
+use borrow.Author.Tests.{lt-ltb, le-ltb}
+use lib.Bits.{bitAnd}
+use lib.ListN.{length, take, drop, set, replicate, length-replicate}
+use Rattle.words.specs.Numbers.{PAGE, ROOM}
+use Rattle.words.specs.Outcome.{Meets}
+use Rattle.words.specs.Tests.{pick}
+use Rattle.words.specs.Word.{has}
+use Rattle.words.specs.SetBits.{bitsOf}
+use Rattle.words.specs.Part.{part, put}
+use Rattle.words.specs.Laid.{Laid}
+use Rattle.words.proofs.LaidLaws.{then, laid-length}
+use Rattle.words.proofs.PartLaws.{seen, lent-to, put-at, part-length, part-past, part-whole}
+use Rattle.fields.specs.Sizes.{sizeOf, sizesOf}
+use Rattle.record.specs.Held.{heldMask, holds, heldBits}
+use Rattle.record.specs.Layout.{headWords, slotWords, recordWords, heldOf, slotIn}
+use Rattle.record.specs.After.{slotAfter, refilled, Inside}
+use Rattle.record.proofs.SlotLaws.{placed-inside, in-order-same, held-low, held-high}
+use Rattle.record.proofs.HoldLaws.{within-holds}
+use Rattle.record.proofs.AfterLaws.{masked-within, masked-has, masked-place}
+use Rattle.table.specs.Layout.{base, Has, withRecord}
+use Rattle.page.specs.Joined.{joined}
+use Rattle.page.specs.Body.{bodyWords, recordOf}
+use Rattle.page.specs.Layout.{bodiesIn, offsetAt, lengthAt, bodyAt, savedRecord, tableFrom, tableOf}
+use Rattle.page.specs.Good.{contentsGood, pageOk}
+use Rattle.page.specs.PutBack.{putBackOf, backPaper}
+use Rattle.page.specs.declared.PutBack.the-variants.{Accepted, Refused}
+use Rattle.page.proofs.BodyLaws.{body-some, record-length}
+use Rattle.page.proofs.ContentsLaws.{contents-of, body-words}
+use Rattle.page.proofs.Exact.{ok-tested, ok-contents, back-length}
+use Rattle.page.proofs.WriteLaws.{laid-part, laid-one, laid-none, laid-next, laid-front}
+
+-- zeroed words for a record
+pub zeroed-length : (zeroed : List ℕ) → zeroed ≡ replicate recordWords 0 → length zeroed ≡ recordWords
+zeroed-length zeroed z = ap length z ∙ length-replicate {A = ℕ} recordWords 0
+
+-- ---- the fields of a body, as `refill` finds them
+
+-- bits of no held field do not matter
+refilled-masked : (n at : ℕ) (ws slots : List ℕ) → refilled (bitAnd n heldMask) at ws slots ≡ refilled n at ws slots
+unfolding refilled heldBits slotAfter holds
+refilled-masked n at ws slots =
+    in-order-same 31 heldMask _ _
+    (λ b h e.
+    rw (masked-has n b e)
+    (ap (λ (l : List ℕ). pick (has n b) (part (at + sizesOf l) (sizeOf b) ws) (slotIn b slots)) (masked-place n b (omega (arith, held-low b e)))))
+
+-- n is the body's held indicator
+module _ (n : ℕ) (b : List ℕ) (e : n ≡ heldOf b) (l : length b ≡ bodyWords (heldOf b)) where
+  fields-inside : Inside (bitAnd n heldMask) headWords b
+  unfolding bodyWords
+  fields-inside x y =
+      let o : holds x ≡ true = within-holds (bitAnd n heldMask) (masked-within n) x y in
+      let h : has n x ≡ true = sym (masked-has n x o) ∙ y in
+      omega (arith, l, ap (λ (k : ℕ). sizesOf (bitsOf 31 k)) e, placed-inside 31 n x (held-high x o) h, ap sizesOf (masked-place n x (omega (arith, held-low x o))))
+
+  -- zeroed words with the body's first words
+  begun-is : put 0 headWords (part 0 headWords b) (replicate recordWords 0) ≡ part 0 headWords b ++ replicate slotWords 0
+  begun-is = put-at 0 headWords [] (replicate recordWords 0) (part 0 headWords b) refl
+
+  front-length : length (part 0 headWords b) ≡ headWords
+  front-length = part-length 0 headWords b (body-some b l)
+
+  slots-blank : part headWords slotWords (put 0 headWords (part 0 headWords b) (replicate recordWords 0)) ≡ replicate slotWords 0
+  slots-blank =
+      let m : length (replicate {A = ℕ} slotWords 0) ≡ slotWords = length-replicate {A = ℕ} slotWords 0 in
+      ap (part headWords slotWords) begun-is ∙ part-past headWords 0 slotWords (part 0 headWords b) (replicate slotWords 0) front-length
+      ∙ rw m at (part-whole (replicate slotWords 0))
+
+  -- the words that are filled, zeroed at first and then with the body's first words
+  module _ (zeroed rec : List ℕ) (z : zeroed ≡ replicate recordWords 0) (y : rec ≡ put 0 headWords (part 0 headWords b) zeroed) where
+    f : rec ≡ put 0 headWords (part 0 headWords b) (replicate recordWords 0)
+    f = y ∙ ap (put 0 headWords (part 0 headWords b)) z
+
+    pub refill-asks : (length (take (recordWords - headWords) (drop headWords rec)) ≡ slotWords) × (bitAnd (bitAnd n heldMask) heldMask ≡ bitAnd n heldMask) × Inside (bitAnd n heldMask) headWords b
+    refill-asks = (
+      ap length (seen headWords recordWords slotWords rec refl ∙ ap (part headWords slotWords) f ∙ slots-blank) ∙ length-replicate {A = ℕ} slotWords 0,
+      masked-within n,
+      fields-inside,
+    )
+
+    pub filled-record : (last : List ℕ) → last ≡ refilled (bitAnd n heldMask) headWords b (take (recordWords - headWords) (drop headWords rec))
+        → take headWords rec ++ (last ++ drop (recordWords - headWords) (drop headWords rec)) ≡ recordOf b
+    unfolding recordOf
+    filled-record last g =
+        lent-to headWords recordWords slotWords (refilled (bitAnd n heldMask) headWords b) last rec refl g
+        ∙ ap₂ (λ (s r : List ℕ). put headWords slotWords (refilled (bitAnd n heldMask) headWords b s) r) (ap (part headWords slotWords) f ∙ slots-blank) (f ∙ begun-is)
+        ∙ put-at headWords slotWords (part 0 headWords b) (replicate slotWords 0) (refilled (bitAnd n heldMask) headWords b (replicate slotWords 0)) front-length
+        ∙ ap (λ (s : List ℕ). part 0 headWords b ++ s)
+        (append-nil (refilled (bitAnd n heldMask) headWords b (replicate slotWords 0)) ∙ refilled-masked n headWords b (replicate slotWords 0) ∙ ap (λ (k : ℕ). refilled k headWords b (replicate slotWords 0)) e)
+
+-- ---- the record of body s, which begins at the place at and has l words
+
+module _ (p : List ℕ) (s : ℕ) (c : contentsGood p ≡ true) (h : s < bodiesIn p) where
+  pub loaded-length : length (savedRecord p s) ≡ recordWords
+  unfolding savedRecord
+  loaded-length = record-length (bodyAt p s) (body-words p (contents-of p c) s h)
+
+  module _ (at l : ℕ) (e : at ≡ offsetAt p s) (f : l ≡ lengthAt p s) where
+    pub load-inside : at + l ≤ length p
+    load-inside = let g = contents-of p c in omega (arith, g .gapless s h, g .inside s h)
+
+    load-body : take (at + l - at) (drop at p) ≡ bodyAt p s
+    unfolding bodyAt
+    load-body = seen at (at + l) l p refl ∙ ap₂ (λ (a n : ℕ). part a n p) e f
+
+    pub load-asks : length (take (at + l - at) (drop at p)) ≡ bodyWords (heldOf (take (at + l - at) (drop at p)))
+    load-asks = rw load-body (body-words p (contents-of p c) s h)
+
+    pub load-record : recordOf (take (at + l - at) (drop at p)) ≡ savedRecord p s
+    unfolding savedRecord
+    load-record = ap recordOf load-body
+
+  pub put-record : (rec t after : List ℕ) → rec ≡ savedRecord p s → after ≡ put (base s) recordWords (part 0 recordWords rec) t → after ≡ withRecord s (savedRecord p s) t
+  unfolding withRecord
+  put-record rec t after e f =
+      f ∙ ap (λ (r : List ℕ). put (base s) recordWords r t) (ap (part 0 recordWords) e ∙ rw loaded-length at (part-whole (savedRecord p s)))
+
+-- ---- the loop that writes the records
+
+pub record Putting (p before after : List ℕ) (n s : ℕ) : Type 0 where
+  pub most : s ≤ n
+  pub laid : Laid before 1 (joined s (savedRecord p)) (base s) after
+
+pub putting-start : (p before : List ℕ) (n : ℕ) → Putting p before before n 0
+putting-start p before n = record { most = omega arith; laid = laid-none before 1 (savedRecord p) }
+
+module _ (p before after : List ℕ) (n s : ℕ) (w : pageOk p ≡ true) (e : n ≡ bodiesIn p) (l : base (bodiesIn p) ≤ length before) (q : Putting p before after n s) where
+  pub putting-asks : s < n → (contentsGood p ≡ true) × (s < bodiesIn p) × Has s after
+  putting-asks g = (ok-tested p w, omega arith, omega (arith, laid-length (q .laid)))
+
+  pub putting-turn : (after′ : List ℕ) → s < n → after′ ≡ withRecord s (savedRecord p s) after → Putting p before after′ n (s + 1)
+  unfolding withRecord
+  putting-turn after′ g f =
+      let a = putting-asks g in
+      let i : base s + recordWords ≡ base (s + 1) = omega arith in
+      record {
+        most = omega arith;
+        laid = laid-next s (savedRecord p) (q .laid) (rw i at (laid-part after (savedRecord p s) after′ (base s) recordWords (loaded-length p s (a .0) (a .1)) (a .2) f));
+      }
+
+-- S and the records are the table
+pub table-laid : (p t after : List ℕ) (n s : ℕ) → pageOk p ≡ true → n ≡ bodiesIn p → base (bodiesIn p) ≤ length t → Putting p (set t 0 n) after n s → n ≤ s
+    → after ≡ tableOf p ++ drop (base (bodiesIn p)) t
+unfolding tableOf tableFrom
+table-laid p t after n s w e l q h =
+    let i : s ≡ bodiesIn p = omega (arith, q .most) in
+    let k : length (bodiesIn p ∷ joined (bodiesIn p) (savedRecord p)) ≡ base (bodiesIn p) = back-length p w in
+    let records : Laid (set t 0 n) 1 (joined (bodiesIn p) (savedRecord p)) (base (bodiesIn p)) after = rw i at (q .laid) in
+    let first : Laid t 0 (bodiesIn p ∷ []) 1 (set t 0 n) = rw e (laid-one t 0 (bodiesIn p)) in
+    rw k at (laid-front (then first records) (omega (arith, k)))
+
+-- ---- the answers
+
+module _ (p t : List ℕ) where
+  pub back-ill : pageOk p ≡ false → Meets backPaper (putBackOf p t) t (Refused PAGE) t
+  unfolding putBackOf
+  back-ill w = record { answer = rw w; buffer = rw w }
+
+  module _ (w : pageOk p ≡ true) (n : ℕ) (e : n ≡ bodiesIn p) where
+    pub back-few : n ≤ 32
+    back-few = omega (arith, ok-contents p w .few)
+
+    pub back-short : length t < base n → Meets backPaper (putBackOf p t) t (Refused ROOM) t
+    unfolding putBackOf
+    back-short h = record { answer = rw (w, ← e, lt-ltb (length t) (base n) h); buffer = rw (w, ← e, lt-ltb (length t) (base n) h) }
+
+    pub back-made : (after : List ℕ) → base n ≤ length t → after ≡ tableOf p ++ drop (base (bodiesIn p)) t → Meets backPaper (putBackOf p t) t (Accepted (base n)) after
+    unfolding putBackOf
+    back-made after h f = record { answer = rw (w, ← e, le-ltb (length t) (base n) h); buffer = rw (w, ← e, le-ltb (length t) (base n) h) (f ∙ rw e) }

@@ -1,0 +1,124 @@
+// Whether a page is well made: its contents, then its list, then each body's record.
+ghost use mathlib.Core.Path.{_≡_};
+ghost use mathlib.Core.Bool.{true};
+ghost use Prim.Native.Nat.{_≤_, _<_};
+ghost use lib.Dec.{eqb};
+ghost use lib.ListN.{length};
+ghost use Rattle.words.specs.Tests.{both};
+ghost use Rattle.words.specs.All.{all};
+ghost use Rattle.table.specs.Identifiers.{listGood};
+ghost use Rattle.page.specs.Layout.{contentsWords, bodiesIn, beginsAt};
+ghost use Rattle.page.specs.Good.{pairGood, contentsGood, identifierAt, Gathered, recordGoodIn, pageOk};
+
+// Whether pair s is right, where the bodies before it end at a place: its offset is that place, its body ends inside the page, and its length is that of the
+// body's held indicator.
+fn pair_good(page: &[u32], s: usize, at: usize) -> bool
+    requires { ⌜ (at ≡ beginsAt (now page) s) × (at ≤ length (now page)) × (s < 32) ⌝ }
+    ensures { λ r. ⌜ r ≡ pairGood (now (page .entry)) s ⌝ }
+{
+    if words::inner::word_at(page, 2 + 2 * s) as usize != at {
+        return false;
+    }
+    let length = words::inner::word_at(page, 3 + 2 * s) as usize;
+    if page.len() < at + length {
+        return false;
+    }
+    let held = words::inner::word_at(page, at + 1);
+    length == crate::bodies::body_words(held)
+}
+
+// Whether the pairs are right, and the last body ends where the page does.
+fn pairs_good(page: &[u32], n: usize) -> bool
+    requires { ⌜ (n ≡ bodiesIn (now page)) × (n ≤ 32) × (contentsWords n ≤ length (now page)) ⌝ }
+    ensures { λ r. ⌜ r ≡ both (all n (pairGood (now (page .entry)))) (eqb (beginsAt (now (page .entry)) n) (length (now (page .entry)))) ⌝ }
+{
+    let mut at = 2 + 2 * n;
+    let mut s = 0;
+    while s < n {
+        if !pair_good(page, s, at) {
+            return false;
+        }
+        at += words::inner::word_at(page, 3 + 2 * s) as usize;
+        s += 1;
+    }
+    at == page.len()
+}
+
+// Whether the contents are right: S is at most 32, the contents lie inside the page, word 1 is its length, and the pairs cut it without gaps.
+fn contents_good(page: &[u32]) -> bool
+    ensures { λ r. ⌜ r ≡ contentsGood (now (page .entry)) ⌝ }
+{
+    let n = words::inner::word_at(page, 0) as usize;
+    if 32 < n {
+        return false;
+    }
+    if page.len() < 2 + 2 * n {
+        return false;
+    }
+    if words::inner::word_at(page, 1) as usize != page.len() {
+        return false;
+    }
+    pairs_good(page, n)
+}
+
+// The identifiers of n bodies, in list order.
+fn gather(ids: &mut [u32], page: &[u32], n: usize)
+    requires { ⌜ (n ≤ 32) × (n ≤ length (now ids)) ⌝ }
+    ensures { λ _. ⌜ Gathered n (now (page .entry)) (now (ids .exit)) ⌝ }
+{
+    let mut s = 0;
+    while s < n {
+        let at = words::inner::word_at(page, 2 + 2 * s) as usize;
+        ids[s] = words::inner::word_at(page, at);
+        s += 1;
+    }
+}
+
+// Whether the identifiers of n bodies are a valid list.
+fn list_good(page: &[u32], n: usize) -> bool
+    requires { ⌜ n ≤ 32 ⌝ }
+    ensures { λ r. ⌜ r ≡ listGood n (identifierAt (now (page .entry))) ⌝ }
+{
+    let mut ids = [0u32; 32];
+    gather(&mut ids, page, n);
+    table::inner::list_good(&ids, 0, 1, n)
+}
+
+// Whether the record of body s is good.
+fn record_good_in(page: &[u32], s: usize) -> bool
+    requires { ⌜ (contentsGood (now page) ≡ true) × (s < bodiesIn (now page)) ⌝ }
+    ensures { λ r. ⌜ r ≡ recordGoodIn (now (page .entry)) s ⌝ }
+{
+    let mut rec = [0u32; record::inner::RECORD_WORDS];
+    crate::putting::load_record(&mut rec, page, s);
+    record::inner::record_good(&rec)
+}
+
+// Whether the records of n bodies are good.
+fn records_good(page: &[u32], n: usize) -> bool
+    requires { ⌜ (contentsGood (now page) ≡ true) × (n ≡ bodiesIn (now page)) ⌝ }
+    ensures { λ r. ⌜ r ≡ all n (recordGoodIn (now (page .entry))) ⌝ }
+{
+    let mut s = 0;
+    while s < n {
+        if !record_good_in(page, s) {
+            return false;
+        }
+        s += 1;
+    }
+    true
+}
+
+// Whether a page is well made.
+pub fn page_ok(page: &[u32]) -> bool
+    ensures { λ r. ⌜ r ≡ pageOk (now (page .entry)) ⌝ }
+{
+    if !contents_good(page) {
+        return false;
+    }
+    let n = words::inner::word_at(page, 0) as usize;
+    if !list_good(page, n) {
+        return false;
+    }
+    records_good(page, n)
+}
