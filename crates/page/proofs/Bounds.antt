@@ -6,7 +6,6 @@ use mathlib.Core.List.{List}
 use Prim.Native.Nat.{ℕ, zero, suc, _+_, _*_, _≤_, _<_}
 use native.Mathlib.Omega.{arith}
 use lib.ListN.{length}
-use Rattle.words.specs.Word.{has}
 use Rattle.record.specs.Layout.{headWords, recordWords, heldOf}
 use Rattle.table.specs.Layout.{streamsOf, recordAt}
 use Rattle.table.specs.Well.{wellMade}

@@ -1,6 +1,6 @@
 -- How a program tests a page. The idea: while the pairs before it are right, body s begins where the lengths say (`Paired`), so one pass tests them all; the
 -- identifiers are gathered into a list (`Gathering`), and each test is a row of its definition.
-use mathlib.Core.Path.{_≡_, refl, sym, ap, _∙_}
+use mathlib.Core.Path.{_≡_, refl, ap, _∙_}
 use mathlib.Core.Bool.{Bool, true, false}
 use mathlib.Core.Logic.{⊎-elim}
 use mathlib.Core.List.{List}
@@ -60,7 +60,7 @@ module _ (p : List ℕ) (n s at : ℕ) (q : Paired p n s at) where
   paired-fails h e = rw (all-fails (pairGood p) n s h e)
 
   module _ (l : ℕ) (e : pairGood p s ≡ true) (g : l ≡ lengthAt p s) where
-    pub paired-most : at + l ≤ length p
+    paired-most : at + l ≤ length p
     paired-most = omega (arith, q .here, pair-of p s e .inside)
 
     pub paired-turn : s < n → Paired p n (s + 1) (at + l)

@@ -3,7 +3,7 @@
 use mathlib.Core.Path.{_≡_, refl, sym, ap, ap₂, _∙_}
 use mathlib.Core.Bool.{true, false}
 use mathlib.Core.List.{List, [], _∷_, _++_, append-nil}
-use Prim.Native.Nat.{ℕ, _+_, _-_, _*_, _≤_, _<_}
+use Prim.Native.Nat.{ℕ, _+_, _-_, _≤_, _<_}
 use native.Mathlib.Omega.{arith}
 use borrow.Author.Tests.{lt-ltb, le-ltb}
 use lib.Bits.{bitAnd}
@@ -33,7 +33,7 @@ use Rattle.page.specs.PutBack.{putBackOf, backPaper}
 use Rattle.page.specs.declared.PutBack.the-variants.{Accepted, Refused}
 use Rattle.page.proofs.BodyLaws.{body-some, record-length}
 use Rattle.page.proofs.ContentsLaws.{contents-of, body-words}
-use Rattle.page.proofs.Exact.{ok-tested, ok-contents, back-length}
+use Rattle.page.proofs.Exact.{ok-tested, back-length}
 use Rattle.page.proofs.WriteLaws.{laid-part, laid-one, laid-none, laid-next, laid-front}
 
 -- zeroed words for a record
@@ -75,12 +75,12 @@ module _ (n : ℕ) (b : List ℕ) (e : n ≡ heldOf b) (l : length b ≡ bodyWor
 
   -- the words that are filled, zeroed at first and then with the body's first words
   module _ (zeroed rec : List ℕ) (z : zeroed ≡ replicate recordWords 0) (y : rec ≡ put 0 headWords (part 0 headWords b) zeroed) where
-    f : rec ≡ put 0 headWords (part 0 headWords b) (replicate recordWords 0)
-    f = y ∙ ap (put 0 headWords (part 0 headWords b)) z
+    first-put : rec ≡ put 0 headWords (part 0 headWords b) (replicate recordWords 0)
+    first-put = y ∙ ap (put 0 headWords (part 0 headWords b)) z
 
     pub refill-asks : (length (take (recordWords - headWords) (drop headWords rec)) ≡ slotWords) × (bitAnd (bitAnd n heldMask) heldMask ≡ bitAnd n heldMask) × Inside (bitAnd n heldMask) headWords b
     refill-asks = (
-      ap length (seen headWords recordWords slotWords rec refl ∙ ap (part headWords slotWords) f ∙ slots-blank) ∙ length-replicate {A = ℕ} slotWords 0,
+      ap length (seen headWords recordWords slotWords rec refl ∙ ap (part headWords slotWords) first-put ∙ slots-blank) ∙ length-replicate {A = ℕ} slotWords 0,
       masked-within n,
       fields-inside,
     )
@@ -90,7 +90,7 @@ module _ (n : ℕ) (b : List ℕ) (e : n ≡ heldOf b) (l : length b ≡ bodyWor
     unfolding recordOf
     filled-record last g =
         lent-to headWords recordWords slotWords (refilled (bitAnd n heldMask) headWords b) last rec refl g
-        ∙ ap₂ (λ (s r : List ℕ). put headWords slotWords (refilled (bitAnd n heldMask) headWords b s) r) (ap (part headWords slotWords) f ∙ slots-blank) (f ∙ begun-is)
+        ∙ ap₂ (λ (s r : List ℕ). put headWords slotWords (refilled (bitAnd n heldMask) headWords b s) r) (ap (part headWords slotWords) first-put ∙ slots-blank) (first-put ∙ begun-is)
         ∙ put-at headWords slotWords (part 0 headWords b) (replicate slotWords 0) (refilled (bitAnd n heldMask) headWords b (replicate slotWords 0)) front-length
         ∙ ap (λ (s : List ℕ). part 0 headWords b ++ s)
         (append-nil (refilled (bitAnd n heldMask) headWords b (replicate slotWords 0)) ∙ refilled-masked n headWords b (replicate slotWords 0) ∙ ap (λ (k : ℕ). refilled k headWords b (replicate slotWords 0)) e)
@@ -164,9 +164,6 @@ module _ (p t : List ℕ) where
   back-ill w = record { answer = rw w; buffer = rw w }
 
   module _ (w : pageOk p ≡ true) (n : ℕ) (e : n ≡ bodiesIn p) where
-    pub back-few : n ≤ 32
-    back-few = omega (arith, ok-contents p w .few)
-
     pub back-short : length t < base n → Meets backPaper (putBackOf p t) t (Refused ROOM) t
     unfolding putBackOf
     back-short h = record { answer = rw (w, ← e, lt-ltb (length t) (base n) h); buffer = rw (w, ← e, lt-ltb (length t) (base n) h) }

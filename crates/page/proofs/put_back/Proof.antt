@@ -2,7 +2,7 @@
 use mathlib.Core.Path.{sym, _∙_}
 use native.Mathlib.Omega.{arith}
 use borrow.Author.Tests.{not-true, not-false}
-use Rattle.page.proofs.PutLaws.{back-ill, back-few, back-short, back-made}
+use Rattle.page.proofs.PutLaws.{back-ill, back-short, back-made}
 use borrow.Author.Needs.{needs}
 use Rattle.page.proofs.put_back.Statement.{statement}
 use Rattle.page.proofs.put_back.Tie as tie

@@ -2,8 +2,7 @@
 use Prim.Native.Nat.{_-_}
 use mathlib.Core.Path.{sym, _∙_}
 use borrow.Author.Tests.{not-true, not-false}
-use Rattle.page.proofs.GoodLaws.{Paired, paired-start, paired-fails, paired-most, paired-turn, paired-end}
-use native.Mathlib.Omega.{arith}
+use Rattle.page.proofs.GoodLaws.{Paired, paired-start, paired-fails, paired-turn, paired-end}
 use borrow.Author.Needs.{needs}
 use Rattle.page.proofs.good.pairs_good.Statement.{statement}
 use Rattle.page.proofs.good.pairs_good.Tie as tie

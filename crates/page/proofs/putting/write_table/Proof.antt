@@ -4,7 +4,6 @@ use Rattle.words.proofs.LaidLaws.{laid-length}
 use Prim.Native.Nat.{_-_}
 use lib.ListN.{length-set}
 use Rattle.page.proofs.PutLaws.{Putting, putting-start, putting-asks, putting-turn, table-laid}
-use native.Mathlib.Omega.{arith}
 use borrow.Author.Needs.{needs}
 use Rattle.page.proofs.putting.write_table.Statement.{statement}
 use Rattle.page.proofs.putting.write_table.Tie as tie
