@@ -9,7 +9,7 @@ use native.Mathlib.Nat.{zero-add, one-mul}
 use native.Mathlib.Numerals.{add-one}
 use native.Mathlib.Omega.{arith}
 use borrow.Author.Tests.{eq-eqb, ne-eqb, le-leb, lt-leb}
-use lib.Dec.{eqb}
+use lib.Dec.{eqb, leb}
 use lib.ListN.{length, getD, set, length-set}
 use lib.Seq.{getD-set-same, getD-set-other}
 use Rattle.words.specs.Tests.{both}
@@ -23,21 +23,12 @@ use Rattle.page.specs.Layout.{contentsWords, bodiesIn, offsetAt, lengthA
 use Rattle.page.specs.Good.{pairGood, contentsGood, identifierAt, Gathered, recordGoodIn, pageOk}
 use Rattle.page.proofs.ContentsLaws.{pair-of}
 
--- ---- one pair: a is its offset, l its length, and the bodies before it end at the place at
+-- ---- one pair: a is its offset, l its length, and w the words of its body's held indicator; the bodies before it end at the place at
 
-module _ (p : List ℕ) (s at a : ℕ) (e : at ≡ beginsAt p s) (f : a ≡ offsetAt p s) where
-  pub pair-gap : (a ≡ at → ⊥) → false ≡ pairGood p s
-  unfolding pairGood
-  pair-gap n = rw (← f, ← e, ne-eqb a at n)
-
-  module _ (l : ℕ) (k : a ≡ at) (g : l ≡ lengthAt p s) where
-    pub pair-outside : length p < at + l → false ≡ pairGood p s
-    unfolding pairGood
-    pair-outside h = rw (← f, ← e, ← g, eq-eqb a at k, lt-leb (at + l) (length p) h)
-
-    pub pair-inside : (w : ℕ) → at + l ≤ length p → w ≡ bodyWords (getD p (at + 1) 0) → eqb l w ≡ pairGood p s
-    unfolding pairGood
-    pair-inside w h j = rw (← f, ← e, ← g, eq-eqb a at k, le-leb (at + l) (length p) h, j)
+pub pair-tests : (p : List ℕ) (s at a l w : ℕ) (rest r : Bool) → at ≡ beginsAt p s → a ≡ offsetAt p s → l ≡ lengthAt p s → w ≡ bodyWords (getD p (at + 1) 0)
+    → rest ≡ both (leb (at + l) (length p)) (eqb l w) → r ≡ both (eqb a at) rest → r ≡ pairGood p s
+unfolding pairGood
+pair-tests p s at a l w rest r e f g h i j = j ∙ rw (i, h, f, g, e)
 
 -- ---- the loop that tests the pairs
 

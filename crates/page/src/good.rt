@@ -16,15 +16,12 @@ fn pair_good(page: &[u32], s: usize, at: usize) -> bool
     requires { ⌜ (at ≡ beginsAt (now page) s) × (at ≤ length (now page)) × (s < 32) ⌝ }
     ensures { λ r. ⌜ r ≡ pairGood (now (page .entry)) s ⌝ }
 {
-    if words::inner::word_at(page, 2 + 2 * s) as usize != at {
-        return false;
-    }
+    let here = words::inner::word_at(page, 2 + 2 * s) as usize == at;
     let length = words::inner::word_at(page, 3 + 2 * s) as usize;
-    if page.len() < at + length {
-        return false;
-    }
+    let inside = at + length <= page.len();
     let held = words::inner::word_at(page, at + 1);
-    length == crate::bodies::body_words(held)
+    let fits = length == crate::bodies::body_words(held);
+    words::inner::both_of(here, words::inner::both_of(inside, fits))
 }
 
 // Whether the pairs are right, and the last body ends where the page does.
