@@ -1,0 +1,137 @@
+// Saves tables and puts pages back, as standard input asks, and writes what `page::save`, `page::put_back` and `page::page_length` answer and leave.
+// A case begins with 1, 2 or 3: a recording that is stopped and resumed, a page to be put back, a table to be saved.
+mod resuming;
+mod showing;
+
+use page::PutBack;
+use page::Saved;
+
+// A page to be put back: the answer, the table, and the page that is saved of it again.
+fn put_case(words: &[u32], table: &mut [u32], page: &mut [u32]) {
+    wordio::inner::pattern(table);
+    wordio::inner::pattern(page);
+    match page::put_back(words, table) {
+        PutBack::Accepted(length) => {
+            wordio::inner::named(b"put", length as u64);
+            showing::end_line();
+            showing::show_words(b"table", table);
+            let answer = page::save(table, page);
+            wordio::inner::text(b" ");
+            showing::show_saved(answer, page);
+            showing::end_line();
+        }
+        PutBack::Refused(n) => {
+            wordio::inner::named(b"refused", n as u64);
+            showing::end_line();
+            showing::show_words(b"table", table);
+        }
+    }
+}
+
+// A table to be saved: the answer, the buffer, and the page's length.
+fn save_case(words: &[u32], page: &mut [u32]) {
+    wordio::inner::pattern(page);
+    match page::save(words, page) {
+        Saved::Accepted(length) => wordio::inner::named(b"saved", length as u64),
+        Saved::Refused(n) => wordio::inner::named(b"refused", n as u64),
+    }
+    showing::end_line();
+    showing::show_words(b"page", page);
+    wordio::inner::text(b" ");
+    match page::page_length(words) {
+        Saved::Accepted(length) => wordio::inner::named(b"length", length as u64),
+        Saved::Refused(n) => wordio::inner::named(b"length refused", n as u64),
+    }
+    showing::end_line();
+}
+
+// The room and the words of a page to be put back.
+fn read_put(words: &mut [u32], table: &mut [u32], page: &mut [u32]) {
+    let room = wordio::inner::word() as usize;
+    let n = wordio::inner::word() as usize;
+    if words.len() < n {
+        return;
+    }
+    if table.len() < room {
+        return;
+    }
+    wordio::inner::fill(&mut words[0..n]);
+    put_case(&words[0..n], &mut table[0..room], page);
+}
+
+// The room and the words of a table to be saved.
+fn read_save(words: &mut [u32], page: &mut [u32]) {
+    let room = wordio::inner::word() as usize;
+    let n = wordio::inner::word() as usize;
+    if words.len() < n {
+        return;
+    }
+    if page.len() < room {
+        return;
+    }
+    wordio::inner::fill(&mut words[0..n]);
+    save_case(&words[0..n], &mut page[0..room]);
+}
+
+// The case of a word: 1 a recording, 2 a page to be put back, 3 a table to be saved. Pages are saved into 2,882 words but in a case of saving.
+fn asked(
+    kind: u32,
+    ids: &mut [u32],
+    table: &mut [u32],
+    second: &mut [u32],
+    page: &mut [u32],
+    words: &mut [u32],
+) {
+    if page.len() < 2882 {
+        return;
+    }
+    if kind == 1 {
+        resuming::recording(ids, table, &mut page[0..2882], second, words);
+        return;
+    }
+    if kind == 2 {
+        read_put(words, table, &mut page[0..2882]);
+        return;
+    }
+    read_save(words, page);
+}
+
+// Case k; whether there was one.
+fn one_case(
+    k: u64,
+    ids: &mut [u32],
+    table: &mut [u32],
+    second: &mut [u32],
+    page: &mut [u32],
+    words: &mut [u32],
+) -> bool {
+    let next = wordio::inner::next_word();
+    let wordio::inner::Input::Word(kind) = next else {
+        return false;
+    };
+    wordio::inner::number(k);
+    asked(kind, ids, table, second, page, words);
+    true
+}
+
+// Tables have at most 2,900 words here, pages at most 3,000, and the packets of a recording at most 60,000.
+fn main() {
+    let mut id_space = [0u32; 32];
+    let mut table_space = [0u32; 2900];
+    let mut second_space = [0u32; 2900];
+    let mut page_space = [0u32; 3000];
+    let mut word_space = [0u32; 60000];
+    let ids: &mut [u32] = &mut id_space;
+    let table: &mut [u32] = &mut table_space;
+    let second: &mut [u32] = &mut second_space;
+    let page: &mut [u32] = &mut page_space;
+    let words: &mut [u32] = &mut word_space;
+    let mut k: u64 = 0;
+    while k < 0xFFFF_FFFF {
+        if one_case(k, ids, table, second, page, words) {
+            k += 1;
+        } else {
+            return;
+        }
+    }
+}

@@ -1,0 +1,197 @@
+// A recording that is stopped and resumed: played on one table up to a cut, saved, put back into a second table, and played on.
+use page::PutBack;
+use page::Saved;
+use play::Played;
+
+// Where a walk over the packets stands, and the check number of their answers so far.
+pub struct Walk {
+    pub at: usize,
+    pub answers: u32,
+}
+
+// The check number after a packet: five words, the refusal's number or 0, size, type, stream and missing.
+fn fold_answer(y: u32, answer: Played) -> u32 {
+    match answer {
+        Played::Accepted(h) => {
+            let size = wordio::inner::folded(wordio::inner::folded(y, 0), h.size as u64);
+            let kind = wordio::inner::folded(size, h.kind as u64);
+            let stream = wordio::inner::folded(kind, h.stream as u64);
+            wordio::inner::folded(stream, h.missing as u64)
+        }
+        Played::Refused(n) => {
+            let size = wordio::inner::folded(wordio::inner::folded(y, n as u64), 0);
+            let kind = wordio::inner::folded(size, 0);
+            let stream = wordio::inner::folded(kind, 0);
+            wordio::inner::folded(stream, 0)
+        }
+    }
+}
+
+// Plays the packet where the walk stands: one word n, and n words.
+fn play_next(table: &mut [u32], words: &[u32], walk: Walk) -> Walk {
+    let at = walk.at;
+    if words.len() <= at {
+        return walk;
+    }
+    let from = at + 1;
+    let end = from + words::inner::word_at(words, at) as usize;
+    if words.len() < end {
+        return walk;
+    }
+    let answer = play::play(table, &words[from..end]);
+    Walk {
+        at: end,
+        answers: fold_answer(walk.answers, answer),
+    }
+}
+
+// Plays some packets, from where the walk stands on.
+fn play_part(table: &mut [u32], words: &[u32], from: Walk, packets: u32) -> Walk {
+    let mut walk = from;
+    let mut j = 0;
+    while j < packets {
+        walk = play_next(table, words, walk);
+        j += 1;
+    }
+    walk
+}
+
+// Puts the page back into the second table, and plays the packets that are left.
+fn resume(page: &[u32], table: &mut [u32], words: &[u32], walk: Walk, packets: u32) {
+    match page::put_back(page, table) {
+        PutBack::Accepted(length) => {
+            wordio::inner::named(b"put", length as u64);
+            let end = play_part(table, words, walk, packets);
+            wordio::inner::named(b"answers", end.answers as u64);
+            crate::showing::show_table(length, table);
+        }
+        PutBack::Refused(n) => wordio::inner::named(b"put refused", n as u64),
+    }
+}
+
+// Saves the first table, puts its page back into the second, and plays the packets that are left.
+fn stop(
+    first: &[u32],
+    page: &mut [u32],
+    second: &mut [u32],
+    words: &[u32],
+    walk: Walk,
+    packets: u32,
+) {
+    let answer = page::save(first, page);
+    crate::showing::show_saved(answer, page);
+    let Saved::Accepted(length) = answer else {
+        return;
+    };
+    if page.len() < length {
+        return;
+    }
+    resume(&page[0..length], second, words, walk, packets);
+}
+
+// Plays the packets before a cut on the first table, and stops there.
+fn play_cut(
+    first: &mut [u32],
+    page: &mut [u32],
+    second: &mut [u32],
+    words: &[u32],
+    cut: u32,
+    packets: u32,
+) {
+    if packets < cut {
+        return;
+    }
+    let start = Walk { at: 0, answers: 0 };
+    let walk = play_part(first, words, start, cut);
+    stop(first, page, second, words, walk, packets - cut);
+}
+
+// The line of a cut.
+fn one_cut(
+    ids: &[u32],
+    first: &mut [u32],
+    page: &mut [u32],
+    second: &mut [u32],
+    words: &[u32],
+    packets: u32,
+) {
+    let cut = wordio::inner::word();
+    wordio::inner::text(b" ");
+    wordio::inner::named(b"cut", cut as u64);
+    wordio::inner::pattern(first);
+    wordio::inner::pattern(page);
+    wordio::inner::pattern(second);
+    table::start(ids, first);
+    play_cut(first, page, second, words, cut, packets);
+    crate::showing::end_line();
+}
+
+// The cuts of a recording.
+fn all_cuts(
+    ids: &[u32],
+    first: &mut [u32],
+    page: &mut [u32],
+    second: &mut [u32],
+    words: &[u32],
+    packets: u32,
+) {
+    let cuts = wordio::inner::word();
+    let mut c = 0;
+    while c < cuts {
+        one_cut(ids, first, page, second, words, packets);
+        c += 1;
+    }
+}
+
+// The packets of a recording, and its cuts.
+fn read_packets(
+    ids: &[u32],
+    first: &mut [u32],
+    page: &mut [u32],
+    second: &mut [u32],
+    words: &mut [u32],
+) {
+    let packets = wordio::inner::word();
+    let n = wordio::inner::word() as usize;
+    if words.len() < n {
+        return;
+    }
+    wordio::inner::fill(&mut words[0..n]);
+    all_cuts(ids, first, page, second, &words[0..n], packets);
+}
+
+// The identifiers of a recording, its packets, and its cuts.
+fn read_list(
+    ids: &mut [u32],
+    first: &mut [u32],
+    page: &mut [u32],
+    second: &mut [u32],
+    words: &mut [u32],
+) {
+    let n = wordio::inner::word() as usize;
+    if ids.len() < n {
+        return;
+    }
+    wordio::inner::fill(&mut ids[0..n]);
+    read_packets(&ids[0..n], first, page, second, words);
+}
+
+// A recording: the rooms of the two tables, its identifiers, its packets, and its cuts.
+pub fn recording(
+    ids: &mut [u32],
+    first: &mut [u32],
+    page: &mut [u32],
+    second: &mut [u32],
+    words: &mut [u32],
+) {
+    wordio::inner::text(b" recording\n");
+    let room = wordio::inner::word() as usize;
+    let other = wordio::inner::word() as usize;
+    if first.len() < room {
+        return;
+    }
+    if second.len() < other {
+        return;
+    }
+    read_list(ids, &mut first[0..room], page, &mut second[0..other], words);
+}
