@@ -20,7 +20,7 @@ use Rattle.table.specs.Identifiers.{spaced, listGood}
 use Rattle.table.proofs.ListLaws.{list-same}
 use Rattle.page.specs.Body.{bodyWords}
 use Rattle.page.specs.Layout.{contentsWords, bodiesIn, offsetAt, lengthAt, beginsAt}
-use Rattle.page.specs.Good.{pairGood, contentsGood, identifierAt, Gathered, recordGoodIn, pageOk}
+use Rattle.page.specs.Good.{pairGood, pairsGood, contentsGood, identifierAt, Gathered, recordGoodIn, pageOk}
 use Rattle.page.proofs.ContentsLaws.{pair-of}
 
 -- ---- one pair: a is its offset, l its length, and w the words of its body's held indicator; the bodies before it end at the place at
@@ -37,10 +37,6 @@ pub record Paired (p : List ℕ) (n s at : ℕ) : Type 0 where
   pub right : all s (pairGood p) ≡ true
   pub here : at ≡ beginsAt p s
   pub inside : at ≤ length p
-
--- the pairs, and the page's end after the last body
-abbrev pub pairsGood : List ℕ → ℕ → Bool
-pairsGood p n = both (all n (pairGood p)) (eqb (beginsAt p n) (length p))
 
 pub paired-start : (p : List ℕ) (n : ℕ) → n ≡ bodiesIn p → contentsWords n ≤ length p → Paired p n 0 (2 + 2 * n)
 unfolding beginsAt

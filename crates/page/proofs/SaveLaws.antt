@@ -30,7 +30,7 @@ use Rattle.table.proofs.RecordLaws as Records
 use Rattle.table.proofs.WellLaws.{layout-has, well-whole, well-record}
 use Rattle.page.specs.Joined.{joined}
 use Rattle.page.specs.Body.{bodyOf, bodyWords}
-use Rattle.page.specs.Layout.{contentsWords, offsetOf, pairOf, pageFrom, savedBody, pageOf, pageLength}
+use Rattle.page.specs.Layout.{offsetOf, pairOf, pageFrom, savedBody, pairsOf, bodiesOf, bodiesFrom, pageOf, pageLength}
 use Rattle.page.specs.Save.{lengthOf, saveOf, paper}
 use Rattle.page.specs.declared.Saved.{Saved}
 use Rattle.page.specs.declared.Saved.the-variants.{Accepted, Refused}
@@ -119,7 +119,7 @@ pub record Pairing (t before after : List ℕ) (n s at : ℕ) : Type 0 where
 
 pub record Laying (t before after : List ℕ) (n s at : ℕ) : Type 0 where
   pub most : s ≤ n
-  pub laid : Laid before (contentsWords (streamsOf t)) (joined s (savedBody t)) at after
+  pub laid : Laid before (bodiesFrom t) (joined s (savedBody t)) at after
 
 module _ (t before : List ℕ) (w : wellMade t ≡ true) (h : pageLength t ≤ length before) where
   pub pairing-start : (n : ℕ) → n ≡ streamsOf t → Pairing t before before n 0 (2 + 2 * n)
@@ -143,11 +143,11 @@ module _ (t before : List ℕ) (w : wellMade t ≡ true) (h : pageLength t ≤ l
         }
 
   pub pairing-end : (after : List ℕ) (n s at : ℕ) → n ≡ streamsOf t → Pairing t before after n s at → n ≤ s
-      → Laid before 2 (joined (streamsOf t) (pairOf (streamsOf t) (savedBody t))) (contentsWords (streamsOf t)) after
+      → Laid before 2 (pairsOf t) (bodiesFrom t) after
   pairing-end after n s at e p g = let i : s ≡ streamsOf t = omega (arith, p .sums .most) in rw i at (p .laid)
 
   pub laying-start : (n : ℕ) → n ≡ streamsOf t → Laying t before before n 0 (2 + 2 * n)
-  laying-start n e = record { most = omega arith; laid = rw e (laid-none before (contentsWords (streamsOf t)) (savedBody t)) }
+  laying-start n e = record { most = omega arith; laid = rw e (laid-none before (bodiesFrom t) (savedBody t)) }
 
   module _ (after : List ℕ) (n s at : ℕ) (e : n ≡ streamsOf t) (p : Laying t before after n s at) (g : s < n) where
     record-seen : take (base s + recordWords - base s) (drop (base s) t) ≡ recordAt s t
@@ -171,17 +171,17 @@ module _ (t before : List ℕ) (w : wellMade t ≡ true) (h : pageLength t ≤ l
     laying-turn after′ to q = record { most = omega arith; laid = laid-next s (savedBody t) (p .laid) (rw record-seen at q) }
 
   pub laying-end : (after : List ℕ) (n s at : ℕ) → n ≡ streamsOf t → Laying t before after n s at → n ≤ s
-      → Laid before (contentsWords (streamsOf t)) (joined (streamsOf t) (savedBody t)) (pageLength t) after
+      → Laid before (bodiesFrom t) (bodiesOf t) (pageLength t) after
   unfolding pageLength offsetOf
   laying-end after n s at e p g =
       let i : s ≡ streamsOf t = omega (arith, p .most) in
-      let q : Laid before (contentsWords (streamsOf t)) (joined (streamsOf t) (savedBody t)) at after = rw i at (p .laid) in
+      let q : Laid before (bodiesFrom t) (bodiesOf t) at after = rw i at (p .laid) in
       rw (q .past) at q
 
   -- S, the length, the pairs and the bodies are the page
   pub page-laid : (n size : ℕ) (pairs after : List ℕ) → n ≡ streamsOf t → size ≡ pageLength t
-      → Laid (set (set before 0 n) 1 size) 2 (joined (streamsOf t) (pairOf (streamsOf t) (savedBody t))) (contentsWords (streamsOf t)) pairs
-      → Laid pairs (contentsWords (streamsOf t)) (joined (streamsOf t) (savedBody t)) (pageLength t) after → after ≡ pageOf t ++ drop (pageLength t) before
+      → Laid (set (set before 0 n) 1 size) 2 (pairsOf t) (bodiesFrom t) pairs
+      → Laid pairs (bodiesFrom t) (bodiesOf t) (pageLength t) after → after ≡ pageOf t ++ drop (pageLength t) before
   unfolding pageOf pageFrom pageLength
   page-laid n size pairs after e f p q =
       let l = page-whole t w in

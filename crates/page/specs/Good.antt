@@ -21,14 +21,17 @@ pairGood p s =
     (both (leb (beginsAt p s + lengthAt p s) (length p))
     (eqb (lengthAt p s) (bodyWords (getD p (beginsAt p s + 1) 0))))
 
--- "word 1 the page's length; then S pairs .. without gaps; then bodies", and nothing after them. The contents of 32 bodies are the longest
+-- n pairs, and nothing after the last body
+abbrev pub pairsGood : List ℕ → ℕ → Bool
+pairsGood p n = both (all n (pairGood p)) (eqb (beginsAt p n) (length p))
+
+-- "word 1 the page's length; then S pairs .. without gaps; then bodies". The contents of 32 bodies are the longest
 unfoldable pub contentsGood : List ℕ → Bool
 contentsGood p =
     both (leb (bodiesIn p) 32)
     (both (leb (contentsWords (bodiesIn p)) (length p))
     (both (eqb (getD p 1 0) (length p))
-    (both (all (bodiesIn p) (pairGood p))
-    (eqb (beginsAt p (bodiesIn p)) (length p)))))
+    (pairsGood p (bodiesIn p))))
 
 -- the identifier of body s
 abbrev pub identifierAt : List ℕ → ℕ → ℕ

@@ -31,6 +31,17 @@ pageFrom n body = n ∷ offsetOf n body n ∷ (joined n (pairOf n body) ++ joine
 unfoldable pub savedBody : List ℕ → ℕ → List ℕ
 savedBody t s = bodyOf (recordAt s t)
 
+-- the pairs, and the bodies
+abbrev pub pairsOf : List ℕ → List ℕ
+pairsOf t = joined (streamsOf t) (pairOf (streamsOf t) (savedBody t))
+
+abbrev pub bodiesOf : List ℕ → List ℕ
+bodiesOf t = joined (streamsOf t) (savedBody t)
+
+-- the place past the pairs
+abbrev pub bodiesFrom : List ℕ → ℕ
+bodiesFrom t = contentsWords (streamsOf t)
+
 unfoldable pub pageOf : List ℕ → List ℕ
 pageOf t = pageFrom (streamsOf t) (savedBody t)
 

@@ -2,13 +2,11 @@
 ghost use mathlib.Core.Path.{_≡_};
 ghost use mathlib.Core.Bool.{true};
 ghost use Prim.Native.Nat.{_≤_, _<_};
-ghost use lib.Dec.{eqb};
 ghost use lib.ListN.{length};
-ghost use Rattle.words.specs.Tests.{both};
 ghost use Rattle.words.specs.All.{all};
 ghost use Rattle.table.specs.Identifiers.{listGood};
 ghost use Rattle.page.specs.Layout.{contentsWords, bodiesIn, beginsAt};
-ghost use Rattle.page.specs.Good.{pairGood, contentsGood, identifierAt, Gathered, recordGoodIn, pageOk};
+ghost use Rattle.page.specs.Good.{pairGood, pairsGood, contentsGood, identifierAt, Gathered, recordGoodIn, pageOk};
 
 // Whether pair s is right, where the bodies before it end at a place: its offset is that place, its body ends inside the page, and its length is that of the
 // body's held indicator.
@@ -27,7 +25,7 @@ fn pair_good(page: &[u32], s: usize, at: usize) -> bool
 // Whether the pairs are right, and the last body ends where the page does.
 fn pairs_good(page: &[u32], n: usize) -> bool
     requires { ⌜ (n ≡ bodiesIn (now page)) × (n ≤ 32) × (contentsWords n ≤ length (now page)) ⌝ }
-    ensures { λ r. ⌜ r ≡ both (all n (pairGood (now (page .entry)))) (eqb (beginsAt (now (page .entry)) n) (length (now (page .entry)))) ⌝ }
+    ensures { λ r. ⌜ r ≡ pairsGood (now (page .entry)) n ⌝ }
 {
     let mut at = 2 + 2 * n;
     let mut s = 0;

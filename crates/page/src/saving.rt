@@ -5,15 +5,13 @@ ghost use mathlib.Core.List.{_++_};
 ghost use Prim.Native.Nat.{_≤_};
 ghost use lib.ListN.{length, drop};
 ghost use Rattle.words.specs.Laid.{Laid};
-ghost use Rattle.table.specs.Layout.{streamsOf};
 ghost use Rattle.table.specs.Well.{wellMade};
-ghost use Rattle.page.specs.Joined.{joined};
-ghost use Rattle.page.specs.Layout.{contentsWords, pairOf, savedBody, pageOf, pageLength};
+ghost use Rattle.page.specs.Layout.{pairsOf, bodiesOf, bodiesFrom, pageOf, pageLength};
 
 // The pairs of the contents: offset and length of each body, in list order without gaps.
 fn write_pairs(page: &mut [u32], table: &[u32])
     requires { ⌜ (wellMade (now table) ≡ true) × (pageLength (now table) ≤ length (now page)) ⌝ }
-    ensures { λ _. ⌜ Laid (now (page .entry)) 2 (joined (streamsOf (now (table .entry))) (pairOf (streamsOf (now (table .entry))) (savedBody (now (table .entry))))) (contentsWords (streamsOf (now (table .entry)))) (now (page .exit)) ⌝ }
+    ensures { λ _. ⌜ Laid (now (page .entry)) 2 (pairsOf (now (table .entry))) (bodiesFrom (now (table .entry))) (now (page .exit)) ⌝ }
 {
     let n = table::inner::streams(table);
     let mut at = 2 + 2 * n;
@@ -31,7 +29,7 @@ fn write_pairs(page: &mut [u32], table: &[u32])
 // The bodies, one for each stream, behind the contents.
 fn write_bodies(page: &mut [u32], table: &[u32])
     requires { ⌜ (wellMade (now table) ≡ true) × (pageLength (now table) ≤ length (now page)) ⌝ }
-    ensures { λ _. ⌜ Laid (now (page .entry)) (contentsWords (streamsOf (now (table .entry)))) (joined (streamsOf (now (table .entry))) (savedBody (now (table .entry)))) (pageLength (now (table .entry))) (now (page .exit)) ⌝ }
+    ensures { λ _. ⌜ Laid (now (page .entry)) (bodiesFrom (now (table .entry))) (bodiesOf (now (table .entry))) (pageLength (now (table .entry))) (now (page .exit)) ⌝ }
 {
     let n = table::inner::streams(table);
     let mut at = 2 + 2 * n;
