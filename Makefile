@@ -15,5 +15,7 @@ vectors:
 	python3 -B tools/reference/write_vectors.py crates/write_vectors/stdin crates/write_vectors/stdout
 	python3 -B tools/reference/payload_vectors.py crates/payload_vectors/stdin crates/payload_vectors/stdout
 	python3 -B tools/reference/play_vectors.py crates/play_vectors/stdin crates/play_vectors/stdout
+	python3 -B tools/reference/page_vectors.py crates/page_vectors/stdin crates/page_vectors/stdout
+	python3 -B tools/reference/panel_vectors.py crates/panel_vectors/stdin crates/panel_vectors/stdout
 	python3 -B tools/reference/sample_packets.py samples/packets
 	python3 -B tools/reference/recordings.py samples/recordings

@@ -1,0 +1,135 @@
+"""Document 01's "Samples from the bench" that concern readings, and its
+sentences on them, held against the reference.  The expectations are document
+01's own."""
+
+import struct
+import unittest
+from fractions import Fraction
+
+import panel
+import table
+
+PATTERN = 0xA5A5A5A5
+ONES = 0xFFFFFFFF
+
+
+def holding(bit, *words, identifier=7):
+    """The words of a table of one stream that holds one field."""
+    found = table.start([identifier], 89)[1]
+    header = 0x40000003 + len(words)
+    answer = table.play(found, [header, identifier, 1 << bit, *words])
+    assert answer[0] == "played", answer
+    return table.layout(found)
+
+
+def read(bit, *words):
+    return panel.reading(holding(bit, *words), 0, bit)
+
+
+class Frequencies(unittest.TestCase):
+    # "rate 0x00000000 00100000 is 1 Hz; frequency 0xFFFFFFFF FFFFFFFF is whole
+    # -1, parts 1,048,575"
+
+    def test_samples(self):
+        self.assertEqual(read(21, 0, 0x00100000), ("frequency", 1, 0))
+        self.assertEqual(read(27, ONES, ONES), ("frequency", -1, 1048575))
+
+    def test_rounded_down(self):
+        # "Easy misreadings": "Rounding negative frequencies towards zero."
+        for bit in (28, 27, 26, 25):
+            self.assertEqual(read(bit, ONES, 0xFFF00000), ("frequency", -1, 0))
+            self.assertEqual(read(bit, ONES, 0xFFEFFFFF), ("frequency", -2, 1048575))
+            self.assertEqual(read(bit, ONES, 0xFFF00001), ("frequency", -1, 1))
+            self.assertEqual(read(bit, 1 << 31, 0), ("frequency", -(2**43), 0))
+
+    def test_largest(self):
+        for bit in (29, 28, 27, 26, 25, 21):
+            self.assertEqual(read(bit, 0x7FFFFFFF, ONES), ("frequency", 2**43 - 1, 1048575))
+            self.assertEqual(read(bit, 0, 0), ("frequency", 0, 0))
+            self.assertEqual(read(bit, 0, 1), ("frequency", 0, 1))
+            self.assertEqual(read(bit, 1, 0), ("frequency", 4096, 0))
+
+
+class Halves(unittest.TestCase):
+    # "level 0xFF80 is -1; temperature 0xFFE0 is -0.5"
+
+    def test_samples(self):
+        self.assertEqual(read(24, 0xFF80), ("level", -1))
+        self.assertEqual(read(18, 0xFFE0), ("temperature", Fraction(-1, 2)))
+
+    def test_gain(self):
+        # "stage 1 the lower half, stage 2 the upper"
+        self.assertEqual(read(23, 0x0080FF80), ("gain", -1, 1))
+        self.assertEqual(read(23, 0x80000001), ("gain", Fraction(1, 128), -256))
+
+    def test_edges(self):
+        self.assertEqual(read(24, 0x8000), ("level", -256))
+        self.assertEqual(read(24, 0x7FFF), ("level", Fraction(32767, 128)))
+        self.assertEqual(read(18, 0x8000), ("temperature", -512))
+        self.assertEqual(read(18, 0x7FFF), ("temperature", Fraction(32767, 64)))
+
+
+class OtherAndAbsent(unittest.TestCase):
+    def test_other(self):
+        # "other (held, nothing more said)"
+        self.assertEqual(read(30, 5), ("other",))
+        self.assertEqual(read(22, 5), ("other",))
+        self.assertEqual(read(14, *range(11)), ("other",))
+        self.assertEqual(read(10, 0), ("other",))
+
+    def test_absent(self):
+        fresh = table.layout(table.start([7], 89)[1])
+        for bit in range(10, 31):
+            self.assertEqual(panel.reading(fresh, 0, bit), ("absent",))
+        self.assertEqual(panel.reading(holding(24, 5), 0, 23), ("absent",))
+
+
+class Refusals(unittest.TestCase):
+    # "Reading: TABLE, STREAM, VALUE."
+
+    def test_order(self):
+        lent = holding(24, 5)
+        self.assertEqual(panel.reading(lent, 1, 24), ("refused", table.STREAM))
+        self.assertEqual(panel.reading(lent, 1, 31), ("refused", table.STREAM))
+        self.assertEqual(panel.reading(lent, ONES, 24), ("refused", table.STREAM))
+        for bit in (31, 9, 8, 7, 0, 32, 286, ONES):
+            self.assertEqual(panel.reading(lent, 0, bit), ("refused", panel.VALUE))
+        lent[5] = 17
+        for stream, bit in ((0, 24), (1, 24), (0, 31), (1, 31)):
+            self.assertEqual(panel.reading(lent, stream, bit), ("refused", table.TABLE))
+
+    def test_held_words(self):
+        lent = holding(27, 3, 4)
+        for room, answer in ((1, ("refused", table.ROOM)), (2, ("held", 2)), (3, ("held", 2))):
+            out = [PATTERN] * room
+            written = [3, 4] if answer[0] == "held" else []
+            after = written + out[len(written) :]
+            self.assertEqual(panel.held_words(lent, 0, 27, out), (answer, after))
+        self.assertEqual(panel.held_words(lent, 0, 26, []), (("held", 0), []))
+        self.assertEqual(panel.held_words(lent, 0, 9, []), (("refused", panel.VALUE), []))
+
+
+class Numbers(unittest.TestCase):
+    def test_text(self):
+        self.assertEqual(panel.decimal(Fraction(-1), 7), "-1.0000000")
+        self.assertEqual(panel.decimal(Fraction(1, 128), 7), "0.0078125")
+        self.assertEqual(panel.decimal(Fraction(-1, 2), 6), "-0.500000")
+        self.assertEqual(panel.decimal(Fraction(0), 6), "0.000000")
+        self.assertEqual(panel.decimal(Fraction(-1, 128), 7), "-0.0078125")
+        with self.assertRaises(ValueError):
+            panel.decimal(Fraction(1, 128), 6)
+
+    def test_single(self):
+        # "These three are f32 and exact", by a conversion made elsewhere.
+        for over in (64, 128):
+            for half in range(-(2**15), 2**15, 7):
+                value = Fraction(half, over)
+                word = struct.unpack(">I", struct.pack(">f", float(value)))[0]
+                sign, exponent, fraction = panel.single(value)
+                self.assertEqual(sign * 2**31 + exponent * 2**23 + fraction, word)
+                self.assertEqual(Fraction(struct.unpack(">f", struct.pack(">I", word))[0]), value)
+        self.assertEqual(panel.single(Fraction(0)), (0, 0, 0))
+
+
+if __name__ == "__main__":
+    unittest.main()
