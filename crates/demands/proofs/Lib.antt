@@ -1,0 +1,10 @@
+-- The proofs of the demands.
+
+-- the rules of a trace, when a packet more is heard
+pub mod RuleLaws
+-- playing on a table of a list, as the trace tells it
+pub mod HearingLaws
+-- one packet more, in the record of its stream
+pub mod RecordLaws
+-- a table stays right, packet by packet
+pub mod RightLaws

@@ -1,0 +1,160 @@
+-- Tables stay right. The idea: a fresh table is right for no packets (`right-start`), and a table that is right for some packets is right, after one more is
+-- played, for these and that one (`right-more`): a refusal changes neither the table nor a stream's own packets, and an accepted packet takes its stream's
+-- record one packet on. The answers follow, since the counts before each packet are those of the rules.
+use mathlib.Core.Path.{_≡_, refl, sym, ap, _∙_}
+use mathlib.Core.Bool.{Bool, true, false, not}
+use mathlib.Core.Logic.{⊎-elim}
+use mathlib.Core.List.{List, [], _∷_, _++_, append-nil, append-assoc}
+use mathlib.Core.Option.{Option}
+use Prim.Native.Nat.{ℕ, _≤_, _<_}
+use borrow.Author.Tests.{eq-eqb, ne-eqb, le-ltb, ltb-false, not-false}
+use lib.Dec.{eqb, ltb}
+use lib.ListN.{length, getD, drop}
+use Rattle.words.specs.Tests.{pick, among}
+use Rattle.words.specs.Outcome.{Outcome, refused, accepted, onward, Done, saidOf, leftOf}
+use Rattle.words.proofs.Cases.{passed, accepted-same, same-or-not}
+use Rattle.record.specs.Layout.{orderOf, countOf, lastOf}
+use Rattle.record.specs.Counts.{addedOf, countedOf, addedTo}
+use Rattle.record.specs.After.{recordAfter, addedBy}
+use Rattle.table.specs.Layout.{streamsOf, base, recordAt, withRecord}
+use Rattle.table.specs.Identifiers.{listed, listGood}
+use Rattle.table.specs.Start.{freshRecord, freshTable, startOf}
+use Rattle.table.proofs.WellLaws.{well-record}
+use Rattle.table.proofs.StartLaws.{fresh-record, Begun, start-well-made}
+use Rattle.play.specs.declared.Heard.{Heard}
+use Rattle.play.specs.Play.{playOf}
+use Rattle.play.proofs.KeepLaws.{play-keeps}
+use Rattle.demands.specs.Trace.{Arrival, Trace, heardOf, traceOf, own, carried, orElse, lastCarried, countedTypes, countsOf, countRule, answerTo, answersAfter}
+use Rattle.demands.specs.Demands.{ours, heldIn, Right, pastOf, playAll, saidAll}
+use Rattle.demands.proofs.RuleLaws.{own-append, last-more, counts-append, added-by-last, rule-more}
+use Rattle.demands.proofs.HearingLaws.{Fine, heard-fine, Listed, recordOn, doneOn, play-is, listed-on, record-whole, record-own, record-other}
+use Rattle.demands.proofs.RecordLaws.{held-after, count-after, fresh-held, fresh-count}
+
+-- ---- the start
+
+start-leaves : (ids t : List ℕ) (d : Done ℕ (List ℕ)) → startOf ids t ≡ accepted d → d .leaves ≡ freshTable ids t
+unfolding startOf
+start-leaves ids t d e =
+    let a = passed (not (listGood (length ids) (listed ids))) _ _ d e in
+    let b = passed (ltb (length t) (base (length ids))) _ _ d (a .1) in
+    ap (λ (x : Done ℕ (List ℕ)). x .leaves) (sym (accepted-same (b .1)))
+
+pub start-accepts : (ids t : List ℕ) → listGood (length ids) (listed ids) ≡ true → base (length ids) ≤ length t → (d : Done ℕ (List ℕ)) × (startOf ids t ≡ accepted d)
+unfolding startOf
+start-accepts ids t g h = (record { says = base (length ids); leaves = freshTable ids t }, rw (g, le-ltb (length t) (base (length ids)) h))
+
+pub right-start : (ids t : List ℕ) (d : Done ℕ (List ℕ)) → startOf ids t ≡ accepted d → Right ids [] (d .leaves)
+right-start ids t d e =
+    let k = start-well-made ids t d e in
+    let fresh : (s : ℕ) → s < length ids → recordAt s (d .leaves) ≡ freshRecord (getD ids s 0) = λ s h. ap (recordAt s) (start-leaves ids t d e) ∙ fresh-record ids t s h in
+    record {
+      made = k .well;
+      streams = k .streams;
+      list = k .list;
+      held = λ s h b. ap (heldIn b) (fresh s h) ∙ fresh-held (getD ids s 0) b;
+      counts = λ s h kind o. ap (countOf (orderOf kind)) (fresh s h) ∙ fresh-count (getD ids s 0) kind o;
+    }
+
+-- ---- one packet more
+
+pub trace-append : (ids : List ℕ) (ps qs : List (List ℕ)) → traceOf ids (ps ++ qs) ≡ traceOf ids ps ++ traceOf ids qs
+trace-append ids [] qs = refl
+trace-append ids (ws ∷ ps) qs = ap (λ (l : Trace). heardOf ids ws ∷ l) (trace-append ids ps qs)
+
+-- the rules of a stream's own packets
+record Ruled (before : List Arrival) (r : List ℕ) : Type 0 where
+  held : (b : ℕ) → heldIn b r ≡ lastCarried b before
+  counts : (kind : ℕ) → among kind countedTypes ≡ true → countOf (orderOf kind) r ≡ countRule (countsOf kind before)
+
+counted-more : (t : Bool) (c : ℕ) (counts : List ℕ) → pick t (countedOf c (countRule counts)) (countRule counts) ≡ countRule (counts ++ pick t (c ∷ []) [])
+counted-more true c counts = sym (rule-more counts c)
+counted-more false c counts = ap countRule (sym (append-nil counts))
+
+pub right-listed : {ids : List ℕ} {packets : List (List ℕ)} {t : List ℕ} → Right ids packets t → Listed ids t
+right-listed r = record { made = r .made; streams = r .streams; list = r .list }
+
+module _ (ids : List ℕ) (before : List (List ℕ)) (t : List ℕ) (r : Right ids before t) where
+  listing : Listed ids t
+  listing = right-listed r
+
+  ruled : (s : ℕ) → s < length ids → Ruled (own s (traceOf ids before)) (recordAt s t)
+  ruled s h = record { held = r .held s h; counts = r .counts s h }
+
+  ruled-same : (s : ℕ) (xs : List Arrival) → s < length ids → xs ≡ [] → Ruled (own s (traceOf ids before) ++ xs) (recordAt s t)
+  ruled-same s xs h e = rw (e, append-nil (own s (traceOf ids before))) (ruled s h)
+
+  -- a packet of the stream
+  ruled-own : (a : Arrival) → Fine ids a → Ruled (own (a .stream) (traceOf ids before) ++ (a ∷ [])) (recordOn t a)
+  ruled-own a f =
+      let s = a .stream in
+      let h : s < length ids = f .stream in
+      let l = record-whole ids t listing s h in
+      let old = own s (traceOf ids before) in
+      let g = well-record t (r .made) s (rw (r .streams) h) in
+      record {
+        held = λ b. held-after ids a f (recordAt s t) l g b ∙ ap (orElse (carried b a)) (r .held s h b) ∙ sym (last-more b old a);
+        counts = λ kind o.
+            count-after ids a f (recordAt s t) l kind o
+            ∙ ap (λ (ws : List ℕ). pick (eqb (a .kind) kind) (countedOf (a .count) ws) ws) (r .counts s h kind o)
+            ∙ counted-more (eqb (a .kind) kind) (a .count) (countsOf kind old) ∙ ap countRule (sym (counts-append kind old (a ∷ [])));
+      }
+
+  ruled-heard : (x : Outcome Arrival) → ((a : Arrival) → x ≡ accepted a → Fine ids a) → (s : ℕ) → s < length ids
+      → Ruled (own s (traceOf ids before) ++ own s (x ∷ [])) (recordAt s (leftOf (onward x (doneOn t)) t))
+  ruled-heard (refused n) f s h = ruled-same s [] h refl
+  ruled-heard (accepted a) f s h =
+      ⊎-elim
+      (λ (e : s ≡ a .stream). rw (e, eq-eqb (a .stream) (a .stream) refl, record-own ids t listing a (f a refl)) (ruled-own a (f a refl)))
+      (λ (n : s ≡ a .stream → ⊥).
+      rw (ne-eqb (a .stream) s (λ i. n (sym i)), record-other ids t listing a (f a refl) s n) (ruled-same s [] h refl))
+      (same-or-not s (a .stream))
+
+  -- a table that is right for some packets is right after one more
+  pub right-more : (ws : List ℕ) → Right ids (before ++ (ws ∷ [])) (leftOf (playOf t ws) t)
+  right-more ws =
+      let l = listed-on ids t listing ws in
+      let same : leftOf (playOf t ws) t ≡ leftOf (onward (heardOf ids ws) (doneOn t)) t = ap (λ (o : Outcome (Done Heard (List ℕ))). leftOf o t) (play-is ids t listing ws) in
+      let grown : (s : ℕ) → own s (traceOf ids (before ++ (ws ∷ []))) ≡ own s (traceOf ids before) ++ own s (heardOf ids ws ∷ []) =
+      λ s. ap (own s) (trace-append ids before (ws ∷ [])) ∙ own-append s (traceOf ids before) (heardOf ids ws ∷ []) in
+      record {
+        made = l .made;
+        streams = l .streams;
+        list = l .list;
+        held = λ s h b. ap (λ (u : List ℕ). heldIn b (recordAt s u)) same ∙ ruled-heard (heardOf ids ws) (heard-fine ids ws) s h .held b ∙ ap (lastCarried b) (sym (grown s));
+        counts = λ s h kind o.
+            ap (λ (u : List ℕ). countOf (orderOf kind) (recordAt s u)) same ∙ ruled-heard (heardOf ids ws) (heard-fine ids ws) s h .counts kind o
+            ∙ ap (λ (l : List Arrival). countRule (countsOf kind l)) (sym (grown s));
+      }
+
+  -- and what is said of it is what the rules say
+  answer-heard : (x : Outcome Arrival) → ((a : Arrival) → x ≡ accepted a → Fine ids a) → saidOf (onward x (doneOn t)) ≡ answerTo (traceOf ids before) x
+  unfolding addedBy addedTo
+  answer-heard (refused n) f = refl
+  answer-heard (accepted a) f =
+      let g = f a refl in
+      let added : addedBy (a .kind) (a .count) (recordAt (a .stream) t) ≡ addedOf (lastOf (countRule (countsOf (a .kind) (own (a .stream) (traceOf ids before))))) (a .count) =
+      ap (λ (ws : List ℕ). addedOf (lastOf ws) (a .count)) (r .counts (a .stream) (g .stream) (a .kind) (g .kind)) in
+      rw (added, added-by-last (countsOf (a .kind) (own (a .stream) (traceOf ids before))) (a .count))
+
+  pub right-answer : (ws : List ℕ) → saidOf (playOf t ws) ≡ answerTo (traceOf ids before) (heardOf ids ws)
+  right-answer ws = ap saidOf (play-is ids t listing ws) ∙ answer-heard (heardOf ids ws) (heard-fine ids ws)
+
+-- ---- many
+
+pub right-on : (ids : List ℕ) (before packets : List (List ℕ)) (t : List ℕ) → Right ids before t → Right ids (before ++ packets) (playAll ours t packets)
+right-on ids before [] t r = rw (append-nil before) r
+right-on ids before (ws ∷ packets) t r =
+    rw (← append-assoc before (ws ∷ []) packets) (right-on ids (before ++ (ws ∷ [])) packets (leftOf (playOf t ws) t) (right-more ids before t r ws))
+
+pub answers-on : (ids : List ℕ) (before packets : List (List ℕ)) (t : List ℕ) → Right ids before t → saidAll ours t packets ≡ answersAfter (traceOf ids before) (traceOf ids packets)
+answers-on ids before [] t r = refl
+answers-on ids before (ws ∷ packets) t r =
+    let rest = answers-on ids (before ++ (ws ∷ [])) packets (leftOf (playOf t ws) t) (right-more ids before t r ws) in
+    rw (right-answer ids before t r ws, rest, trace-append ids before (ws ∷ []))
+
+-- the words past the layout stay
+pub past-on : (ids : List ℕ) (packets : List (List ℕ)) (t : List ℕ) → streamsOf t ≡ length ids → pastOf ids (playAll ours t packets) ≡ pastOf ids t
+past-on ids [] t e = refl
+past-on ids (ws ∷ packets) t e =
+    let k = play-keeps t ws in
+    past-on ids packets (leftOf (playOf t ws) t) (k .streams ∙ e) ∙ rw e at (k .past)

@@ -1,0 +1,87 @@
+-- The rules of a trace, when a packet more is heard. The idea: each rule of `before ++ (a ∷ [])` is that of `before`, taken one packet on; the last-carried rule asks
+-- the new packet first, and a count goes on as `countedOf` says.
+use mathlib.Core.Path.{_≡_, refl, sym, ap, _∙_}
+use mathlib.Core.Bool.{Bool, true, false}
+use mathlib.Core.List.{List, [], _∷_, _++_}
+use mathlib.Core.Option.{Option, none, some}
+use Prim.Native.Nat.{ℕ, zero, suc, _+_, _-_, _%_, _^_}
+use native.Mathlib.Nat.{mod-add-mod, add-assoc}
+use native.Mathlib.Omega.{arith}
+use borrow.Author.Tests.{ne-eqb}
+use lib.Dec.{eqb}
+use lib.ListN.{length, length-append}
+use Rattle.words.specs.Tests.{pick}
+use Rattle.words.specs.Outcome.{Outcome, refused, accepted}
+use Rattle.record.specs.Counts.{missedOf, addedOf, countedOf}
+use Rattle.demands.specs.Trace.{Arrival, Trace, own, carried, orElse, lastCarried, countsOf, lastOf, missedAfter, missed, lastPlusOne, countRule, addedAfter}
+
+-- ---- a stream's own packets
+
+pick-append : {A : Type 0} (t : Bool) (x : A) (xs ys : List A) → pick t (x ∷ xs) xs ++ ys ≡ pick t (x ∷ (xs ++ ys)) (xs ++ ys)
+pick-append true x xs ys = refl
+pick-append false x xs ys = refl
+
+pub own-append : (s : ℕ) (xs ys : Trace) → own s (xs ++ ys) ≡ own s xs ++ own s ys
+own-append s [] ys = refl
+own-append s (refused n ∷ xs) ys = own-append s xs ys
+own-append s (accepted a ∷ xs) ys =
+    ap (λ (l : List Arrival). pick (eqb (a .stream) s) (a ∷ l) l) (own-append s xs ys) ∙ sym (pick-append (eqb (a .stream) s) a (own s xs) (own s ys))
+
+-- ---- the last that carried a field
+
+or-none : {A : Type 0} (x : Option A) → orElse x none ≡ x
+or-none none = refl
+or-none (some a) = refl
+
+or-assoc : {A : Type 0} (x y z : Option A) → orElse (orElse x y) z ≡ orElse x (orElse y z)
+or-assoc none y z = refl
+or-assoc (some a) y z = refl
+
+pub last-more : (b : ℕ) (before : List Arrival) (a : Arrival) → lastCarried b (before ++ (a ∷ [])) ≡ orElse (carried b a) (lastCarried b before)
+last-more b [] a = sym (or-none (carried b a))
+last-more b (x ∷ before) a =
+    ap (λ (o : Option (List ℕ)). orElse o (carried b x)) (last-more b before a) ∙ or-assoc (carried b a) (lastCarried b before) (carried b x)
+
+-- ---- counts
+
+pub counts-append : (kind : ℕ) (before bs : List Arrival) → countsOf kind (before ++ bs) ≡ countsOf kind before ++ countsOf kind bs
+counts-append kind [] bs = refl
+counts-append kind (a ∷ before) bs =
+    ap (λ (l : List ℕ). pick (eqb (a .kind) kind) (a .count ∷ l) l) (counts-append kind before bs)
+    ∙ sym (pick-append (eqb (a .kind) kind) (a .count) (countsOf kind before) (countsOf kind bs))
+
+last-of-more : (c : ℕ) (cs : List ℕ) (d : ℕ) → lastOf c (cs ++ (d ∷ [])) ≡ d
+last-of-more c [] d = refl
+last-of-more c (x ∷ cs) d = last-of-more x cs d
+
+missed-after-more : (c : ℕ) (cs : List ℕ) (d : ℕ) → missedAfter c (cs ++ (d ∷ [])) ≡ missedAfter c cs + missedOf (lastOf c cs) d
+missed-after-more c [] d = omega arith
+missed-after-more c (x ∷ cs) d =
+    ap (λ (n : ℕ). missedOf c x + n) (missed-after-more x cs d) ∙ sym (add-assoc (missedOf c x) (missedAfter x cs) (missedOf (lastOf x cs) d))
+
+missed-more : (cs : List ℕ) (d : ℕ) → missed (cs ++ (d ∷ [])) ≡ missed cs + addedAfter cs d
+missed-more [] d = refl
+missed-more (c ∷ cs) d = missed-after-more c cs d
+
+last-plus-more : (cs : List ℕ) (d : ℕ) → lastPlusOne (cs ++ (d ∷ [])) ≡ d + 1
+last-plus-more [] d = refl
+last-plus-more (c ∷ cs) d = ap (λ (n : ℕ). n + 1) (last-of-more c cs d)
+
+-- what a packet adds to missing, by the last count that a record keeps
+pub added-by-last : (cs : List ℕ) (d : ℕ) → addedOf (lastPlusOne cs) d ≡ addedAfter cs d
+unfolding addedOf
+added-by-last [] d = refl
+added-by-last (c ∷ cs) d =
+    let n : lastOf c cs + 1 ≡ 0 → ⊥ = λ e. omega (arith, e) in
+    let m : lastOf c cs + 1 - 1 ≡ lastOf c cs = omega arith in
+    rw (ne-eqb (lastOf c cs + 1) 0 n, m)
+
+-- one more is seen, what it adds is missing, and its count is the last
+pub rule-more : (cs : List ℕ) (d : ℕ) → countRule (cs ++ (d ∷ [])) ≡ countedOf d (countRule cs)
+unfolding countedOf
+rule-more cs d =
+    let seen : length (cs ++ (d ∷ [])) % 2 ^ 32 ≡ (length cs % 2 ^ 32 + 1) % 2 ^ 32 = ap (λ (n : ℕ). n % 2 ^ 32) (length-append cs (d ∷ [])) ∙ sym (mod-add-mod (length cs) (2 ^ 32) 1) in
+    let missing : missed (cs ++ (d ∷ [])) % 2 ^ 32 ≡ (missed cs % 2 ^ 32 + addedOf (lastPlusOne cs) d) % 2 ^ 32 =
+    ap (λ (n : ℕ). n % 2 ^ 32) (missed-more cs d ∙ ap (λ (n : ℕ). missed cs + n) (sym (added-by-last cs d)))
+    ∙ sym (mod-add-mod (missed cs) (2 ^ 32) (addedOf (lastPlusOne cs) d)) in
+    rw (seen, missing, last-plus-more cs d)

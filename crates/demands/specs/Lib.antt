@@ -1,0 +1,6 @@
+-- The demands. Read Demands first; it speaks in the words of Trace.
+
+-- the three demands, as statements about a program
+pub mod Demands
+-- which packets of a trace are accepted, and the rules over them
+pub mod Trace

@@ -1,0 +1,143 @@
+-- What a trace of packets says by itself: which of them are accepted, by reading and by the list of identifiers, and the rules that a table is held to. No
+-- rule here goes through a table, or through playing: each looks at the packets.
+use Prim.Native.Nat.{ℕ, zero, suc, _+_, _-_, _/_, _%_, _^_}
+use mathlib.Core.Bool.{Bool, true, false}
+use mathlib.Core.List.{List, [], _∷_, _++_, map}
+use mathlib.Core.Option.{Option, none, some}
+use lib.Dec.{eqb, leb}
+use lib.ListN.{length, getD}
+use Rattle.words.specs.Numbers.{STREAM}
+use Rattle.words.specs.Tests.{pick, both, among}
+use Rattle.words.specs.Word.{has}
+use Rattle.words.specs.Part.{part}
+use Rattle.words.specs.All.{firstOf}
+use Rattle.words.specs.Outcome.{Outcome, refused, accepted, onward}
+use Rattle.fields.specs.Layout.{indicatorOf, fieldOf}
+use Rattle.packet.specs.declared.Packet.{Packet}
+use Rattle.packet.specs.Read.{readOf}
+use Rattle.record.specs.Counts.{missedOf}
+use Rattle.table.specs.Identifiers.{listed}
+use Rattle.play.specs.declared.Heard.{Heard}
+
+-- ---- the packets of a trace
+
+-- an accepted packet of a stream: the stream's number, the packet's type, count and size, and the words of its body
+pub record Arrival : Type 0 where
+  pub stream : ℕ
+  pub kind : ℕ
+  pub count : ℕ
+  pub size : ℕ
+  pub body : List ℕ
+
+-- "stream number (place in the list, from 0)", of an identifier; the list's length where it is not declared
+unfoldable pub placeIn : List ℕ → ℕ → ℕ
+placeIn ids identifier = firstOf (length ids) (λ s. eqb (listed ids s) identifier)
+
+-- a packet that was read, to a list. STREAM: "no identifier (types 0, 2), one not declared"; else it is its stream's
+unfoldable pub arrivalOf : List ℕ → List ℕ → Packet → Outcome Arrival
+arrivalOf ids ws p =
+    pick (among (p .parts .kind) (0 ∷ 2 ∷ [])) (refused STREAM)
+    (pick (leb (length ids) (placeIn ids (p .parts .identifier))) (refused STREAM)
+    (accepted (record { stream = placeIn ids (p .parts .identifier); kind = p .parts .kind; count = p .parts .count; size = p .size; body = part (p .body) (p .length) ws })))
+
+-- what some words are to a list: refused, by reading or with STREAM; or an accepted packet of a stream
+unfoldable pub heardOf : List ℕ → List ℕ → Outcome Arrival
+heardOf ids ws = onward (readOf ws) (arrivalOf ids ws)
+
+-- packets one after the other, "refused ones among them"
+abbrev pub Trace : Type 0
+Trace = List (Outcome Arrival)
+
+abbrev pub traceOf : List ℕ → List (List ℕ) → Trace
+traceOf ids packets = map (heardOf ids) packets
+
+-- an accepted packet of stream s
+abbrev pub isOwn : ℕ → Outcome Arrival → Bool
+isOwn s (refused n) = false
+isOwn s (accepted a) = eqb (a .stream) s
+
+-- "its own accepted packets": those of stream s, in their order
+abbrev pub own : ℕ → Trace → List Arrival
+own s [] = []
+own s (refused n ∷ trace) = own s trace
+own s (accepted a ∷ trace) = pick (eqb (a .stream) s) (a ∷ own s trace) (own s trace)
+
+-- ---- held: "the value in the last accepted Context packet of that stream that carried the field, and nothing if none did"
+
+-- the fields that are kept: "each field from bits 30 to 10"
+abbrev pub kept : ℕ → Bool
+kept b = both (leb 10 b) (leb b 30)
+
+-- a packet carries the kept field of bit b: it is a Context packet, of type 4, and its indicator has the bit
+abbrev pub carries : ℕ → Arrival → Bool
+carries b a = both (kept b) (both (eqb (a .kind) 4) (has (indicatorOf (a .body)) b))
+
+-- the value of the field of bit b in a packet
+abbrev pub carried : ℕ → Arrival → Option (List ℕ)
+carried b a = pick (carries b a) (some (fieldOf b (a .body))) none
+
+-- the first that is there
+abbrev pub orElse : {A : Type 0} → Option A → Option A → Option A
+orElse none y = y
+orElse (some x) y = some x
+
+-- the value in the last of these packets that carried the field: what a later one carried goes before what an earlier one did
+abbrev pub lastCarried : ℕ → List Arrival → Option (List ℕ)
+lastCarried b [] = none
+lastCarried b (a ∷ later) = orElse (lastCarried b later) (carried b a)
+
+-- ---- counts: "Types 1, 3, 4 and 5 are counted apart within a stream. Each has seen and missing, both kept modulo 2^32, and the last count."
+
+abbrev pub countedTypes : List ℕ
+countedTypes = 1 ∷ 3 ∷ 4 ∷ 5 ∷ []
+
+-- the counts of the packets of one type, in their order
+abbrev pub countsOf : ℕ → List Arrival → List ℕ
+countsOf kind [] = []
+countsOf kind (a ∷ later) = pick (eqb (a .kind) kind) (a .count ∷ countsOf kind later) (countsOf kind later)
+
+-- the last of the counts c and those after it
+abbrev pub lastOf : ℕ → List ℕ → ℕ
+lastOf c [] = c
+lastOf c (d ∷ later) = lastOf d later
+
+-- "later ones add (count - last - 1) modulo 16": what the counts after c add together
+abbrev pub missedAfter : ℕ → List ℕ → ℕ
+missedAfter c [] = 0
+missedAfter c (d ∷ later) = missedOf c d + missedAfter d later
+
+-- "The first packet adds nothing to missing"
+abbrev pub missed : List ℕ → ℕ
+missed [] = 0
+missed (c ∷ later) = missedAfter c later
+
+-- "last plus one or 0 if not started"
+abbrev pub lastPlusOne : List ℕ → ℕ
+lastPlusOne [] = 0
+lastPlusOne (c ∷ later) = lastOf c later + 1
+
+-- the three words of a type's count, by the counts of its packets: seen, missing, and last plus one or 0
+abbrev pub countRule : List ℕ → List ℕ
+countRule counts = (length counts % 2 ^ 32) ∷ (missed counts % 2 ^ 32) ∷ lastPlusOne counts ∷ []
+
+-- ---- answers: "Play answers size, type, stream number (place in the list, from 0) and missing added."
+
+-- the missing that a packet of count d adds, by the counts of its type before it
+abbrev pub addedAfter : List ℕ → ℕ → ℕ
+addedAfter [] d = 0
+addedAfter (c ∷ later) d = missedOf (lastOf c later) d
+
+-- the answer to a packet, by the trace before it
+abbrev pub answerTo : Trace → Outcome Arrival → Outcome Heard
+answerTo before (refused n) = refused n
+answerTo before (accepted a) = accepted (record {
+  size = a .size;
+  kind = a .kind;
+  stream = a .stream;
+  missing = addedAfter (countsOf (a .kind) (own (a .stream) before)) (a .count);
+})
+
+-- the answers to the packets of a trace, each by those before it
+abbrev pub answersAfter : Trace → Trace → List (Outcome Heard)
+answersAfter before [] = []
+answersAfter before (x ∷ later) = answerTo before x ∷ answersAfter (before ++ (x ∷ [])) later
