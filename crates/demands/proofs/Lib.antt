@@ -8,3 +8,5 @@ pub mod HearingLaws
 pub mod RecordLaws
 -- a table stays right, packet by packet
 pub mod RightLaws
+-- the rules leave nothing open
+pub mod Determined

@@ -1,0 +1,122 @@
+-- The rules leave nothing open. The idea: a good record is fixed by its identifier, its counts and what it holds (`record-by`): the held indicator bit by bit,
+-- a held slot by its value, an unheld one since it is zero. A layout is fixed by its records.
+use mathlib.Core.Path.{_≡_, refl, sym, ap, _∙_}
+use mathlib.Core.Bool.{Bool, true, false}
+use mathlib.Core.Logic.{⊎-elim}
+use mathlib.Core.List.{List, _++_}
+use mathlib.Core.Option.{Option, none, some, Option·none-ne-some, Option·some-injective}
+use Prim.Native.Nat.{ℕ, _+_, _≤_, _<_}
+use native.Mathlib.Omega.{arith}
+use lib.ListN.{length, getD, take}
+use lib.Seq.{ext-getD}
+use Rattle.words.specs.Tests.{pick, among}
+use Rattle.words.specs.Word.{has}
+use Rattle.words.specs.Part.{part}
+use Rattle.words.proofs.Cases.{true-or-false}
+use Rattle.words.proofs.BitLaws.{word-same}
+use Rattle.words.proofs.PartLaws.{part-length, getD-part, part-whole}
+use Rattle.record.specs.Held.{heldMask, holds, heldBits, slotAt}
+use Rattle.record.specs.Layout.{headWords, slotWords, recordWords, identifierOf, heldOf, orderOf, countOf, slotIn, slotsOf, slotOf}
+use Rattle.record.specs.Good.{recordGood, Good}
+use Rattle.record.proofs.SlotLaws.{in-order-same, in-order-parts, slots-whole}
+use Rattle.record.proofs.GoodLaws.{good-of}
+use Rattle.table.specs.Layout.{streamsOf, base, recordAt}
+use Rattle.table.proofs.RecordLaws.{record-identifier}
+use Rattle.table.proofs.WellLaws.{well-whole, well-record}
+use Rattle.page.specs.Layout.{tableFrom}
+use Rattle.page.proofs.JoinedLaws.{part-join}
+use Rattle.page.proofs.LayoutLaws.{table-same, table-again}
+use Rattle.demands.specs.Trace.{countedTypes}
+use Rattle.demands.specs.Demands.{heldIn, Right, layoutOf, Determined}
+use Rattle.demands.proofs.HearingLaws.{record-whole}
+use Rattle.demands.proofs.RightLaws.{right-listed}
+
+-- ---- parts
+
+same-join : (a n m : ℕ) (r q : List ℕ) → part a n r ≡ part a n q → part (a + n) m r ≡ part (a + n) m q → part a (n + m) r ≡ part a (n + m) q
+same-join a n m r q e f =
+    sym (part-join a n m r) ∙ ap (λ (z : List ℕ). z ++ part (a + n) m r) e ∙ ap (λ (z : List ℕ). part a n q ++ z) f ∙ part-join a n m q
+
+same-word : (i : ℕ) (r q : List ℕ) → i + 1 ≤ length r → i + 1 ≤ length q → getD r i 0 ≡ getD q i 0 → part i 1 r ≡ part i 1 q
+same-word i r q h g e =
+    let l = part-length i 1 r h in
+    ext-getD 0 (part i 1 r) (part i 1 q) (l ∙ sym (part-length i 1 q g))
+    (λ j k. let o : i + j ≡ i = omega arith in let n : j < 1 = omega arith in getD-part i 1 j r n ∙ ap (λ (x : ℕ). getD r x 0) o ∙ e ∙ ap (λ (x : ℕ). getD q x 0) (sym o) ∙ sym (getD-part i 1 j q n))
+
+-- ---- what is held or not
+
+same-test : (x y : Bool) (v w : List ℕ) → pick x (some v) none ≡ pick y (some w) none → x ≡ y
+same-test true true v w e = refl
+same-test true false v w e = absurd (Option·none-ne-some v (sym e))
+same-test false true v w e = absurd (Option·none-ne-some w e)
+same-test false false v w e = refl
+
+same-value : (x y : Bool) (v w : List ℕ) → x ≡ true → pick x (some v) none ≡ pick y (some w) none → v ≡ w
+same-value true true v w t e = Option·some-injective v w e
+same-value true false v w t e = absurd (Option·none-ne-some v (sym e))
+same-value false true v w t e = absurd (Option·none-ne-some w e)
+same-value false false v w t e = let z : _≡_ {A = ℕ} 0 1 = cc in absurd (omega arith)
+
+-- ---- a record
+
+module _ (r q : List ℕ) (lr : length r ≡ recordWords) (lq : length q ≡ recordWords) (gr : recordGood r ≡ true) (gq : recordGood q ≡ true)
+    (held : (b : ℕ) → heldIn b r ≡ heldIn b q) where
+  R : Good r
+  R = good-of r lr gr
+
+  Q : Good q
+  Q = good-of q lq gq
+
+  same-bit : (b : ℕ) → has (heldOf r) b ≡ has (heldOf q) b
+  same-bit b = same-test (has (heldOf r) b) (has (heldOf q) b) (slotOf b r) (slotOf b q) (held b)
+
+  same-held : heldOf r ≡ heldOf q
+  same-held = word-same 31 (heldOf r) (heldOf q) (R .small) (Q .small) (λ b h. same-bit b)
+
+  same-slot : (b : ℕ) → holds b ≡ true → slotOf b r ≡ slotOf b q
+  same-slot b o =
+      ⊎-elim (λ e. same-value (has (heldOf r) b) (has (heldOf q) b) (slotOf b r) (slotOf b q) e (held b))
+      (λ e. R .unheld b o e ∙ sym (Q .unheld b o (sym (same-bit b) ∙ e))) (true-or-false (has (heldOf r) b))
+
+  slots-sized : (x : List ℕ) → length x ≡ recordWords → length (slotsOf x) ≡ slotWords
+  unfolding slotsOf
+  slots-sized x l = part-length headWords slotWords x (omega arith)
+
+  same-slots : slotsOf r ≡ slotsOf q
+  unfolding slotOf slotIn slotAt heldBits holds
+  same-slots =
+      sym (in-order-parts 31 heldMask (slotsOf r) (slots-sized r lr ∙ sym slots-whole))
+      ∙ in-order-same 31 heldMask _ _ (λ b h o. same-slot b o)
+      ∙ in-order-parts 31 heldMask (slotsOf q) (slots-sized q lq ∙ sym slots-whole)
+
+  pub record-by : identifierOf r ≡ identifierOf q → ((kind : ℕ) → among kind countedTypes ≡ true → countOf (orderOf kind) r ≡ countOf (orderOf kind) q) → r ≡ q
+  unfolding countOf orderOf slotsOf
+  record-by i counts =
+      let words = same-join 0 1 1 r q (same-word 0 r q (omega arith) (omega arith) i) (same-word 1 r q (omega arith) (omega arith) same-held) in
+      let first = same-join 0 2 3 r q words (counts 1 refl) in
+      let second = same-join 0 5 3 r q first (counts 3 refl) in
+      let third = same-join 0 8 3 r q second (counts 4 refl) in
+      let head = same-join 0 11 3 r q third (counts 5 refl) in
+      let whole : part 0 recordWords r ≡ part 0 recordWords q = same-join 0 headWords slotWords r q head same-slots in
+      sym (part-whole r) ∙ ap (λ (n : ℕ). part 0 n r) lr ∙ whole ∙ ap (λ (n : ℕ). part 0 n q) (sym lq) ∙ part-whole q
+
+-- ---- a table
+
+-- two right tables have the same records, where the rules say the same of the streams
+pub records-same : (ids : List ℕ) (ps qs : List (List ℕ)) (t u : List ℕ) (p : Right ids ps t) (q : Right ids qs u) (s : ℕ) (h : s < length ids)
+    → ((b : ℕ) → heldIn b (recordAt s t) ≡ heldIn b (recordAt s u))
+    → ((kind : ℕ) → among kind countedTypes ≡ true → countOf (orderOf kind) (recordAt s t) ≡ countOf (orderOf kind) (recordAt s u)) → recordAt s t ≡ recordAt s u
+records-same ids ps qs t u p q s h held counts =
+    record-by (recordAt s t) (recordAt s u) (record-whole ids t (right-listed p) s h) (record-whole ids u (right-listed q) s h)
+    (well-record t (p .made) s (rw (p .streams) h)) (well-record u (q .made) s (rw (q .streams) h)) held
+    (record-identifier s t ∙ p .list s h ∙ sym (q .list s h) ∙ sym (record-identifier s u)) counts
+
+pub layout-is : {ids : List ℕ} {packets : List (List ℕ)} {t : List ℕ} → Right ids packets t → tableFrom (length ids) (λ s. recordAt s t) ≡ layoutOf ids t
+layout-is {ids} {packets} {t} p = rw (p .streams) at (table-again t (well-whole t (p .made)))
+
+pub determined : Determined
+determined ids packets t u p q =
+    sym (layout-is p)
+    ∙ table-same (length ids) (λ s. recordAt s t) (λ s. recordAt s u)
+    (λ s h. records-same ids packets packets t u p q s h (λ b. p .held s h b ∙ sym (q .held s h b)) (λ kind o. p .counts s h kind o ∙ sym (q .counts s h kind o)))
+    ∙ layout-is q
