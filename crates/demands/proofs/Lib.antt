@@ -10,3 +10,7 @@ pub mod RecordLaws
 pub mod RightLaws
 -- the rules leave nothing open
 pub mod Determined
+-- a play that is broken off and resumed
+pub mod Resumed
+-- other streams' packets altered
+pub mod Separate

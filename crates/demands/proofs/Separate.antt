@@ -1,0 +1,86 @@
+-- Streams do not touch one another. The idea: the rules look at a stream's own packets alone, so two recordings with the same own packets (`own-altered`) give the
+-- same rules for its record, hence the same words (`records-same`), and the same answers (`own-answers`).
+use mathlib.Core.Path.{_≡_, refl, sym, ap, _∙_}
+use mathlib.Core.Bool.{Bool, true, false}
+use mathlib.Core.Logic.{⊎-elim}
+use mathlib.Core.List.{List, [], _∷_, _++_, append-nil}
+use Prim.Native.Nat.{ℕ, _<_}
+use borrow.Author.Tests.{eqb-true}
+use lib.Dec.{eqb}
+use lib.ListN.{length}
+use Rattle.words.specs.Tests.{pick}
+use Rattle.words.specs.Outcome.{Outcome, refused, accepted}
+use Rattle.words.proofs.Cases.{true-or-false}
+use Rattle.table.specs.Layout.{recordAt}
+use Rattle.play.specs.declared.Heard.{Heard}
+use Rattle.demands.specs.Trace.{Arrival, Trace, heardOf, traceOf, isOwn, own, lastCarried, countsOf, countRule, addedAfter, answerTo, answersAfter}
+use Rattle.demands.specs.Demands.{ours, Right, playAll, saidAll, Altered, ended, same, changed, added, dropped, ownAnswers}
+use Rattle.demands.proofs.RuleLaws.{own-append}
+use Rattle.demands.proofs.RightLaws.{right-on, answers-on}
+use Rattle.demands.proofs.Determined.{records-same}
+
+-- ---- a stream's own packets
+
+own-not : (s : ℕ) (x : Outcome Arrival) (trace : Trace) → isOwn s x ≡ false → own s (x ∷ trace) ≡ own s trace
+own-not s (refused n) trace e = refl
+own-not s (accepted a) trace e = rw e
+
+own-same : (s : ℕ) (x : Outcome Arrival) (xs ys : Trace) → own s xs ≡ own s ys → own s (x ∷ xs) ≡ own s (x ∷ ys)
+own-same s (refused n) xs ys e = e
+own-same s (accepted a) xs ys e = rw e
+
+pub own-altered : (ids : List ℕ) (s : ℕ) {ps qs : List (List ℕ)} → Altered ids s ps qs → own s (traceOf ids ps) ≡ own s (traceOf ids qs)
+own-altered ids s ended = refl
+own-altered ids s (same {ps} {qs} ws a) = own-same s (heardOf ids ws) (traceOf ids ps) (traceOf ids qs) (own-altered ids s a)
+own-altered ids s (changed {ps} {qs} ws vs e f a) =
+    own-not s (heardOf ids ws) (traceOf ids ps) e ∙ own-altered ids s a ∙ sym (own-not s (heardOf ids vs) (traceOf ids qs) f)
+own-altered ids s (added {ps} {qs} vs f a) = own-altered ids s a ∙ sym (own-not s (heardOf ids vs) (traceOf ids qs) f)
+own-altered ids s (dropped {ps} {qs} ws e a) = own-not s (heardOf ids ws) (traceOf ids ps) e ∙ own-altered ids s a
+
+-- ---- the answers to them
+
+-- by the stream's own packets before each
+ownHeard : List Arrival → Arrival → Outcome Heard
+ownHeard before a = accepted (record { size = a .size; kind = a .kind; stream = a .stream; missing = addedAfter (countsOf (a .kind) before) (a .count) })
+
+ownRule : List Arrival → List Arrival → List (Outcome Heard)
+ownRule before [] = []
+ownRule before (a ∷ later) = ownHeard before a ∷ ownRule (before ++ (a ∷ [])) later
+
+chosen : (s : ℕ) (x : Outcome Arrival) (before later : Trace) (answers : List (Outcome Heard)) → answers ≡ ownRule (own s (before ++ (x ∷ []))) (own s later)
+    → pick (isOwn s x) (answerTo before x ∷ answers) answers ≡ ownRule (own s before) (own s (x ∷ later))
+unfolding ownRule ownHeard
+chosen s (refused n) before later answers e = e ∙ ap (λ (l : List Arrival). ownRule l (own s later)) (own-append s before (refused n ∷ []) ∙ append-nil (own s before))
+chosen s (accepted a) before later answers e =
+    ⊎-elim
+    (λ t.
+    let k : a .stream ≡ s = eqb-true (a .stream) s t in
+    let o : own s (before ++ (accepted a ∷ [])) ≡ own s before ++ (a ∷ []) = own-append s before (accepted a ∷ []) ∙ rw t in
+    rw (t, e, o) (ap (λ (n : ℕ). ownHeard (own n before) a ∷ ownRule (own s before ++ (a ∷ [])) (own s later)) k))
+    (λ t.
+    let o : own s (before ++ (accepted a ∷ [])) ≡ own s before = own-append s before (accepted a ∷ []) ∙ rw t (append-nil (own s before)) in
+    ap (λ (b : Bool). pick b (answerTo before (accepted a) ∷ answers) answers) t ∙ e ∙ ap (λ (l : List Arrival). ownRule l (own s later)) o
+    ∙ ap (λ (b : Bool). ownRule (own s before) (pick b (a ∷ own s later) (own s later))) (sym t))
+    (true-or-false (eqb (a .stream) s))
+
+own-answers : (ids : List ℕ) (s : ℕ) (before : Trace) (packets : List (List ℕ))
+    → ownAnswers ids s packets (answersAfter before (traceOf ids packets)) ≡ ownRule (own s before) (own s (traceOf ids packets))
+unfolding ownRule
+own-answers ids s before [] = refl
+own-answers ids s before (ws ∷ packets) =
+    chosen s (heardOf ids ws) before (traceOf ids packets) _ (own-answers ids s (before ++ (heardOf ids ws ∷ [])) packets)
+
+-- ---- other streams' packets altered
+
+pub apart : (ids : List ℕ) (t u : List ℕ) → Right ids [] t → Right ids [] u → (s : ℕ) → s < length ids → (ps qs : List (List ℕ)) → Altered ids s ps qs
+    → (recordAt s (playAll ours t ps) ≡ recordAt s (playAll ours u qs)) × (ownAnswers ids s ps (saidAll ours t ps) ≡ ownAnswers ids s qs (saidAll ours u qs))
+apart ids t u r q s h ps qs a =
+    let o = own-altered ids s a in
+    let x : Right ids ps (playAll ours t ps) = right-on ids [] ps t r in
+    let y : Right ids qs (playAll ours u qs) = right-on ids [] qs u q in (
+      records-same ids ps qs _ _ x y s h
+          (λ b. x .held s h b ∙ ap (lastCarried b) o ∙ sym (y .held s h b))
+          (λ kind k. x .counts s h kind k ∙ ap (λ (l : List Arrival). countRule (countsOf kind l)) o ∙ sym (y .counts s h kind k)),
+      ap (ownAnswers ids s ps) (answers-on ids [] ps t r) ∙ own-answers ids s [] ps ∙ ap (ownRule []) o
+          ∙ sym (ap (ownAnswers ids s qs) (answers-on ids [] qs u q) ∙ own-answers ids s [] qs),
+    )
