@@ -14,3 +14,5 @@ pub mod Determined
 pub mod Resumed
 -- other streams' packets altered
 pub mod Separate
+-- the demands are met
+pub mod AllMet

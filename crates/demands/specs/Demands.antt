@@ -1,6 +1,6 @@
 -- The three demands, in the words of the person this is built for (quoted above each statement), as statements about a program: a record of what its calls
 -- answer, and what they leave in the words that they are lent. `ours` is the program of this project: each call by the definition that its promise cites, so
--- that proofs/Met.antt, which proves the demands of `ours`, proves them of the code.
+-- that proofs/AllMet.antt, which proves the demands of `ours`, proves them of the code.
 use mathlib.Core.Path.{_≡_}
 use Prim.Native.Nat.{ℕ, _+_, _*_, _^_, _≤_, _<_}
 use mathlib.Core.Bool.{Bool, true, false}
