@@ -16,3 +16,5 @@ pub mod Resumed
 pub mod Separate
 -- the demands are met
 pub mod AllMet
+-- the bench's samples
+pub mod Samples

@@ -4,3 +4,5 @@
 pub mod Demands
 -- which packets of a trace are accepted, and the rules over them
 pub mod Trace
+-- the cases marked P, as one table
+pub mod Samples
