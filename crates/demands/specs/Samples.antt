@@ -4,7 +4,8 @@ use mathlib.Core.Path.{_≡_}
 use Prim.Native.Nat.{ℕ, zero, suc, _+_, _-_, _/_, _%_, _^_}
 use mathlib.Core.Bool.{Bool, true, false}
 use mathlib.Core.List.{List, [], _∷_}
-use lib.IntN.{ℤ, negsuc}
+use lib.IntN.{ℤ, pos, negsuc}
+use lib.Ieee.{fin}
 use Rattle.words.specs.Numbers.{SHORT, CUT}
 use Rattle.words.specs.Outcome.{Outcome, refused, accepted, Done}
 use Rattle.fields.specs.Format.{realComplex, itemCode, packingSize, itemSize}
@@ -16,6 +17,7 @@ use Rattle.payload.specs.Format.{linkEfficient}
 use Rattle.payload.specs.Pack.{packOf}
 use Rattle.payload.specs.Unpack.{Buffers, buffers, unpackOf}
 use Rattle.payload.specs.Signs.{signedOf}
+use Rattle.panel.specs.Readings.{Reading, frequency, level, temperature, shownOf}
 use Rattle.demands.specs.Trace.{missed}
 
 -- a row, of any type: what is got, and what is wanted
@@ -71,7 +73,13 @@ bench =
     -- "0xA00003CF: link, complex, 16-bit signed."
     ∷ row (linkEfficient 0xA00003CF) true
     ∷ row (realComplex 0xA00003CF ∷ itemCode 0xA00003CF ∷ packingSize 0xA00003CF ∷ itemSize 0xA00003CF ∷ []) (1 ∷ 0 ∷ 16 ∷ 16 ∷ [])
-    -- "12-bit 0x800 is -2048; one-bit 1 is -1."
+    -- "rate 0x00000000 00100000 is 1 Hz; frequency 0xFFFFFFFF FFFFFFFF is whole -1, parts 1,048,575."
+    ∷ row (shownOf 21 (0x00000000 ∷ 0x00100000 ∷ [])) (frequency (pos 1) 0)
+    ∷ row (shownOf 27 (0xFFFFFFFF ∷ 0xFFFFFFFF ∷ [])) (frequency (negsuc 0) 1048575)
+    -- "level 0xFF80 is -1; temperature 0xFFE0 is -0.5. 12-bit 0x800 is -2048; one-bit 1 is -1." A float is sign, fraction and exponent: -1 is -(1 * 2 ^ 0), and
+    -- -0.5 is -(1 * 2 ^ -1)
+    ∷ row (shownOf 24 (0xFF80 ∷ [])) (level (fin true 1 (pos 0)))
+    ∷ row (shownOf 18 (0xFFE0 ∷ [])) (temperature (fin true 1 (negsuc 0)))
     ∷ row (signedOf 12 0x800) (accepted (negsuc 2047))
     ∷ row (signedOf 1 1) (accepted (negsuc 0))
     ∷ []
