@@ -18,3 +18,5 @@ pub mod Separate
 pub mod AllMet
 -- the bench's samples
 pub mod Samples
+-- five useless programs, shut out
+pub mod Useless

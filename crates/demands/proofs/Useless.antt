@@ -1,0 +1,146 @@
+-- Five useless programs, each shut out by a demand: no program of its kind, whatever its other calls do, meets the demand. The idea: the demand fixes what a
+-- table holds or an answer says for two short recordings, and the useless program would have to give one thing for both.
+use mathlib.Core.Path.{_≡_, refl, sym, ap, _∙_}
+use mathlib.Core.Bool.{Bool, true, false}
+use mathlib.Core.List.{List, [], _∷_}
+use mathlib.Core.Option.{Option, none, some}
+use Prim.Native.Nat.{ℕ, zero, suc, _+_, _-_, _/_, _%_, _^_, _≤_, _<_}
+use native.Mathlib.Omega.{arith}
+use lib.ListN.{length, getD, replicate, length-replicate}
+use Rattle.words.specs.Part.{part}
+use Rattle.words.specs.SetBits.{bitsOf, above}
+use Rattle.words.specs.All.{all, firstOf}
+use Rattle.words.specs.Outcome.{Outcome, refused, accepted, Done, saidOf, leftOf}
+use Rattle.words.proofs.Cases.{accepted-same}
+use Rattle.fields.specs.Sizes.{sizeOf, wordsOf}
+use Rattle.fields.specs.Rules.{ruleOf}
+use Rattle.fields.specs.Layout.{spanOf, obeyed, bodyWords, placeOf, fieldOf, lowBitsSet, otherLength, ruleBroken, contextOf}
+use Rattle.packet.specs.declared.Packet.{Packet}
+use Rattle.packet.specs.Header.{trailed, tsmOf, reservedOf}
+use Rattle.packet.specs.Parts.{streamed, hasSeconds, hasFraction, classAt, secondsAt, fractionAt, bodyAt, requiredOf, bodyLength, wordIf, classHigh, classLow, fractionOf, partsOf, bodyOf, packetOf}
+use Rattle.packet.specs.Read.{headerChecks, sizeChecks, timeOver, prologueChecks, bodyChecks, checksOf, readOf}
+use Rattle.record.specs.Layout.{orderOf, countOf, seenOf}
+use Rattle.record.specs.Counts.{missedOf}
+use Rattle.table.specs.Layout.{base, recordAt}
+use Rattle.table.specs.Identifiers.{listed, apart, listGood}
+use Rattle.play.specs.declared.Heard.{Heard}
+use Rattle.demands.specs.Trace.{Arrival, placeIn, arrivalOf, heardOf, traceOf, own, lastCarried, countsOf, countRule, answersAfter}
+use Rattle.demands.specs.Demands.{Program, Demand2, Demand3, heldIn, playAll, saidAll}
+
+-- ---- packets of stream 7: sample data of three and of four words, and Context packets that carry one word, in the field of bit 30
+
+abbrev ids : List ℕ
+ids = 7 ∷ []
+
+abbrev data3 : List ℕ
+data3 = 0x140F0003 ∷ 7 ∷ 0 ∷ []
+
+abbrev data4 : List ℕ
+data4 = 0x140F0004 ∷ 7 ∷ 1 ∷ 0 ∷ []
+
+abbrev first : List ℕ
+first = 0x40000004 ∷ 7 ∷ 0x40000000 ∷ 1 ∷ []
+
+abbrev second : List ℕ
+second = 0x40000004 ∷ 7 ∷ 0x40000000 ∷ 2 ∷ []
+
+abbrev sizeRead : Outcome Packet → ℕ
+sizeRead (refused n) = 0
+sizeRead (accepted p) = p .size
+
+-- what reading and the list make of them
+record Computed : Type 0 where
+  read3 : (p : Packet) × (readOf data3 ≡ accepted p) × (p .size ≡ 3)
+  read4 : (p : Packet) × (readOf data4 ≡ accepted p) × (p .size ≡ 4)
+  heard3 : heardOf ids data3 ≡ accepted (record { stream = 0; kind = 1; count = 15; size = 3; body = [] })
+  heard-first : heardOf ids first ≡ accepted (record { stream = 0; kind = 4; count = 0; size = 4; body = 0x40000000 ∷ 1 ∷ [] })
+  heard-second : heardOf ids second ≡ accepted (record { stream = 0; kind = 4; count = 0; size = 4; body = 0x40000000 ∷ 2 ∷ [] })
+  field-first : fieldOf 30 (0x40000000 ∷ 1 ∷ []) ≡ 1 ∷ []
+  field-second : fieldOf 30 (0x40000000 ∷ 2 ∷ []) ≡ 2 ∷ []
+
+computed : Computed
+unfolding heardOf arrivalOf placeIn firstOf trailed tsmOf reservedOf streamed hasSeconds hasFraction classAt secondsAt fractionAt bodyAt requiredOf bodyLength wordIf classHigh classLow fractionOf partsOf bodyOf packetOf part headerChecks sizeChecks timeOver prologueChecks bodyChecks checksOf readOf contextOf lowBitsSet otherLength ruleBroken bodyWords spanOf obeyed ruleOf wordsOf sizeOf bitsOf above placeOf fieldOf
+computed = record {
+  read3 = (_, refl, refl);
+  read4 = (_, refl, refl);
+  heard3 = refl;
+  heard-first = refl;
+  heard-second = refl;
+  field-first = refl;
+  field-second = refl;
+}
+
+-- ---- demand 2's layouts
+
+-- a constant refusal
+pub no-constant-refusal : (P : Program) (n : ℕ) → ((ws : List ℕ) → P .read ws ≡ refused n) → Demand2 P → ⊥
+no-constant-refusal P n same d =
+    let e : refused n ≡ accepted (computed .read3 .0) = sym (same data3) ∙ d .reads data3 ∙ computed .read3 .1 in
+    let z : _≡_ {A = ℕ} 0 3 = ap sizeRead e ∙ computed .read3 .2 in
+    omega (arith, z)
+
+-- a constant answer: the same for every packet that is legal
+pub no-constant-answer : (P : Program) (p : Packet) → ((ws : List ℕ) (q : Packet) → readOf ws ≡ accepted q → P .read ws ≡ accepted p) → Demand2 P → ⊥
+no-constant-answer P p same d =
+    let three : p .size ≡ 3 = ap sizeRead (sym (same data3 (computed .read3 .0) (computed .read3 .1)) ∙ d .reads data3 ∙ computed .read3 .1) ∙ computed .read3 .2 in
+    let four : p .size ≡ 4 = ap sizeRead (sym (same data4 (computed .read4 .0) (computed .read4 .1)) ∙ d .reads data4 ∙ computed .read4 .1) ∙ computed .read4 .2 in
+    omega (arith, three, four)
+
+-- ---- demand 3
+
+-- a fresh table for stream 7
+abbrev buffer : List ℕ
+buffer = replicate 89 0
+
+-- the word that is held
+abbrev valueIn : Option (List ℕ) → ℕ
+valueIn none = 0
+valueIn (some v) = getD v 0 0
+
+-- the answer to the packet of three words, by the missing that it adds
+abbrev heard : ℕ → Heard
+heard m = record { size = 3; kind = 1; stream = 0; missing = m }
+
+good-list : listGood (length ids) (listed ids) ≡ true
+unfolding listGood apart all
+good-list = refl
+
+module _ (P : Program) (d : Demand3 P) where
+  begun : (e : Done ℕ (List ℕ)) × (P .start ids buffer ≡ accepted e)
+  begun = d .starts ids buffer good-list (omega (arith, length-replicate {A = ℕ} 89 0))
+
+  abbrev fresh : List ℕ
+  fresh = begun .0 .leaves
+
+  seen-after : (packets : List (List ℕ)) → countOf (orderOf 1) (recordAt 0 (playAll P (begun .0 .leaves) packets)) ≡ countRule (countsOf 1 (own 0 (traceOf ids packets)))
+  seen-after packets = d .right ids buffer (begun .0) (begun .1) packets .counts 0 (omega arith) 1 refl
+
+  held-after : (packets : List (List ℕ)) → heldIn 30 (recordAt 0 (playAll P (begun .0 .leaves) packets)) ≡ lastCarried 30 (own 0 (traceOf ids packets))
+  held-after packets = d .right ids buffer (begun .0) (begun .1) packets .held 0 (omega arith) 30
+
+  -- an idle play: shut out by the counts
+  pub no-idle-play : ((t ws : List ℕ) → leftOf (P .play t ws) t ≡ t) → ⊥
+  no-idle-play idle =
+      let none-seen : seenOf (countOf (orderOf 1) (recordAt 0 fresh)) ≡ 0 = ap seenOf (seen-after []) in
+      let one : seenOf (countOf (orderOf 1) (recordAt 0 (leftOf (P .play fresh data3) fresh))) ≡ 1 = ap seenOf (seen-after (data3 ∷ [])) ∙ rw (computed .heard3) in
+      omega (arith, none-seen, sym (ap (λ (t : List ℕ). seenOf (countOf (orderOf 1) (recordAt 0 t))) (idle fresh data3)) ∙ one)
+
+  -- one that plays the first packet and feigns the rest, so that no later packet changes what is held: shut out by the last-carried rule
+  pub no-feigned-rest : ((list t : List ℕ) (e : Done ℕ (List ℕ)) → P .start list t ≡ accepted e → (ws : List ℕ) (rest : List (List ℕ)) (s b : ℕ)
+      → heldIn b (recordAt s (playAll P (e .leaves) (ws ∷ rest))) ≡ heldIn b (recordAt s (playAll P (e .leaves) (ws ∷ [])))) → ⊥
+  no-feigned-rest feigned =
+      let one : valueIn (heldIn 30 (recordAt 0 (playAll P fresh (first ∷ [])))) ≡ 1 = ap valueIn (held-after (first ∷ [])) ∙ rw (computed .heard-first, computed .field-first) in
+      let two : valueIn (heldIn 30 (recordAt 0 (playAll P fresh (first ∷ second ∷ [])))) ≡ 2 =
+      ap valueIn (held-after (first ∷ second ∷ [])) ∙ rw (computed .heard-first, computed .heard-second, computed .field-second) in
+      let same = ap valueIn (feigned ids buffer (begun .0) (begun .1) first (second ∷ []) 0 30) in
+      omega (arith, one, two, same)
+
+  -- an invented missing number, one that the packet alone gives, whatever was counted before: shut out by the modulo 16 rule
+  pub no-invented-missing : (number : List ℕ → ℕ) → ((t ws : List ℕ) (h : Heard) → saidOf (P .play t ws) ≡ accepted h → h .missing ≡ number ws) → ⊥
+  unfolding missedOf
+  no-invented-missing number invented =
+      let both : saidAll P fresh (data3 ∷ data3 ∷ []) ≡ accepted (heard 0) ∷ accepted (heard 15) ∷ [] =
+      d .answers ids buffer (begun .0) (begun .1) (data3 ∷ data3 ∷ []) ∙ rw (computed .heard3) in
+      let none-missing : 0 ≡ number data3 = invented fresh data3 (heard 0) (ap (λ (l : List (Outcome Heard)). getD l 0 (refused 0)) both) in
+      let some-missing : 15 ≡ number data3 = invented (leftOf (P .play fresh data3) fresh) data3 (heard 15) (ap (λ (l : List (Outcome Heard)). getD l 1 (refused 0)) both) in
+      omega (arith, none-missing, some-missing)
