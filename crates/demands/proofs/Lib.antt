@@ -20,3 +20,5 @@ pub mod AllMet
 pub mod Samples
 -- five useless programs, shut out
 pub mod Useless
+-- every promise leaves one outcome, and a refusal the lent words
+pub mod Once

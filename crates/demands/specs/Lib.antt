@@ -4,5 +4,7 @@
 pub mod Demands
 -- which packets of a trace are accepted, and the rules over them
 pub mod Trace
+-- every public call, with its promise
+pub mod Calls
 -- the cases marked P, as one table
 pub mod Samples

@@ -1,0 +1,86 @@
+-- Every public call, with its promise. No call has a `requires`: it may be handed any words. The promise of a call that is lent nothing is `paper r ≡ want h`,
+-- and that of a call that is lent words is `Meets paper (want h) (lent h) r after`, of what it is handed, h, its answer r, and the lent words afterwards; these
+-- are the `ensures` of the calls, word for word.
+use mathlib.Core.Path.{_≡_}
+use Prim.Native.Nat.{ℕ}
+use mathlib.Core.Bool.{Bool}
+use mathlib.Core.List.{List, [], _∷_}
+use lib.ListN.{length}
+use Rattle.words.specs.Outcome.{Outcome, refused, checked, Done, Meets}
+use Rattle.fields.specs.Answers.{foundPaper}
+use Rattle.fields.specs.Layout.{carried, foundOf, contextOf}
+use Rattle.packet.specs.declared.Parts.{Parts}
+use Rattle.packet.specs.declared.Trailer.{Trailer}
+use Rattle.packet.specs.Read as Read
+use Rattle.packet.specs.Trailer.{trailerOf, trailerWordOf, trailerPaper}
+use Rattle.packet.specs.Write.{writeOf, writtenPaper}
+use Rattle.payload.specs.Answers.{neededPaper, unpackedPaper, packedPaper, shownPaper}
+use Rattle.payload.specs.Count.{neededOf}
+use Rattle.payload.specs.Pack.{packOf}
+use Rattle.payload.specs.Signs.{signedOf}
+use Rattle.payload.specs.Unpack.{Buffers, unpackOf}
+use Rattle.table.specs.Start as Start
+use Rattle.table.specs.Well.{wellMade}
+use Rattle.play.specs.Play as Play
+use Rattle.play.specs.Run.{runOf, runPaper}
+use Rattle.page.specs.PutBack.{putBackOf, backPaper}
+use Rattle.page.specs.Save as Save
+use Rattle.panel.specs.HeldWords.{heldWordsOf, copiedPaper}
+use Rattle.panel.specs.Readings.{readingOf, readingPaper}
+
+-- a call that answers alone, and one that is lent words: how its answers read on paper, what is wanted by what it is handed, and which words are lent
+pub data Call : Type 1 where
+  answers : {H A B : Type 0} → (A → B) → (H → B) → Call
+  lends : {H A B L : Type 0} → (A → Outcome B) → (H → Outcome (Done B L)) → (H → L) → Call
+
+-- "Prove that two outcomes meeting it are equal": the answers, and the lent words afterwards
+abbrev pub OneOutcome : Call → Type 0
+OneOutcome (answers {H} {A} paper want) = (h : H) (r s : A) → paper r ≡ want h → paper s ≡ want h → r ≡ s
+OneOutcome (lends {H} {A} {B} {L} paper want lent) =
+    (h : H) (r s : A) (after after′ : L) → Meets paper (want h) (lent h) r after → Meets paper (want h) (lent h) s after′ → (r ≡ s) × (after ≡ after′)
+
+-- "A refusal changes no word of any buffer it was lent"
+abbrev pub RefusalLeaves : Call → Type 0
+RefusalLeaves (answers paper want) = Unit
+RefusalLeaves (lends {H} {A} {B} {L} paper want lent) =
+    (h : H) (r : A) (after : L) (n : ℕ) → Meets paper (want h) (lent h) r after → paper r ≡ refused n → after ≡ lent h
+
+-- something of each call of a list
+abbrev pub Each : (Call → Type 0) → List {1} Call → Type 0
+Each P [] = Unit
+Each P (c ∷ cs) = P c × Each P cs
+
+-- a number or a truth reads as itself
+abbrev pub plain : {A : Type 0} → A → A
+plain a = a
+
+unfoldable pub calls : List {1} Call
+calls =
+    -- fields::field_count, check_body, find
+    answers plain (λ (indicator : ℕ). length (carried indicator))
+    ∷ answers checked contextOf
+    ∷ answers foundPaper (λ (h : ℕ × List ℕ). foundOf (h .0) (h .1))
+    -- packet::read, write, trailer_parts, trailer_word
+    ∷ answers Read.paper Read.readOf
+    ∷ lends writtenPaper (λ (h : Parts × List ℕ × List ℕ × ℕ). writeOf (h .0) (h .1) (h .2) (h .3)) (λ h. h .2)
+    ∷ answers plain trailerOf
+    ∷ answers trailerPaper (λ (h : ℕ × ℕ × ℕ × ℕ). trailerWordOf (h .0) (h .1) (h .2) (h .3))
+    -- payload::words_needed, unpack, pack, signed
+    ∷ answers neededPaper (λ (h : ℕ × ℕ × ℕ). neededOf (h .0) (h .1) (h .2))
+    ∷ lends unpackedPaper (λ (h : ℕ × ℕ × ℕ × List ℕ × Buffers). unpackOf (h .0) (h .1) (h .2) (h .3) (h .4)) (λ h. h .4)
+    ∷ lends packedPaper (λ (h : ℕ × ℕ × List ℕ × List ℕ × List ℕ × List ℕ). packOf (h .0) (h .1) (h .2) (h .3) (h .4) (h .5)) (λ h. h .5)
+    ∷ answers shownPaper (λ (h : ℕ × ℕ). signedOf (h .0) (h .1))
+    -- table::start, well_made
+    ∷ lends Start.paper (λ (h : List ℕ × List ℕ). Start.startOf (h .0) (h .1)) (λ h. h .1)
+    ∷ answers plain wellMade
+    -- play::play, play_run
+    ∷ lends Play.paper (λ (h : List ℕ × List ℕ). Play.playOf (h .0) (h .1)) (λ h. h .0)
+    ∷ lends runPaper (λ (h : List ℕ × List ℕ × ℕ × List ℕ). runOf (h .0) (h .1) (h .2) (h .3)) (λ h. (h .0, h .3))
+    -- page::page_length, save, put_back
+    ∷ answers Save.paper Save.lengthOf
+    ∷ lends Save.paper (λ (h : List ℕ × List ℕ). Save.saveOf (h .0) (h .1)) (λ h. h .1)
+    ∷ lends backPaper (λ (h : List ℕ × List ℕ). putBackOf (h .0) (h .1)) (λ h. h .1)
+    -- panel::reading, held_words
+    ∷ answers readingPaper (λ (h : List ℕ × ℕ × ℕ). readingOf (h .0) (h .1) (h .2))
+    ∷ lends copiedPaper (λ (h : List ℕ × ℕ × ℕ × List ℕ). heldWordsOf (h .0) (h .1) (h .2) (h .3)) (λ h. h .3)
+    ∷ []
