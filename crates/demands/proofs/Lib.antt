@@ -1,5 +1,14 @@
--- The proofs of the demands.
+-- The proofs of the demands. AllMet has the theorems; the others are what they cite, each file opening with its idea.
 
+-- every promise leaves one outcome, and a refusal the lent words
+pub mod Once
+-- an accepted packet written again gives the same words, and what was written reads back
+pub mod Again
+pub mod Back
+-- packed and unpacked again, unpacked and packed again
+pub mod RoundTrip
+-- what the definition of packing says of each packing, in document 01's words
+pub mod Packings
 -- the rules of a trace, when a packet more is heard
 pub mod RuleLaws
 -- playing on a table of a list, as the trace tells it
@@ -20,5 +29,3 @@ pub mod AllMet
 pub mod Samples
 -- five useless programs, shut out
 pub mod Useless
--- every promise leaves one outcome, and a refusal the lent words
-pub mod Once

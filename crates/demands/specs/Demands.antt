@@ -27,6 +27,7 @@ use Rattle.play.specs.declared.Heard.{Heard}
 use Rattle.play.specs.Play.{playOf}
 use Rattle.page.specs.Save.{saveOf}
 use Rattle.page.specs.PutBack.{putBackOf}
+use Rattle.demands.specs.Clean.{Clean}
 use Rattle.demands.specs.Trace.{Trace, heardOf, traceOf, isOwn, own, lastCarried, countedTypes, countsOf, countRule, answersAfter}
 
 -- ---- a program
@@ -82,6 +83,13 @@ pub record Demand2 (P : Program) : Type 0 where
       × (take (length items) (leftOf answer b .items) ≡ items)
       × (take (length items) (leftOf answer b .events) ≡ events)
       × (take (length items) (leftOf answer b .channels) ≡ channels)
+
+  -- and the other way: words that a writer made, unpacked and packed, are the same words
+  pub packed : (first second n : ℕ) (ws : List ℕ) → Words ws → Clean first n ws → (b : Buffers) (v : ℕ) → saidOf (P .unpack first second n ws b) ≡ accepted v
+      → (out : List ℕ) → length ws ≤ length out
+      → let left = leftOf (P .unpack first second n ws b) b in
+      let answer = P .pack first second (take n (left .items)) (take n (left .events)) (take n (left .channels)) out in
+      (saidOf answer ≡ accepted (length ws)) × (take (length ws) (leftOf answer out) ≡ ws)
 
 -- ---- demand 3: tables
 

@@ -4,6 +4,8 @@
 pub mod Demands
 -- which packets of a trace are accepted, and the rules over them
 pub mod Trace
+-- packed words, as a writer makes them
+pub mod Clean
 -- every public call, with its promise
 pub mod Calls
 -- the cases marked P, as one table

@@ -14,9 +14,5 @@ pub mod FitLaws
 pub mod LayLaws
 -- a header that was made of parts, read again
 pub mod HeaderLaws
--- demand 2: an accepted packet written again gives the same words
-pub mod Again
--- what was written reads back
-pub mod Back
 -- a trailer word taken apart and made again
 pub mod TrailerLaws

@@ -13,9 +13,5 @@ pub mod UnpackLaws
 pub mod SignLaws
 -- the same of packing
 pub mod PackLaws
--- what the definition says of each packing, in document 01's words
-pub mod Packings
 -- two outcomes that meet a promise are equal
 pub mod Uniqueness
--- packed and unpacked again, unpacked and packed again
-pub mod RoundTrip

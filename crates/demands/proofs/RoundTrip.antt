@@ -12,7 +12,7 @@ use lib.Seq.{getD-take, length-take-le}
 use lib.Dec.{ltb}
 use lib.Pow.{pow-pos, shr-lt}
 use borrow.Author.Tests.{lt-ltb, le-ltb, eq-eqb}
-use Rattle.words.specs.Outcome.{Outcome, refused, accepted, after, Done, saidOf, Meets}
+use Rattle.words.specs.Outcome.{Outcome, refused, accepted, after, Done, saidOf, leftOf, Meets}
 use Rattle.words.proofs.Cases.{accepted-same}
 use Rattle.words.proofs.AllLaws.{all-intro}
 use Rattle.fields.specs.Format.{eventSize, channelSize, itemSize, packingSize}
@@ -22,19 +22,22 @@ use Rattle.bitstream.specs.Filled.{filled}
 use Rattle.bitstream.proofs.SpanLaws.{below}
 use Rattle.bitstream.proofs.CarriedLaws.{field-back, word-back, enough}
 use Rattle.bitstream.proofs.FilledLaws.{filled-front, filled-at, filled-length}
 use Rattle.payload.specs.declared.format.Packing.{Packing}
 use Rattle.payload.specs.declared.unpacking.Unpacked.{Unpacked}
+use Rattle.payload.specs.declared.unpacking.Unpacked.the-variants as unpackedAs
 use Rattle.payload.specs.declared.packing.Packed.{Packed}
+use Rattle.payload.specs.declared.packing.Packed.the-variants as packedAs
 use Rattle.payload.specs.Format.{formatBad, carriedBits, packingOf, Legal}
 use Rattle.payload.specs.Count.{countBad, wordsFor}
 use Rattle.payload.specs.Field.{fieldIn, itemIn, eventIn, channelIn, unusedIn, fieldsOf, fitting}
 use Rattle.payload.specs.Unpack.{Buffers, unpacked, unpackCheck, unpackOf}
 use Rattle.payload.specs.Pack.{packed, packCheck, packOf}
 use Rattle.payload.specs.Answers.{unpackedPaper, packedPaper}
+use Rattle.demands.specs.Clean.{Clean}
 use Rattle.payload.proofs.FormatLaws.{legal, carry-some, carry-most, field-some}
 use Rattle.payload.proofs.FieldLaws.{item-back, event-back, channel-back, made-below, made-back, fields-blank}
 use Rattle.payload.proofs.UnpackLaws.{UnpackPassed, unpack-passed}
 use Rattle.payload.proofs.PackLaws.{PackPassed, pack-passed, packable}
 
 -- ---- an accepted answer: the checks passed, and what the call says and leaves
 said : {A L : Type 0} (k : Outcome Unit) (d : Done A L) (a : A) → saidOf (after k (accepted d)) ≡ accepted a → (k ≡ accepted tt) × (d .says ≡ a)
@@ -139,12 +142,6 @@ pack-then-unpack first second is es cs out out′ r w b b′ u p a q hi he hc =
 
 -- ---- unpacked, then packed
 
--- the words have zero where no item and no tag stands: in each field's unused bits, in each word's bits that carry no field, and past the last field
-pub record Clean (first n : ℕ) (ws : List ℕ) : Type 0 where
-  pub unused : (k : ℕ) → k < n → unusedIn (packingOf first) (fieldIn (packingOf first) ws k) ≡ 0
-  pub uncarried : (j : ℕ) → getD ws j 0 % 2 ^ (32 - carriedBits first) ≡ 0
-  pub padding : (i : ℕ) → packingSize first * n ≤ i → bit (carriedBits first) (carried (carriedBits first) ws) i ≡ 0
-
 -- lists that hold the parts of the words' fields
 record Parts (first n : ℕ) (ws is es cs : List ℕ) : Type 0 where
   items : length is ≡ n
@@ -226,3 +223,53 @@ unpack-then-pack first second n ws b b′ u v out out′ r w z p a q room =
       q .answer ∙ rw (c, e),
       ap (take (length ws)) (q .buffer ∙ rw c) ∙ repacked first second n ws is es cs out (k .format) (k .count) (k .there) h room w z,
     )
+
+-- ---- the same over the definitions: there is an answer for each outcome
+
+unpackedFor : Outcome ℕ → Unpacked
+unpackedFor (refused n) = unpackedAs.Refused n
+unpackedFor (accepted n) = unpackedAs.Accepted n
+
+unpacked-for : (o : Outcome ℕ) → unpackedPaper (unpackedFor o) ≡ o
+unfolding unpackedFor
+unpacked-for (refused n) = refl
+unpacked-for (accepted n) = refl
+
+pub come-back : (first second : ℕ) (items events channels out : List ℕ) (d : Done ℕ (List ℕ)) → packOf first second items events channels out ≡ accepted d
+    → (b : Buffers) → length items ≤ length (b .items) → length items ≤ length (b .events) → length items ≤ length (b .channels)
+    → let answer = unpackOf first second (length items) (take (d .says) (d .leaves)) b in
+    (saidOf answer ≡ accepted (length items))
+    × (take (length items) (leftOf answer b .items) ≡ items)
+    × (take (length items) (leftOf answer b .events) ≡ events)
+    × (take (length items) (leftOf answer b .channels) ≡ channels)
+come-back first second items events channels out d e b hi he hc =
+    let answer : Outcome (Done ℕ Buffers) = unpackOf first second (length items) (take (d .says) (d .leaves)) b in
+    let k =
+    pack-then-unpack first second items events channels out (d .leaves) (packedAs.Accepted (d .says)) (d .says) b (leftOf answer b) (unpackedFor (saidOf answer))
+    (record { answer = sym (ap saidOf e); buffer = sym (ap (λ (o : Outcome (Done ℕ (List ℕ))). leftOf o out) e) }) refl
+    (record { answer = unpacked-for (saidOf answer); buffer = refl }) hi he hc in
+    (sym (unpacked-for (saidOf answer)) ∙ k .0, k .1, k .2, k .3)
+
+packedFor : Outcome ℕ → Packed
+packedFor (refused n) = packedAs.Refused n
+packedFor (accepted n) = packedAs.Accepted n
+
+packed-for : (o : Outcome ℕ) → packedPaper (packedFor o) ≡ o
+unfolding packedFor
+packed-for (refused n) = refl
+packed-for (accepted n) = refl
+
+pub packed-again : (first second n : ℕ) (ws : List ℕ) → ((j : ℕ) → getD ws j 0 < 2 ^ 32) → Clean first n ws → (b : Buffers) (v : ℕ) → saidOf (unpackOf first second n ws b) ≡ accepted v
+    → (out : List ℕ) → length ws ≤ length out
+    → let left = leftOf (unpackOf first second n ws b) b in
+    let answer = packOf first second (take n (left .items)) (take n (left .events)) (take n (left .channels)) out in
+    (saidOf answer ≡ accepted (length ws)) × (take (length ws) (leftOf answer out) ≡ ws)
+packed-again first second n ws small clean b v e out room =
+    let o : Outcome (Done ℕ Buffers) = unpackOf first second n ws b in
+    let left : Buffers = leftOf o b in
+    let answer : Outcome (Done ℕ (List ℕ)) = packOf first second (take n (left .items)) (take n (left .events)) (take n (left .channels)) out in
+    let k =
+    unpack-then-pack first second n ws b left (unpackedFor (saidOf o)) v out (leftOf answer out) (packedFor (saidOf answer)) small clean
+    (record { answer = unpacked-for (saidOf o); buffer = refl }) (unpacked-for (saidOf o) ∙ e)
+    (record { answer = packed-for (saidOf answer); buffer = refl }) room in
+    (sym (packed-for (saidOf answer)) ∙ k .0, k .1)

@@ -1,0 +1,16 @@
+-- Document 01, 'Payload': "Writers put zero in unused bits; readers ignore them." Words as a writer makes them.
+use mathlib.Core.Path.{_≡_}
+use Prim.Native.Nat.{ℕ, _+_, _-_, _*_, _/_, _%_, _^_, _≤_, _<_}
+use mathlib.Core.List.{List}
+use lib.ListN.{getD}
+use Rattle.fields.specs.Format.{packingSize}
+use Rattle.bitstream.specs.Stream.{bit}
+use Rattle.bitstream.specs.Carried.{carried}
+use Rattle.payload.specs.Format.{carriedBits, packingOf}
+use Rattle.payload.specs.Field.{fieldIn, unusedIn}
+
+-- the words have zero where no item and no tag stands: in each field's unused bits, in each word's bits that carry no field, and past the last field
+pub record Clean (first n : ℕ) (ws : List ℕ) : Type 0 where
+  pub unused : (k : ℕ) → k < n → unusedIn (packingOf first) (fieldIn (packingOf first) ws k) ≡ 0
+  pub uncarried : (j : ℕ) → getD ws j 0 % 2 ^ (32 - carriedBits first) ≡ 0
+  pub padding : (i : ℕ) → packingSize first * n ≤ i → bit (carriedBits first) (carried (carriedBits first) ws) i ≡ 0
