@@ -2,6 +2,8 @@
 
 -- every promise leaves one outcome, and a refusal the lent words
 pub mod Once
+-- each call gives the first refusal of its list that applies
+pub mod InOrder
 -- an accepted packet written again gives the same words, and what was written reads back
 pub mod Again
 pub mod Back
