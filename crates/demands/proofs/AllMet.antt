@@ -2,13 +2,19 @@
 use mathlib.Core.Path.{refl, _∙_}
 use mathlib.Core.List.{[]}
 use Rattle.table.proofs.StartLaws.{start-well-made}
-use Rattle.demands.specs.Demands.{ours, Demand2, Demand3, playAll}
+use Rattle.demands.specs.Calls.{calls}
+use Rattle.demands.specs.Demands.{ours, Demand1, Demand2, Demand3, playAll}
+use Rattle.demands.proofs.Once.{one-outcome, each-refusal}
+use Rattle.demands.proofs.InOrder.{in-order}
 use Rattle.demands.proofs.Again.{written-again}
 use Rattle.demands.proofs.Back.{written-back}
 use Rattle.demands.proofs.RoundTrip.{come-back, packed-again}
 use Rattle.demands.proofs.RightLaws.{start-accepts, right-start, right-on, answers-on, past-on}
 use Rattle.demands.proofs.Resumed.{saves, resumes}
 use Rattle.demands.proofs.Separate.{apart}
+
+pub demand-1 : Demand1
+demand-1 = record { once = one-outcome; numbers = in-order; refusals = each-refusal calls }
 
 pub demand-2 : Demand2 ours
 demand-2 = record {

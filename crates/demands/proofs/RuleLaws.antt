@@ -3,7 +3,7 @@
 use mathlib.Core.Path.{_≡_, refl, sym, ap, _∙_}
 use mathlib.Core.Bool.{Bool, true, false}
 use mathlib.Core.List.{List, [], _∷_, _++_}
-use mathlib.Core.Option.{Option, none, some}
+use mathlib.Core.Option.{Option, none, some, Option·none-ne-some, Option·some-injective}
 use Prim.Native.Nat.{ℕ, zero, suc, _+_, _-_, _%_, _^_}
 use native.Mathlib.Nat.{mod-add-mod, add-assoc}
 use native.Mathlib.Omega.{arith}
@@ -13,7 +13,9 @@ use lib.ListN.{length, length-append}
 use Rattle.words.specs.Tests.{pick}
 use Rattle.words.specs.Outcome.{Outcome, refused, accepted}
 use Rattle.record.specs.Counts.{missedOf, addedOf, countedOf}
-use Rattle.demands.specs.Trace.{Arrival, Trace, own, carried, orElse, lastCarried, countsOf, lastOf, missedAfter, missed, lastPlusOne, countRule, addedAfter}
+use Rattle.fields.specs.Layout.{fieldOf}
+use Rattle.demands.specs.Trace.{Arrival, Trace, own, carries, carried, orElse, lastCarried, NoneCarried, LastCarried, countsOf, lastOf, missedAfter, missed, lastPlusOne, countRule, addedAfter}
+use Rattle.demands.specs.Demands.{LastMeant}
 
 -- ---- a stream's own packets
 
@@ -41,6 +43,52 @@ pub last-more : (b : ℕ) (before : List Arrival) (a : Arrival) → lastCarried 
 last-more b [] a = sym (or-none (carried b a))
 last-more b (x ∷ before) a =
     ap (λ (o : Option (List ℕ)). orElse o (carried b x)) (last-more b before a) ∙ or-assoc (carried b a) (lastCarried b before) (carried b x)
+
+-- ---- the last that carried a field, by a cut of the packets
+
+or-both : {A : Type 0} (x y : Option A) → orElse x y ≡ none → (x ≡ none) × (y ≡ none)
+or-both none y e = (refl, e)
+or-both (some a) y e = absurd (Option·none-ne-some a (sym e))
+
+carried-not : (b : ℕ) (a : Arrival) (t : Bool) → pick t (some (fieldOf b (a .body))) none ≡ none → t ≡ false
+carried-not b a true e = absurd (Option·none-ne-some (fieldOf b (a .body)) (sym e))
+carried-not b a false e = refl
+
+carried-does : (b : ℕ) (a : Arrival) (v : List ℕ) (t : Bool) → pick t (some (fieldOf b (a .body))) none ≡ some v → (t ≡ true) × (fieldOf b (a .body) ≡ v)
+carried-does b a v true e = (refl, Option·some-injective (fieldOf b (a .body)) v e)
+carried-does b a v false e = absurd (Option·none-ne-some v e)
+
+silent : (b : ℕ) (packets : List Arrival) → lastCarried b packets ≡ none → NoneCarried b packets
+silent b [] e = tt
+silent b (a ∷ later) e = let k = or-both (lastCarried b later) (carried b a) e in (carried-not b a (carries b a) (k .1), silent b later (k .0))
+
+from-silent : (b : ℕ) (packets : List Arrival) → NoneCarried b packets → lastCarried b packets ≡ none
+from-silent b [] h = refl
+from-silent b (a ∷ later) h = rw (from-silent b later (h .1), h .0)
+
+further : (b : ℕ) (a : Arrival) (packets : List Arrival) (v : List ℕ) → LastCarried b packets v → LastCarried b (a ∷ packets) v
+further b a packets v x = record { before = a ∷ x .before; last = x .last; later = x .later; cut = ap (λ (l : List Arrival). a ∷ l) (x .cut); does = x .does; value = x .value; silent = x .silent }
+
+found : (b : ℕ) (a : Arrival) (later : List Arrival) (v : List ℕ) (o : Option (List ℕ)) → lastCarried b later ≡ o
+    → ((w : List ℕ) → lastCarried b later ≡ some w → LastCarried b later w) → orElse o (carried b a) ≡ some v → LastCarried b (a ∷ later) v
+found b a later v none e ih f =
+    let k = carried-does b a v (carries b a) f in
+    record { before = []; last = a; later = later; cut = refl; does = k .0; value = k .1; silent = silent b later e }
+found b a later v (some w) e ih f = further b a later v (ih v (e ∙ f))
+
+last-found : (b : ℕ) (packets : List Arrival) (v : List ℕ) → lastCarried b packets ≡ some v → LastCarried b packets v
+last-found b [] v e = absurd (Option·none-ne-some v e)
+last-found b (a ∷ later) v e = found b a later v (lastCarried b later) refl (last-found b later) e
+
+found-last : (b : ℕ) (before later : List Arrival) (a : Arrival) → carries b a ≡ true → NoneCarried b later → lastCarried b (before ++ (a ∷ later)) ≡ some (fieldOf b (a .body))
+found-last b [] later a d n = rw (from-silent b later n, d)
+found-last b (x ∷ before) later a d n = rw (found-last b before later a d n)
+
+pub last-meant : LastMeant
+last-meant b packets = (
+  λ v. (last-found b packets v, λ x. ap (lastCarried b) (x .cut) ∙ found-last b (x .before) (x .later) (x .last) (x .does) (x .silent) ∙ ap some (x .value)),
+  (silent b packets, from-silent b packets),
+)
 
 -- ---- counts
 

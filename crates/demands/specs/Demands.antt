@@ -4,6 +4,7 @@
 use mathlib.Core.Path.{_≡_}
 use Prim.Native.Nat.{ℕ, _+_, _*_, _^_, _≤_, _<_}
 use mathlib.Core.Bool.{Bool, true, false}
+use mathlib.Core.Logic.{_↔_}
 use mathlib.Core.List.{List, [], _∷_, _++_}
 use mathlib.Core.Option.{Option, none, some}
 use lib.ListN.{length, getD, take, drop}
@@ -27,8 +28,10 @@ use Rattle.play.specs.declared.Heard.{Heard}
 use Rattle.play.specs.Play.{playOf}
 use Rattle.page.specs.Save.{saveOf}
 use Rattle.page.specs.PutBack.{putBackOf}
+use Rattle.demands.specs.Calls.{OneOutcome, RefusalLeaves, Each, calls}
+use Rattle.demands.specs.Refusals.{InOrder}
 use Rattle.demands.specs.Clean.{Clean}
-use Rattle.demands.specs.Trace.{Trace, heardOf, traceOf, isOwn, own, lastCarried, countedTypes, countsOf, countRule, answersAfter}
+use Rattle.demands.specs.Trace.{Arrival, Trace, heardOf, traceOf, isOwn, own, lastCarried, NoneCarried, LastCarried, countedTypes, countsOf, countRule, answersAfter}
 
 -- ---- a program
 
@@ -54,6 +57,19 @@ Accepts {A} o = (a : A) × (o ≡ accepted a)
 -- words of 32 bits
 abbrev pub Words : List ℕ → Type 0
 Words ws = (i : ℕ) → getD ws i 0 < 2 ^ 32
+
+-- ---- demand 1
+
+pub record Demand1 : Type 0 where
+  -- "Every word slice handed in gets an answer, and each call finishes": the prover accepts no function that may not return, or that asks more than its
+  -- `requires`, and no public call has one. The promise of each leaves one outcome, answer and lent words.
+  pub once : Each OneOutcome calls
+
+  -- "Bad packets, tables, pages and formats are refused with the number in our list, given exactly when the list says."
+  pub numbers : InOrder
+
+  -- "A refusal changes no word of any buffer it was lent."
+  pub refusals : Each RefusalLeaves calls
 
 -- ---- demand 2: "Packets, context fields and packed samples are read and written as VITA 49.0 defines them, within the limits of document 01."
 
@@ -107,6 +123,11 @@ pub record Right (ids : List ℕ) (packets : List (List ℕ)) (t : List ℕ) : T
   pub held : (s : ℕ) → s < length ids → (b : ℕ) → heldIn b (recordAt s t) ≡ lastCarried b (own s (traceOf ids packets))
   pub counts : (s : ℕ) → s < length ids → (kind : ℕ) → among kind countedTypes ≡ true
       → countOf (orderOf kind) (recordAt s t) ≡ countRule (countsOf kind (own s (traceOf ids packets)))
+
+-- `lastCarried` is what the sentence says: a value is that of the last packet that carried the field, and there is none where none did
+abbrev pub LastMeant : Type 0
+LastMeant = (b : ℕ) (packets : List Arrival)
+    → ((v : List ℕ) → (lastCarried b packets ≡ some v) ↔ LastCarried b packets v) × ((lastCarried b packets ≡ none) ↔ NoneCarried b packets)
 
 -- the words of a table's layout, and those past it
 abbrev pub layoutOf : List ℕ → List ℕ → List ℕ

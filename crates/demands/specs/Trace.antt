@@ -1,5 +1,6 @@
 -- What a trace of packets says by itself: which of them are accepted, by reading and by the list of identifiers, and the rules that a table is held to. No
 -- rule here goes through a table, or through playing: each looks at the packets.
+use mathlib.Core.Path.{_≡_}
 use Prim.Native.Nat.{ℕ, zero, suc, _+_, _-_, _/_, _%_, _^_}
 use mathlib.Core.Bool.{Bool, true, false}
 use mathlib.Core.List.{List, [], _∷_, _++_, map}
@@ -85,6 +86,20 @@ orElse (some x) y = some x
 abbrev pub lastCarried : ℕ → List Arrival → Option (List ℕ)
 lastCarried b [] = none
 lastCarried b (a ∷ later) = orElse (lastCarried b later) (carried b a)
+
+-- the same, by a cut of the packets: v is the value in `last`, which carried the field, and none of the later ones did (`last-meant`, in proofs/RuleLaws.antt)
+abbrev pub NoneCarried : ℕ → List Arrival → Type 0
+NoneCarried b [] = Unit
+NoneCarried b (a ∷ later) = (carries b a ≡ false) × NoneCarried b later
+
+pub record LastCarried (b : ℕ) (packets : List Arrival) (v : List ℕ) : Type 0 where
+  pub before : List Arrival
+  pub last : Arrival
+  pub later : List Arrival
+  pub cut : packets ≡ before ++ (last ∷ later)
+  pub does : carries b last ≡ true
+  pub value : fieldOf b (last .body) ≡ v
+  pub silent : NoneCarried b later
 
 -- ---- counts: "Types 1, 3, 4 and 5 are counted apart within a stream. Each has seen and missing, both kept modulo 2^32, and the last count."
 
