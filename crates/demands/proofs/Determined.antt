@@ -4,10 +4,10 @@ use mathlib.Core.Path.{_≡_, refl, sym, ap, _∙_}
 use mathlib.Core.Bool.{Bool, true, false}
 use mathlib.Core.Logic.{⊎-elim}
 use mathlib.Core.List.{List, _++_}
-use mathlib.Core.Option.{Option, none, some, Option·none-ne-some, Option·some-injective}
+use mathlib.Core.Option.{none, some, Option·none-ne-some, Option·some-injective}
 use Prim.Native.Nat.{ℕ, _+_, _≤_, _<_}
 use native.Mathlib.Omega.{arith}
-use lib.ListN.{length, getD, take}
+use lib.ListN.{length, getD}
 use lib.Seq.{ext-getD}
 use Rattle.words.specs.Tests.{pick, among}
 use Rattle.words.specs.Word.{has}
@@ -20,7 +20,7 @@ use Rattle.record.specs.Layout.{headWords, slotWords, recordWords, identifierOf
 use Rattle.record.specs.Good.{recordGood, Good}
 use Rattle.record.proofs.SlotLaws.{in-order-same, in-order-parts, slots-whole}
 use Rattle.record.proofs.GoodLaws.{good-of}
-use Rattle.table.specs.Layout.{streamsOf, base, recordAt}
+use Rattle.table.specs.Layout.{recordAt}
 use Rattle.table.proofs.RecordLaws.{record-identifier}
 use Rattle.table.proofs.WellLaws.{well-whole, well-record}
 use Rattle.page.specs.Layout.{tableFrom}

@@ -2,22 +2,20 @@
 -- and the list, and then one record replaced (`play-is`); what reading accepts is fine to replace a record by (`heard-fine`).
 use mathlib.Core.Path.{_≡_, refl, sym, ap, _∙_}
 use mathlib.Core.Bool.{Bool, true, false}
-use mathlib.Core.Logic.{⊎-elim}
 use mathlib.Core.List.{List, [], _∷_}
-use Prim.Native.Nat.{ℕ, zero, suc, _+_, _≤_, _<_}
+use Prim.Native.Nat.{ℕ, zero, suc, _≤_, _<_}
 use native.Mathlib.Omega.{arith}
-use borrow.Author.Tests.{eq-eqb, ne-eqb, leb-false, ltb-false, eqb-true, eqb-false}
+use borrow.Author.Tests.{leb-false, ltb-false}
 use lib.Dec.{eqb, ltb, leb}
 use lib.ListN.{length, getD}
 use Rattle.words.specs.Numbers.{STREAM}
 use Rattle.words.specs.Tests.{pick, among}
-use Rattle.words.specs.Part.{part}
-use Rattle.words.specs.Outcome.{Outcome, refused, accepted, onward, Done, saidOf, leftOf}
-use Rattle.words.proofs.Cases.{passed, onward-passed, accepted-same, true-or-false}
-use Rattle.words.proofs.AllLaws.{First, first-one}
+use Rattle.words.specs.Outcome.{Outcome, refused, accepted, onward, Done, leftOf}
+use Rattle.words.proofs.Cases.{passed, onward-passed, accepted-same}
+use Rattle.words.proofs.AllLaws.{first-one}
 use Rattle.fields.specs.Layout.{contextOf}
 use Rattle.packet.specs.declared.Packet.{Packet}
-use Rattle.packet.specs.Header.{typeOf, reservedOf}
+use Rattle.packet.specs.Header.{typeOf}
 use Rattle.packet.specs.Parts.{partsOf, packetOf}
 use Rattle.packet.specs.Read.{headerChecks, readOf}
 use Rattle.packet.proofs.ReadLaws.{read-accepts, count-small, body-context}
@@ -35,7 +33,7 @@ use Rattle.play.specs.Play as Play
 use Rattle.play.specs.Play.{soughtOf, tableAfter, stepOf, playOf}
 use Rattle.play.proofs.PlayLaws.{play-step}
 use Rattle.play.proofs.KeepLaws.{play-keeps}
-use Rattle.demands.specs.Trace.{Arrival, placeIn, arrivalOf, heardOf, isOwn, countedTypes}
+use Rattle.demands.specs.Trace.{Arrival, placeIn, arrivalOf, heardOf, countedTypes}
 
 -- ---- what a heard packet is
 

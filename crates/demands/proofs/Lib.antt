@@ -1,5 +1,7 @@
 -- The proofs of the demands. AllMet has the theorems; the others are what they cite, each file opening with its idea.
 
+-- proofs one after the other
+pub mod Listing
 -- every promise leaves one outcome, and a refusal the lent words
 pub mod Once
 -- each call gives the first refusal of its list that applies

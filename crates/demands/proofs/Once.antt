@@ -1,10 +1,10 @@
 -- Every promise leaves one outcome, and a refusal leaves the lent words. The first cites the law of each call; the second is one law over `Meets`, whose
 -- `leftOf` is the words as they were where the answer is a refusal.
-use mathlib.Core.Path.{_≡_, refl, sym, ap, _∙_}
+use mathlib.Core.Path.{_≡_, refl, sym, _∙_}
 use mathlib.Core.List.{List, [], _∷_}
 use Prim.Native.Nat.{ℕ}
 use native.Mathlib.Omega.{arith}
-use Rattle.words.specs.Outcome.{Outcome, refused, accepted, Done, saidOf, leftOf, Meets}
+use Rattle.words.specs.Outcome.{Outcome, refused, accepted, Done, saidOf, leftOf}
 use Rattle.fields.proofs.Uniqueness.{field-count-once, check-body-once, find-once}
 use Rattle.packet.proofs.Uniqueness.{read-once, write-once, trailer-parts-once, trailer-word-once}
 use Rattle.payload.proofs.Uniqueness.{words-needed-once, unpack-once, pack-once, signed-once}
@@ -13,33 +13,34 @@ use Rattle.play.proofs.Uniqueness.{play-once, play-run-once}
 use Rattle.page.proofs.Uniqueness.{page-length-once, save-once, put-back-once}
 use Rattle.panel.proofs.Uniqueness.{reading-once, held-words-once}
 use Rattle.demands.specs.Calls.{Call, answers, lends, OneOutcome, RefusalLeaves, Each, calls}
+use Rattle.demands.proofs.Listing.{_and_}
 
 -- ---- one outcome
 
 pub one-outcome : Each OneOutcome calls
 unfolding calls
 one-outcome =
-    (λ indicator. field-count-once indicator,
-    (λ body. check-body-once body,
-    (λ h. find-once (h .0) (h .1),
-    (λ ws r s. read-once ws,
-    (λ h r s after after′. write-once (h .0) (h .1) (h .2) after after′ (h .3) r s,
-    (λ word r s. trailer-parts-once word,
-    (λ h r s. trailer-word-once (h .0) (h .1) (h .2) (h .3),
-    (λ h. words-needed-once (h .0) (h .1) (h .2),
-    (λ h r s after after′. unpack-once (h .0) (h .1) (h .2) (h .3) (h .4) after after′ r s,
-    (λ h r s after after′. pack-once (h .0) (h .1) (h .2) (h .3) (h .4) (h .5) after after′ r s,
-    (λ h. signed-once (h .0) (h .1),
-    (λ h r s after after′. start-once (h .0) (h .1),
-    (λ t r s. well-made-once t,
-    (λ h r s after after′. play-once (h .0) (h .1),
-    (λ h r s after after′. play-run-once (h .0) (h .1) (h .2) (h .3),
-    (λ t r s. page-length-once t,
-    (λ h r s after after′. save-once (h .0) (h .1),
-    (λ h r s after after′. put-back-once (h .0) (h .1),
-    (λ h. reading-once (h .0) (h .1) (h .2),
-    (λ h r s after after′. held-words-once (h .0) (h .1) (h .2) (h .3) after after′ r s,
-    tt))))))))))))))))))))
+    field-count-once
+    and check-body-once
+    and (λ h. find-once (h .0) (h .1))
+    and (λ ws r s. read-once ws)
+    and (λ h r s after after′. write-once (h .0) (h .1) (h .2) after after′ (h .3) r s)
+    and (λ word r s. trailer-parts-once word)
+    and (λ h r s. trailer-word-once (h .0) (h .1) (h .2) (h .3))
+    and (λ h. words-needed-once (h .0) (h .1) (h .2))
+    and (λ h r s after after′. unpack-once (h .0) (h .1) (h .2) (h .3) (h .4) after after′ r s)
+    and (λ h r s after after′. pack-once (h .0) (h .1) (h .2) (h .3) (h .4) (h .5) after after′ r s)
+    and (λ h. signed-once (h .0) (h .1))
+    and (λ h r s after after′. start-once (h .0) (h .1))
+    and (λ t r s. well-made-once t)
+    and (λ h r s after after′. play-once (h .0) (h .1))
+    and (λ h r s after after′. play-run-once (h .0) (h .1) (h .2) (h .3))
+    and (λ t r s. page-length-once t)
+    and (λ h r s after after′. save-once (h .0) (h .1))
+    and (λ h r s after after′. put-back-once (h .0) (h .1))
+    and (λ h. reading-once (h .0) (h .1) (h .2))
+    and (λ h r s after after′. held-words-once (h .0) (h .1) (h .2) (h .3) after after′ r s)
+    and tt
 
 -- ---- a refusal
 

@@ -3,19 +3,18 @@
 use mathlib.Core.Path.{_≡_, refl, sym, ap, _∙_}
 use mathlib.Core.Bool.{Bool, true, false}
 use mathlib.Core.Logic.{⊎-elim}
-use mathlib.Core.List.{List, [], _∷_, _++_}
-use mathlib.Core.Option.{Option, none, some}
-use Prim.Native.Nat.{ℕ, zero, suc, _+_, _^_, _≤_, _<_}
+use mathlib.Core.List.{List, [], _∷_}
+use mathlib.Core.Option.{none, some}
+use Prim.Native.Nat.{ℕ, zero, suc, _≤_}
 use native.Mathlib.Omega.{arith}
 use borrow.Author.Tests.{eq-eqb, ne-eqb, le-leb, leb-true}
 use lib.Dec.{eqb, leb}
 use lib.Pow.{pow-pos}
-use lib.ListN.{length, replicate}
+use lib.ListN.{length}
 use Rattle.words.specs.Tests.{pick, both, among}
 use Rattle.words.specs.Word.{has}
 use Rattle.words.specs.Part.{part}
-use Rattle.words.specs.Outcome.{accepted}
-use Rattle.words.proofs.Cases.{true-or-false, true-is-false, same-or-not, both-left, both-right, both-yes}
+use Rattle.words.proofs.Cases.{true-or-false, true-is-false, same-or-not, both-left, both-right}
 use Rattle.words.proofs.SetBitLaws.{has-above}
 use Rattle.fields.specs.Layout.{indicatorOf, fieldOf}
 use Rattle.record.specs.Held.{holds}
@@ -28,7 +27,7 @@ use Rattle.record.proofs.AfterLaws.{held-bit}
 use Rattle.record.proofs.GoodLaws.{good-of}
 use Rattle.record.proofs.PacketLaws.{order-small, after-length, after-slot, after-held, after-count, after-other, after-good}
 use Rattle.table.specs.Start.{freshRecord}
-use Rattle.demands.specs.Trace.{Arrival, kept, carries, carried, orElse, countedTypes}
+use Rattle.demands.specs.Trace.{Arrival, kept, carried, orElse, countedTypes}
 use Rattle.demands.specs.Demands.{heldIn}
 use Rattle.demands.proofs.HearingLaws.{Fine}
 

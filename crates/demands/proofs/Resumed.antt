@@ -12,9 +12,7 @@ use Rattle.words.specs.Outcome.{Outcome, accepted, Done, saidOf, leftOf}
 use Rattle.words.proofs.Cases.{passed, accepted-same}
 use Rattle.record.specs.Layout.{identifierOf, orderOf, countOf}
 use Rattle.table.specs.Layout.{streamsOf, base, recordAt}
-use Rattle.table.specs.Identifiers.{declared, listed}
 use Rattle.table.specs.Well.{wellMade}
-use Rattle.table.specs.Start.{startOf}
 use Rattle.table.proofs.RecordLaws.{record-identifier}
 use Rattle.table.proofs.WellLaws.{well-whole}
 use Rattle.play.specs.declared.Heard.{Heard}
@@ -28,7 +26,7 @@ use Rattle.page.proofs.Exact.{table-back, page-passes, table-well}
 use Rattle.page.proofs.RoundTrip.{save-accepted, put-back-saved}
 use Rattle.demands.specs.Demands.{ours, Accepts, heldIn, Right, layoutOf, pastOf, playAll, saidAll, Resumes}
 use Rattle.demands.proofs.HearingLaws.{record-whole}
-use Rattle.demands.proofs.RightLaws.{right-start, right-listed, right-on, answers-on, past-on}
+use Rattle.demands.proofs.RightLaws.{right-listed, right-on, answers-on, past-on}
 use Rattle.demands.proofs.Determined.{determined, layout-is}
 
 -- ---- a right layout, whatever follows it

@@ -5,22 +5,21 @@ use mathlib.Core.Path.{_≡_, refl, sym, ap, _∙_}
 use mathlib.Core.Bool.{Bool, true, false, not}
 use mathlib.Core.Logic.{⊎-elim}
 use mathlib.Core.List.{List, [], _∷_, _++_, append-nil, append-assoc}
-use mathlib.Core.Option.{Option}
 use Prim.Native.Nat.{ℕ, _≤_, _<_}
-use borrow.Author.Tests.{eq-eqb, ne-eqb, le-ltb, ltb-false, not-false}
+use borrow.Author.Tests.{eq-eqb, ne-eqb, le-ltb}
 use lib.Dec.{eqb, ltb}
-use lib.ListN.{length, getD, drop}
+use lib.ListN.{length, getD}
 use Rattle.words.specs.Tests.{pick, among}
 use Rattle.words.specs.Outcome.{Outcome, refused, accepted, onward, Done, saidOf, leftOf}
 use Rattle.words.proofs.Cases.{passed, accepted-same, same-or-not}
 use Rattle.record.specs.Layout.{orderOf, countOf, lastOf}
 use Rattle.record.specs.Counts.{addedOf, countedOf, addedTo}
-use Rattle.record.specs.After.{recordAfter, addedBy}
-use Rattle.table.specs.Layout.{streamsOf, base, recordAt, withRecord}
+use Rattle.record.specs.After.{addedBy}
+use Rattle.table.specs.Layout.{streamsOf, base, recordAt}
 use Rattle.table.specs.Identifiers.{listed, listGood}
 use Rattle.table.specs.Start.{freshRecord, freshTable, startOf}
 use Rattle.table.proofs.WellLaws.{well-record}
-use Rattle.table.proofs.StartLaws.{fresh-record, Begun, start-well-made}
+use Rattle.table.proofs.StartLaws.{fresh-record, start-well-made}
 use Rattle.play.specs.declared.Heard.{Heard}
 use Rattle.play.specs.Play.{playOf}
 use Rattle.play.proofs.KeepLaws.{play-keeps}

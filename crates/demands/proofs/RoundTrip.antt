@@ -4,7 +4,7 @@
 use mathlib.Core.Path.{_≡_, refl, sym, ap, _∙_}
 use mathlib.Core.Bool.{true, false}
 use mathlib.Core.List.{List}
-use Prim.Native.Nat.{ℕ, _+_, _-_, _*_, _%_, _^_, _≤_, _<_}
+use Prim.Native.Nat.{ℕ, _+_, _-_, _*_, _^_, _≤_, _<_}
 use native.Mathlib.Nat.{mod-lt}
 use native.Mathlib.Omega.{arith}
 use lib.ListN.{length, getD, take}
@@ -16,7 +16,6 @@ use Rattle.words.specs.Outcome.{Outcome, refused, accepted, after, Done, saidOf
 use Rattle.words.proofs.Cases.{accepted-same}
 use Rattle.words.proofs.AllLaws.{all-intro}
 use Rattle.fields.specs.Format.{eventSize, channelSize, itemSize, packingSize}
-use Rattle.bitstream.specs.Stream.{bit}
 use Rattle.bitstream.specs.Carried.{carried, fieldOf, wordOf}
 use Rattle.bitstream.specs.Filled.{filled}
 use Rattle.bitstream.proofs.SpanLaws.{below}
@@ -29,7 +28,7 @@ use Rattle.payload.specs.declared.packing.Packed.{Packed}
 use Rattle.payload.specs.declared.packing.Packed.the-variants as packedAs
 use Rattle.payload.specs.Format.{formatBad, carriedBits, packingOf, Legal}
 use Rattle.payload.specs.Count.{countBad, wordsFor}
-use Rattle.payload.specs.Field.{fieldIn, itemIn, eventIn, channelIn, unusedIn, fieldsOf, fitting}
+use Rattle.payload.specs.Field.{fieldIn, itemIn, eventIn, channelIn, fieldsOf, fitting}
 use Rattle.payload.specs.Unpack.{Buffers, unpacked, unpackCheck, unpackOf}
 use Rattle.payload.specs.Pack.{packed, packCheck, packOf}
 use Rattle.payload.specs.Answers.{unpackedPaper, packedPaper}

@@ -4,14 +4,14 @@ use mathlib.Core.Path.{_≡_, refl, sym, ap, _∙_}
 use mathlib.Core.Bool.{Bool, true, false}
 use mathlib.Core.List.{List, [], _∷_, _++_}
 use mathlib.Core.Option.{Option, none, some, Option·none-ne-some, Option·some-injective}
-use Prim.Native.Nat.{ℕ, zero, suc, _+_, _-_, _%_, _^_}
+use Prim.Native.Nat.{ℕ, _+_, _-_, _%_, _^_}
 use native.Mathlib.Nat.{mod-add-mod, add-assoc}
 use native.Mathlib.Omega.{arith}
 use borrow.Author.Tests.{ne-eqb}
 use lib.Dec.{eqb}
 use lib.ListN.{length, length-append}
 use Rattle.words.specs.Tests.{pick}
-use Rattle.words.specs.Outcome.{Outcome, refused, accepted}
+use Rattle.words.specs.Outcome.{refused, accepted}
 use Rattle.record.specs.Counts.{missedOf, addedOf, countedOf}
 use Rattle.fields.specs.Layout.{fieldOf}
 use Rattle.demands.specs.Trace.{Arrival, Trace, own, carries, carried, orElse, lastCarried, NoneCarried, LastCarried, countsOf, lastOf, missedAfter, missed, lastPlusOne, countRule, addedAfter}
@@ -40,7 +40,7 @@ or-assoc none y z = refl
 or-assoc (some a) y z = refl
 
 pub last-more : (b : ℕ) (before : List Arrival) (a : Arrival) → lastCarried b (before ++ (a ∷ [])) ≡ orElse (carried b a) (lastCarried b before)
-last-more b [] a = sym (or-none (carried b a))
+last-more b [] a = simp or-none
 last-more b (x ∷ before) a =
     ap (λ (o : Option (List ℕ)). orElse o (carried b x)) (last-more b before a) ∙ or-assoc (carried b a) (lastCarried b before) (carried b x)
 

@@ -1,5 +1,5 @@
 -- The bench's samples hold: each row is computed.
-use mathlib.Core.Path.{_≡_, refl}
+use mathlib.Core.Path.{refl}
 use lib.Count.{trailingZeros}
 use Rattle.words.specs.Part.{part}
 use Rattle.words.specs.SetBits.{bitsOf, above}
@@ -24,7 +24,8 @@ use Rattle.record.specs.Counts.{missedOf}
 use Rattle.panel.specs.Values.{unitsOf, share, over, lowerHalf}
 use Rattle.panel.specs.Readings.{isFrequency, shownOf}
 use Rattle.demands.specs.Samples.{Hold, bench}
+use Rattle.demands.proofs.Listing.{_and_}
 
 pub samples : Hold bench
 unfolding bench part bitsOf above all sizeOf asciiWords listWords wordsOf codeKnown codeFits formatOk notNegative upperHalfZero deviceRule stateRule formatRule asciiRule listsRule ruleOf spanOf obeyed bodyWords lowBitsSet otherLength ruleBroken contextOf trailed tsmOf reservedOf streamed hasSeconds hasFraction classAt secondsAt fractionAt bodyAt requiredOf bodyLength wordIf classHigh classLow fractionOf partsOf bodyOf packetOf headerChecks sizeChecks timeOver prologueChecks bodyChecks checksOf readOf bit span carried fieldOf wordOf needed filled wideProcessing formatBad carriedBits packingOf unitOf countBad wordsFor fitting packCheck packOf unpackCheck unpackOf twosComplement signedOf missedOf unitsOf lowerHalf share over isFrequency shownOf trailingZeros
-samples = (refl, (refl, (refl, (refl, (refl, (refl, (refl, (refl, (refl, (refl, (refl, (refl, (refl, (refl, (refl, (refl, (refl, (refl, (refl, (refl, (refl, tt)))))))))))))))))))))
+samples = refl and refl and refl and refl and refl and refl and refl and refl and refl and refl and refl and refl and refl and refl and refl and refl and refl and refl and refl and refl and refl and tt

@@ -1,7 +1,7 @@
 -- Streams do not touch one another. The idea: the rules look at a stream's own packets alone, so two recordings with the same own packets (`own-altered`) give the
 -- same rules for its record, hence the same words (`records-same`), and the same answers (`own-answers`).
 use mathlib.Core.Path.{_≡_, refl, sym, ap, _∙_}
-use mathlib.Core.Bool.{Bool, true, false}
+use mathlib.Core.Bool.{Bool, false}
 use mathlib.Core.Logic.{⊎-elim}
 use mathlib.Core.List.{List, [], _∷_, _++_, append-nil}
 use Prim.Native.Nat.{ℕ, _<_}

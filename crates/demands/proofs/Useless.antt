@@ -1,17 +1,16 @@
 -- Five useless programs, each shut out by a demand: no program of its kind, whatever its other calls do, meets the demand. The idea: the demand fixes what a
 -- table holds or an answer says for two short recordings, and the useless program would have to give one thing for both.
 use mathlib.Core.Path.{_≡_, refl, sym, ap, _∙_}
-use mathlib.Core.Bool.{Bool, true, false}
+use mathlib.Core.Bool.{true}
 use mathlib.Core.List.{List, [], _∷_}
 use mathlib.Core.Option.{Option, none, some}
-use Prim.Native.Nat.{ℕ, zero, suc, _+_, _-_, _/_, _%_, _^_, _≤_, _<_}
+use Prim.Native.Nat.{ℕ, _-_}
 use native.Mathlib.Omega.{arith}
 use lib.ListN.{length, getD, replicate, length-replicate}
 use Rattle.words.specs.Part.{part}
 use Rattle.words.specs.SetBits.{bitsOf, above}
 use Rattle.words.specs.All.{all, firstOf}
 use Rattle.words.specs.Outcome.{Outcome, refused, accepted, Done, saidOf, leftOf}
-use Rattle.words.proofs.Cases.{accepted-same}
 use Rattle.fields.specs.Sizes.{sizeOf, wordsOf}
 use Rattle.fields.specs.Rules.{ruleOf}
 use Rattle.fields.specs.Layout.{spanOf, obeyed, bodyWords, placeOf, fieldOf, lowBitsSet, otherLength, ruleBroken, contextOf}
@@ -21,10 +20,10 @@ use Rattle.packet.specs.Parts.{streamed, hasSeconds, hasFraction, classAt, seco
 use Rattle.packet.specs.Read.{headerChecks, sizeChecks, timeOver, prologueChecks, bodyChecks, checksOf, readOf}
 use Rattle.record.specs.Layout.{orderOf, countOf, seenOf}
 use Rattle.record.specs.Counts.{missedOf}
-use Rattle.table.specs.Layout.{base, recordAt}
+use Rattle.table.specs.Layout.{recordAt}
 use Rattle.table.specs.Identifiers.{listed, apart, listGood}
 use Rattle.play.specs.declared.Heard.{Heard}
-use Rattle.demands.specs.Trace.{Arrival, placeIn, arrivalOf, heardOf, traceOf, own, lastCarried, countsOf, countRule, answersAfter}
+use Rattle.demands.specs.Trace.{placeIn, arrivalOf, heardOf, traceOf, own, lastCarried, countsOf, countRule}
 use Rattle.demands.specs.Demands.{Program, Demand2, Demand3, heldIn, playAll, saidAll}
 
 -- ---- packets of stream 7: sample data of three and of four words, and Context packets that carry one word, in the field of bit 30

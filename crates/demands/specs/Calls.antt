@@ -3,14 +3,12 @@
 -- are the `ensures` of the calls, word for word.
 use mathlib.Core.Path.{_≡_}
 use Prim.Native.Nat.{ℕ}
-use mathlib.Core.Bool.{Bool}
 use mathlib.Core.List.{List, [], _∷_}
 use lib.ListN.{length}
 use Rattle.words.specs.Outcome.{Outcome, refused, checked, Done, Meets}
 use Rattle.fields.specs.Answers.{foundPaper}
 use Rattle.fields.specs.Layout.{carried, foundOf, contextOf}
 use Rattle.packet.specs.declared.Parts.{Parts}
-use Rattle.packet.specs.declared.Trailer.{Trailer}
 use Rattle.packet.specs.Read as Read
 use Rattle.packet.specs.Trailer.{trailerOf, trailerWordOf, trailerPaper}
 use Rattle.packet.specs.Write.{writeOf, writtenPaper}

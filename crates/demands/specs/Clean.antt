@@ -1,6 +1,6 @@
 -- Document 01, 'Payload': "Writers put zero in unused bits; readers ignore them." Words as a writer makes them.
 use mathlib.Core.Path.{_≡_}
-use Prim.Native.Nat.{ℕ, _+_, _-_, _*_, _/_, _%_, _^_, _≤_, _<_}
+use Prim.Native.Nat.{ℕ, _-_, _*_, _%_, _^_, _≤_, _<_}
 use mathlib.Core.List.{List}
 use lib.ListN.{getD}
 use Rattle.fields.specs.Format.{packingSize}

@@ -3,7 +3,7 @@
 -- that proofs/AllMet.antt, which proves the demands of `ours`, proves them of the code.
 use mathlib.Core.Path.{_≡_}
 use Prim.Native.Nat.{ℕ, _+_, _*_, _^_, _≤_, _<_}
-use mathlib.Core.Bool.{Bool, true, false}
+use mathlib.Core.Bool.{true, false}
 use mathlib.Core.Logic.{_↔_}
 use mathlib.Core.List.{List, [], _∷_, _++_}
 use mathlib.Core.Option.{Option, none, some}
@@ -11,7 +11,7 @@ use lib.ListN.{length, getD, take, drop}
 use Rattle.words.specs.Tests.{pick, among}
 use Rattle.words.specs.Word.{has}
 use Rattle.words.specs.Part.{part}
-use Rattle.words.specs.Outcome.{Outcome, refused, accepted, Done, saidOf, leftOf, Meets}
+use Rattle.words.specs.Outcome.{Outcome, accepted, Done, saidOf, leftOf}
 use Rattle.packet.specs.declared.Packet.{Packet}
 use Rattle.packet.specs.declared.Parts.{Parts}
 use Rattle.packet.specs.Parts.{bodyAt}
@@ -31,7 +31,7 @@ use Rattle.page.specs.PutBack.{putBackOf}
 use Rattle.demands.specs.Calls.{OneOutcome, RefusalLeaves, Each, calls}
 use Rattle.demands.specs.Refusals.{InOrder}
 use Rattle.demands.specs.Clean.{Clean}
-use Rattle.demands.specs.Trace.{Arrival, Trace, heardOf, traceOf, isOwn, own, lastCarried, NoneCarried, LastCarried, countedTypes, countsOf, countRule, answersAfter}
+use Rattle.demands.specs.Trace.{Arrival, heardOf, traceOf, isOwn, own, lastCarried, NoneCarried, LastCarried, countedTypes, countsOf, countRule, answersAfter}
 
 -- ---- a program
 
@@ -64,10 +64,8 @@ pub record Demand1 : Type 0 where
   -- "Every word slice handed in gets an answer, and each call finishes": the prover accepts no function that may not return, or that asks more than its
   -- `requires`, and no public call has one. The promise of each leaves one outcome, answer and lent words.
   pub once : Each OneOutcome calls
-
   -- "Bad packets, tables, pages and formats are refused with the number in our list, given exactly when the list says."
   pub numbers : InOrder
-
   -- "A refusal changes no word of any buffer it was lent."
   pub refusals : Each RefusalLeaves calls
 
@@ -79,18 +77,15 @@ pub record Demand2 (P : Program) : Type 0 where
   pub writes : (p : Parts) (body out : List ℕ) (at : ℕ) → P .write p body out at ≡ writeOf p body out at
   pub packs : (first second : ℕ) (items events channels out : List ℕ) → P .pack first second items events channels out ≡ packOf first second items events channels out
   pub unpacks : (first second n : ℕ) (ws : List ℕ) (b : Buffers) → P .unpack first second n ws b ≡ unpackOf first second n ws b
-
   -- "An accepted packet written again gives the same words": its parts and body, written anywhere with room
   pub again : (ws : List ℕ) → Words ws → (p : Packet) → P .read ws ≡ accepted p → (out : List ℕ) (at : ℕ) → at + p .size ≤ length out
       → P .write (p .parts) (part (p .body) (p .length) ws) out at
       ≡ accepted (record { says = p .size; leaves = take at out ++ take (p .size) ws ++ drop (at + p .size) out })
-
   -- what was written, read from its place on, has the same parts, absent ones zero, and the same body
   pub back : (p : Parts) (body out : List ℕ) (at : ℕ) (d : Done ℕ (List ℕ)) → P .write p body out at ≡ accepted d
       → let w = headerWord p (sizeFor p (length body)) in
       (P .read (drop at (d .leaves)) ≡ accepted (record { parts = plainParts w p; size = d .says; body = bodyAt w; length = length body }))
       × (part (bodyAt w) (length body) (drop at (d .leaves)) ≡ body)
-
   -- "Legal samples, event tags and channel tags packed and unpacked come back the same"
   pub unpacked : (first second : ℕ) (items events channels out : List ℕ) (d : Done ℕ (List ℕ)) → P .pack first second items events channels out ≡ accepted d
       → (b : Buffers) → length items ≤ length (b .items) → length items ≤ length (b .events) → length items ≤ length (b .channels)
@@ -99,7 +94,6 @@ pub record Demand2 (P : Program) : Type 0 where
       × (take (length items) (leftOf answer b .items) ≡ items)
       × (take (length items) (leftOf answer b .events) ≡ events)
       × (take (length items) (leftOf answer b .channels) ≡ channels)
-
   -- and the other way: words that a writer made, unpacked and packed, are the same words
   pub packed : (first second n : ℕ) (ws : List ℕ) → Words ws → Clean first n ws → (b : Buffers) (v : ℕ) → saidOf (P .unpack first second n ws b) ≡ accepted v
       → (out : List ℕ) → length ws ≤ length out
@@ -175,22 +169,18 @@ ownAnswers ids s (ws ∷ packets) (x ∷ answers) = pick (isOwn s (heardOf ids w
 pub record Demand3 (P : Program) : Type 0 where
   -- "Start a fresh table for any valid list of streams": one is started wherever there is room
   pub starts : (ids t : List ℕ) → listGood (length ids) (listed ids) ≡ true → base (length ids) ≤ length t → Accepts (P .start ids t)
-
   -- "and play any packets, refused ones among them": the table is right, each answer is the one that the rules give, and words past the layout stay
   pub right : (ids t : List ℕ) (d : Done ℕ (List ℕ)) → P .start ids t ≡ accepted d → (packets : List (List ℕ)) → Right ids packets (playAll P (d .leaves) packets)
   pub answers : (ids t : List ℕ) (d : Done ℕ (List ℕ)) → P .start ids t ≡ accepted d → (packets : List (List ℕ))
       → saidAll P (d .leaves) packets ≡ answersAfter [] (traceOf ids packets)
   pub past : (ids t : List ℕ) (d : Done ℕ (List ℕ)) → P .start ids t ≡ accepted d → (packets : List (List ℕ)) → pastOf ids (playAll P (d .leaves) packets) ≡ pastOf ids t
-
   -- "Save a page after any packet": it is saved wherever there is room for the longest page
   pub saves : (ids t : List ℕ) (d : Done ℕ (List ℕ)) → P .start ids t ≡ accepted d → (packets : List (List ℕ)) (page : List ℕ)
       → 2 + 90 * length ids ≤ length page → Accepts (P .save (playAll P (d .leaves) packets) page)
-
   -- "put it back where there is room, play the rest"
   pub resumes : (ids t : List ℕ) (d : Done ℕ (List ℕ)) → P .start ids t ≡ accepted d → (first rest : List (List ℕ)) (page : List ℕ) (e : Done ℕ (List ℕ))
       → P .save (playAll P (d .leaves) first) page ≡ accepted e → (lent : List ℕ) → base (length ids) ≤ length lent
       → Resumes P ids (d .leaves) first rest (take (e .says) (e .leaves)) lent
-
   -- "With the list unchanged, other streams' packets may be altered at will, none becoming this stream's, without altering this stream's answers or record."
   pub apart : (ids t u : List ℕ) (d e : Done ℕ (List ℕ)) → P .start ids t ≡ accepted d → P .start ids u ≡ accepted e → (s : ℕ) → s < length ids
       → (ps qs : List (List ℕ)) → Altered ids s ps qs

@@ -1,15 +1,15 @@
 -- Document 01, 'Numbers given back': "The first that applies is given, in these orders." For each call its refusals, in the document's order, each with the test
 -- that says when it is given; what stands in brackets in the comments is the document's row.
 use mathlib.Core.Path.{_≡_}
-use Prim.Native.Nat.{ℕ, zero, suc, _+_, _-_, _/_, _%_, _^_}
-use mathlib.Core.Bool.{Bool, true, false, not}
+use Prim.Native.Nat.{ℕ, _+_, _^_}
+use mathlib.Core.Bool.{Bool, true, not}
 use mathlib.Core.List.{List, [], _∷_, _++_}
 use lib.Dec.{eqb, ltb, leb}
 use lib.ListN.{length, getD, take, drop}
 use Rattle.words.specs.Numbers.{EMPTY, TYPE, BITS, SHORT, CUT, CLASS, TIME, INDICATOR, LAYOUT, FIELD, STREAM, LIST, ROOM, VALUE, SIZE, FORMAT, COUNT, TABLE, PAGE}
 use Rattle.words.specs.Tests.{pick, both, among}
 use Rattle.words.specs.Word.{bits}
-use Rattle.words.specs.Outcome.{Outcome, refused, accepted, Done}
+use Rattle.words.specs.Outcome.{Outcome, refused, accepted}
 use Rattle.fields.specs.Format.{eventSize, channelSize, itemSize}
 use Rattle.fields.specs.Layout.{lowBitsSet, otherLength, ruleBroken}
 use Rattle.packet.specs.declared.Packet.{Packet}
@@ -34,7 +34,7 @@ use Rattle.page.specs.Layout.{pageOf, pageLength, bodiesIn, tableOf}
 use Rattle.page.specs.Good.{pageOk}
 use Rattle.page.specs.Save.{saveOf}
 use Rattle.page.specs.PutBack.{putBackOf}
-use Rattle.panel.specs.Readings.{Reading, recordShows, readingOf}
+use Rattle.panel.specs.Readings.{recordShows, readingOf}
 
 -- a refusal of the list: its number, and whether it applies
 pub record Refusal : Type 0 where
@@ -143,9 +143,9 @@ packList first second is es cs out =
     ∷ refusal COUNT (either (countBad first second (length is)) (either (not (eqb (length es) (length is))) (not (eqb (length cs) (length is)))))
     -- (a number to be written does not fit its bits)
     ∷ refusal VALUE
-        (either (not (fitting (itemSize first) (length is) is))
-        (either (not (fitting (eventSize first) (length is) es))
-        (not (fitting (channelSize first) (length is) cs))))
+    (either (not (fitting (itemSize first) (length is) is))
+    (either (not (fitting (eventSize first) (length is) es))
+    (not (fitting (channelSize first) (length is) cs))))
     ∷ refusal ROOM (ltb (length out) (wordsFor first (length is)))
     ∷ []
 

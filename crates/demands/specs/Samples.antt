@@ -1,10 +1,10 @@
 -- Document 01, 'Samples from the bench': the cases marked P, as one table. A row says what the definitions give and what the bench wants; `Hold` is the one
 -- statement over all rows, proved in proofs/Samples.antt.
 use mathlib.Core.Path.{_≡_}
-use Prim.Native.Nat.{ℕ, zero, suc, _+_, _-_, _/_, _%_, _^_}
-use mathlib.Core.Bool.{Bool, true, false}
+use Prim.Native.Nat.{ℕ}
+use mathlib.Core.Bool.{true}
 use mathlib.Core.List.{List, [], _∷_}
-use lib.IntN.{ℤ, pos, negsuc}
+use lib.IntN.{pos, negsuc}
 use lib.Ieee.{fin}
 use Rattle.words.specs.Numbers.{SHORT, CUT}
 use Rattle.words.specs.Outcome.{Outcome, refused, accepted, Done}
@@ -17,7 +17,7 @@ use Rattle.payload.specs.Format.{linkEfficient}
 use Rattle.payload.specs.Pack.{packOf}
 use Rattle.payload.specs.Unpack.{Buffers, buffers, unpackOf}
 use Rattle.payload.specs.Signs.{signedOf}
-use Rattle.panel.specs.Readings.{Reading, frequency, level, temperature, shownOf}
+use Rattle.panel.specs.Readings.{frequency, level, temperature, shownOf}
 use Rattle.demands.specs.Trace.{missed}
 
 -- a row, of any type: what is got, and what is wanted
