@@ -13,7 +13,9 @@ use Rattle.fields.specs.Layout.{contextOf}
 use Rattle.packet.specs.declared.Packet.{Packet}
 use Rattle.packet.specs.Parts.{packetOf}
 use Rattle.packet.specs.Read.{headerChecks, sizeChecks, prologueChecks, bodyChecks, checksOf, readOf}
+use Rattle.packet.specs.Trailer.{trailerWordOf}
 use Rattle.packet.specs.Write.{partsChecks, measureChecks, roomChecks, writeChecks, writeOf}
+use Rattle.payload.specs.Count.{neededOf}
 use Rattle.payload.specs.Pack.{packCheck, packOf}
 use Rattle.payload.specs.Signs.{signedOf}
 use Rattle.payload.specs.Unpack.{unpackCheck, unpackOf}
@@ -23,8 +25,10 @@ use Rattle.table.specs.Well.{wellMade}
 use Rattle.table.specs.Start.{startOf}
 use Rattle.play.specs.declared.Heard.{Heard}
 use Rattle.play.specs.Play.{soughtOf, heardOf, tableAfter, stepOf, madeOf, playOf}
-use Rattle.page.specs.Save.{saveOf}
+use Rattle.play.specs.Run.{runOf}
+use Rattle.page.specs.Save.{lengthOf, saveOf}
 use Rattle.page.specs.PutBack.{putBackOf}
+use Rattle.panel.specs.HeldWords.{copyOf, heldWordsOf}
 use Rattle.panel.specs.Readings.{askedOf, readingOf}
 use Rattle.demands.specs.Refusals.{Refusal, refusal, firstOf, either, readList, playList, InOrder}
 
@@ -95,7 +99,7 @@ play-order t ws =
     ∙ ap (firstOf list) (sought-first none undeclared STREAM s (doneFor t ws p)) ∙ sym (first-append list (refusal STREAM (either none undeclared) ∷ []) (doneFor t ws p s)))
 
 pub in-order : InOrder
-unfolding writeOf writeChecks partsChecks measureChecks bodyChecks contextOf roomChecks startOf saveOf putBackOf readingOf askedOf packOf packCheck unpackOf unpackCheck signedOf
+unfolding writeOf writeChecks partsChecks measureChecks bodyChecks contextOf roomChecks startOf saveOf putBackOf readingOf askedOf packOf packCheck unpackOf unpackCheck signedOf neededOf trailerWordOf runOf madeOf lengthOf heldWordsOf copyOf
 in-order = record {
   read = read-order;
   write = λ p body out at. simp (after-pick, of-context);
@@ -107,4 +111,10 @@ in-order = record {
   pack = λ first second is es cs out. simp (after-pick, either-pick);
   unpack = λ first second n ws b. simp (after-pick, either-pick);
   signed = λ w x. simp either-pick;
+  checkBody = λ body. refl;
+  wordsNeeded = λ first second n. refl;
+  trailerWord = λ enables indicators e associated. refl;
+  playRun = λ t ws from out. simp after-pick;
+  length-of-page = λ t. refl;
+  heldWords = λ t stream bit out. simp (after-pick, either-pick);
 }

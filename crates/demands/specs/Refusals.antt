@@ -8,17 +8,18 @@ use lib.Dec.{eqb, ltb, leb}
 use lib.ListN.{length, getD, take, drop}
 use Rattle.words.specs.Numbers.{EMPTY, TYPE, BITS, SHORT, CUT, CLASS, TIME, INDICATOR, LAYOUT, FIELD, STREAM, LIST, ROOM, VALUE, SIZE, FORMAT, COUNT, TABLE, PAGE}
 use Rattle.words.specs.Tests.{pick, both, among}
-use Rattle.words.specs.Word.{bits}
+use Rattle.words.specs.Word.{bits, join}
 use Rattle.words.specs.Outcome.{Outcome, refused, accepted}
 use Rattle.fields.specs.Format.{eventSize, channelSize, itemSize}
-use Rattle.fields.specs.Layout.{lowBitsSet, otherLength, ruleBroken}
+use Rattle.fields.specs.Layout.{lowBitsSet, otherLength, ruleBroken, contextOf}
 use Rattle.packet.specs.declared.Packet.{Packet}
 use Rattle.packet.specs.declared.Parts.{Parts}
 use Rattle.packet.specs.Header.{typeOf, reservedOf, tsfOf, sizeOf}
 use Rattle.packet.specs.Parts.{requiredOf, classHigh, fractionOf, bodyOf, packetOf}
 use Rattle.packet.specs.Read.{timeOver, readOf}
+use Rattle.packet.specs.Trailer.{trailerWordOf}
 use Rattle.packet.specs.Write.{partsFit, sizeFor, packetWords, writeOf}
-use Rattle.payload.specs.Count.{countBad, wordsFor}
+use Rattle.payload.specs.Count.{countBad, wordsFor, neededOf}
 use Rattle.payload.specs.Field.{fitting}
 use Rattle.payload.specs.Format.{formatBad, packingOf}
 use Rattle.payload.specs.Pack.{packed, packOf}
@@ -30,10 +31,12 @@ use Rattle.table.specs.Well.{wellMade}
 use Rattle.table.specs.Start.{freshTable, startOf}
 use Rattle.play.specs.Play as Play
 use Rattle.play.specs.Play.{tableAfter, playOf}
+use Rattle.play.specs.Run.{wholeWalk, reachedOf, answersOf, runOf}
 use Rattle.page.specs.Layout.{pageOf, pageLength, bodiesIn, tableOf}
 use Rattle.page.specs.Good.{pageOk}
-use Rattle.page.specs.Save.{saveOf}
+use Rattle.page.specs.Save.{lengthOf, saveOf}
 use Rattle.page.specs.PutBack.{putBackOf}
+use Rattle.panel.specs.HeldWords.{heldIn, heldWordsOf}
 use Rattle.panel.specs.Readings.{recordShows, readingOf}
 
 -- a refusal of the list: its number, and whether it applies
@@ -72,6 +75,10 @@ readList ws w =
     ∷ refusal LAYOUT (both (eqb (typeOf w) 4) (otherLength (bodyOf w ws)))
     ∷ refusal FIELD (both (eqb (typeOf w) 4) (ruleBroken (bodyOf w ws)))
     ∷ []
+
+-- INDICATOR, LAYOUT and FIELD of a type 4 body that is handed in alone
+abbrev pub bodyList : List ℕ → List Refusal
+bodyList body = refusal INDICATOR (lowBitsSet body) ∷ refusal LAYOUT (otherLength body) ∷ refusal FIELD (ruleBroken body) ∷ []
 
 -- ---- "Write: TYPE, VALUE, SHORT, SIZE, TIME, INDICATOR, LAYOUT, FIELD, ROOM"
 
@@ -133,6 +140,12 @@ readingList t stream bit =
     ∷ refusal VALUE (either (ltb bit 10) (ltb 30 bit))
     ∷ []
 
+-- the held words themselves: as a reading, and then ROOM
+abbrev pub heldWordsList : List ℕ → (stream bit : ℕ) → List ℕ → List Refusal
+heldWordsList t stream bit out =
+    readingList t stream bit
+    ++ (refusal ROOM (ltb (length out) (length (heldIn bit (recordAt stream t)))) ∷ [])
+
 -- ---- "Pack: FORMAT, COUNT, VALUE, ROOM. Unpack: FORMAT, COUNT, ROOM. Signed value: FORMAT, VALUE."
 
 abbrev pub packList : (first second : ℕ) (items events channels out : List ℕ) → List Refusal
@@ -165,7 +178,16 @@ signedList w x =
     ∷ refusal VALUE (leb (2 ^ w) x)
     ∷ []
 
--- ---- each call gives the first refusal of its list that applies, and is else accepted
+-- the words needed: FORMAT and COUNT
+abbrev pub neededList : (first second n : ℕ) → List Refusal
+neededList first second n = refusal FORMAT (formatBad first second) ∷ refusal COUNT (countBad first second n) ∷ []
+
+-- a trailer word of four numbers: VALUE
+abbrev pub trailerList : (enables indicators e associated : ℕ) → List Refusal
+trailerList enables indicators e associated =
+    refusal VALUE (not (both (ltb enables (2 ^ 12)) (both (ltb indicators (2 ^ 12)) (both (ltb e 2) (ltb associated (2 ^ 7)))))) ∷ []
+
+-- ---- each call gives the first refusal of its list that applies, and is else accepted. Of the public calls, those that are not here never refuse
 
 pub record InOrder : Type 0 where
   pub read : (ws : List ℕ) → readOf ws ≡ firstOf (readList ws (getD ws 0 0)) (accepted (packetOf (getD ws 0 0) ws))
@@ -184,3 +206,12 @@ pub record InOrder : Type 0 where
   pub unpack : (first second n : ℕ) (ws : List ℕ) (b : Buffers) → unpackOf first second n ws b
       ≡ firstOf (unpackList first second n ws b) (accepted (record { says = n; leaves = unpacked (packingOf first) n ws b }))
   pub signed : (w x : ℕ) → signedOf w x ≡ firstOf (signedList w x) (accepted (twosComplement w x))
+  pub checkBody : (body : List ℕ) → contextOf body ≡ firstOf (bodyList body) (accepted tt)
+  pub wordsNeeded : (first second n : ℕ) → neededOf first second n ≡ firstOf (neededList first second n) (accepted (wordsFor first n))
+  pub trailerWord : (enables indicators e associated : ℕ) → trailerWordOf enables indicators e associated
+      ≡ firstOf (trailerList enables indicators e associated) (accepted (join (7 ∷ 1 ∷ 12 ∷ 12 ∷ []) (associated ∷ e ∷ indicators ∷ enables ∷ [])))
+  pub playRun : (t ws : List ℕ) (from : ℕ) (out : List ℕ) → let w = wholeWalk t ws from out in
+      runOf t ws from out ≡ firstOf (refusal TABLE (not (wellMade t)) ∷ []) (accepted (record { says = reachedOf w; leaves = (w .table, answersOf w out) }))
+  pub length-of-page : (t : List ℕ) → lengthOf t ≡ firstOf (refusal TABLE (not (wellMade t)) ∷ refusal SIZE (ltb 65535 (pageLength t)) ∷ []) (accepted (pageLength t))
+  pub heldWords : (t : List ℕ) (stream bit : ℕ) (out : List ℕ) → let ws = heldIn bit (recordAt stream t) in
+      heldWordsOf t stream bit out ≡ firstOf (heldWordsList t stream bit out) (accepted (record { says = length ws; leaves = ws ++ drop (length ws) out }))
