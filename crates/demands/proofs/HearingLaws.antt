@@ -33,7 +33,7 @@ use Rattle.play.specs.Play as Play
 use Rattle.play.specs.Play.{soughtOf, tableAfter, stepOf, playOf}
 use Rattle.play.proofs.PlayLaws.{play-step}
 use Rattle.play.proofs.KeepLaws.{play-keeps}
-use Rattle.demands.specs.Trace.{Arrival, placeIn, arrivalOf, heardOf, countedTypes}
+use Rattle.demands.specs.Trace.{Arrival, placeIn, arrivalOf, heardBy, countedTypes}
 
 -- ---- what a heard packet is
 
@@ -59,8 +59,8 @@ read-type ws p e =
     let k = read-accepts ws p e in
     rw (← k .says) (ltb-false 5 (typeOf (getD ws 0 0)) (passed (ltb 5 (typeOf (getD ws 0 0))) _ _ tt (k .passes .header) .0))
 
-pub heard-fine : (ids ws : List ℕ) (a : Arrival) → heardOf ids ws ≡ accepted a → Fine ids a
-unfolding heardOf arrivalOf
+pub heard-fine : (ids ws : List ℕ) (a : Arrival) → heardBy ids ws ≡ accepted a → Fine ids a
+unfolding heardBy arrivalOf
 heard-fine ids ws a e =
     let k = onward-passed (readOf ws) (arrivalOf ids ws) a e in
     let p = k .0 in
@@ -117,8 +117,8 @@ module _ (ids t : List ℕ) (l : Listed ids t) where
       (two-tests (among (p .parts .kind) (0 ∷ 2 ∷ [])) (leb (length ids) (placeIn ids (p .parts .identifier))) STREAM _ _ _ _ refl)
 
   -- play is reading and the list, and then one record replaced
-  pub play-is : (ws : List ℕ) → playOf t ws ≡ onward (heardOf ids ws) (doneOn t)
-  unfolding heardOf
+  pub play-is : (ws : List ℕ) → playOf t ws ≡ onward (heardBy ids ws) (doneOn t)
+  unfolding heardBy
   play-is ws = play-step t ws (l .made) ∙ heard-read ws (readOf ws) refl
 
   -- the table stays one of the list

@@ -30,7 +30,7 @@ use Rattle.page.specs.Save.{lengthOf, saveOf}
 use Rattle.page.specs.PutBack.{putBackOf}
 use Rattle.panel.specs.HeldWords.{copyOf, heldWordsOf}
 use Rattle.panel.specs.Readings.{askedOf, readingOf}
-use Rattle.demands.specs.Refusals.{Refusal, refusal, firstOf, either, readList, playList, InOrder}
+use Rattle.demands.specs.Refusals.{Refusal, refusal, firstGiven, either, readList, playList, InOrder}
 
 -- ---- chains of tests
 
@@ -50,22 +50,22 @@ of-context false i l f x y z rest = refl
 
 -- ---- lists of refusals
 
-onward-first : {A B : Type 0} (rs : List Refusal) (a : A) (rest : A → Outcome B) → onward (firstOf rs (accepted a)) rest ≡ firstOf rs (rest a)
+onward-first : {A B : Type 0} (rs : List Refusal) (a : A) (rest : A → Outcome B) → onward (firstGiven rs (accepted a)) rest ≡ firstGiven rs (rest a)
 onward-first [] a rest = refl
 onward-first (r ∷ rs) a rest = one (r .applies) (onward-first rs a rest)
   where
-    one : (t : Bool) → onward (firstOf rs (accepted a)) rest ≡ firstOf rs (rest a)
-        → onward (pick t (refused (r .number)) (firstOf rs (accepted a))) rest ≡ pick t (refused (r .number)) (firstOf rs (rest a))
+    one : (t : Bool) → onward (firstGiven rs (accepted a)) rest ≡ firstGiven rs (rest a)
+        → onward (pick t (refused (r .number)) (firstGiven rs (accepted a))) rest ≡ pick t (refused (r .number)) (firstGiven rs (rest a))
     one true e = refl
     one false e = e
 
-first-append : {A : Type 0} (rs qs : List Refusal) (o : Outcome A) → firstOf (rs ++ qs) o ≡ firstOf rs (firstOf qs o)
+first-append : {A : Type 0} (rs qs : List Refusal) (o : Outcome A) → firstGiven (rs ++ qs) o ≡ firstGiven rs (firstGiven qs o)
 first-append [] qs o = refl
 first-append (r ∷ rs) qs o = ap (pick (r .applies) (refused (r .number))) (first-append rs qs o)
 
 -- ---- the calls
 
-read-order : (ws : List ℕ) → readOf ws ≡ firstOf (readList ws (getD ws 0 0)) (accepted (packetOf (getD ws 0 0) ws))
+read-order : (ws : List ℕ) → readOf ws ≡ firstGiven (readList ws (getD ws 0 0)) (accepted (packetOf (getD ws 0 0) ws))
 unfolding readOf checksOf headerChecks sizeChecks prologueChecks bodyChecks contextOf
 read-order ws = simp (after-pick, of-context)
 
@@ -85,7 +85,7 @@ readFor t ws p = onward (soughtOf (p .parts .kind) (p .parts .identifier) t) (do
 
 play-order : (t ws : List ℕ) → let p = packetOf (getD ws 0 0) ws in
     let s = streamOf (p .parts .identifier) t in
-    playOf t ws ≡ firstOf (playList t ws p) (accepted (record { says = heardOf p s t; leaves = tableAfter p s ws t }))
+    playOf t ws ≡ firstGiven (playList t ws p) (accepted (record { says = heardOf p s t; leaves = tableAfter p s ws t }))
 unfolding playOf madeOf stepOf soughtOf
 play-order t ws =
     let p = packetOf (getD ws 0 0) ws in
@@ -96,7 +96,7 @@ play-order t ws =
     after-pick (not (wellMade t)) TABLE (accepted tt) (stepOf t ws)
     ∙ ap (pick (not (wellMade t)) (refused TABLE))
     (ap (λ (o : Outcome Packet). onward o (readFor t ws)) (read-order ws) ∙ onward-first list p (readFor t ws)
-    ∙ ap (firstOf list) (sought-first none undeclared STREAM s (doneFor t ws p)) ∙ sym (first-append list (refusal STREAM (either none undeclared) ∷ []) (doneFor t ws p s)))
+    ∙ ap (firstGiven list) (sought-first none undeclared STREAM s (doneFor t ws p)) ∙ sym (first-append list (refusal STREAM (either none undeclared) ∷ []) (doneFor t ws p s)))
 
 pub in-order : InOrder
 unfolding writeOf writeChecks partsChecks measureChecks bodyChecks contextOf roomChecks startOf saveOf putBackOf readingOf askedOf packOf packCheck unpackOf unpackCheck signedOf neededOf trailerWordOf runOf madeOf lengthOf heldWordsOf copyOf

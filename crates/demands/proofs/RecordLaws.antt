@@ -27,7 +27,7 @@ use Rattle.record.proofs.AfterLaws.{held-bit}
 use Rattle.record.proofs.GoodLaws.{good-of}
 use Rattle.record.proofs.PacketLaws.{order-small, after-length, after-slot, after-held, after-count, after-other, after-good}
 use Rattle.table.specs.Start.{freshRecord}
-use Rattle.demands.specs.Trace.{Arrival, kept, carried, orElse, countedTypes}
+use Rattle.demands.specs.Trace.{Arrival, kept, valueCarried, orElse, countedTypes}
 use Rattle.demands.specs.Demands.{heldIn}
 use Rattle.demands.proofs.HearingLaws.{Fine}
 
@@ -76,7 +76,7 @@ none-held : (b : ℕ) (r : List ℕ) → length r ≡ recordWords → recordGood
 none-held b r l g o =
     ⊎-elim (λ e. absurd (true-is-false (sym (good-of r l g .bits b e) ∙ o))) (λ e. rw e) (true-or-false (has (heldOf r) b))
 
-none-carried : (b : ℕ) (a : Arrival) → holds b ≡ false → carried b a ≡ none
+none-carried : (b : ℕ) (a : Arrival) → holds b ≡ false → valueCarried b a ≡ none
 none-carried b a o = rw (kept-other b o)
 
 -- a field comes from a Context packet whose indicator has its bit, and else was there before
@@ -98,7 +98,7 @@ module _ (ids : List ℕ) (a : Arrival) (f : Fine ids a) (r : List ℕ) (l : len
   abbrev next : List ℕ
   next = recordAfter (a .kind) (a .count) (a .body) r
 
-  pub held-after : recordGood r ≡ true → (b : ℕ) → heldIn b (recordAfter (a .kind) (a .count) (a .body) r) ≡ orElse (carried b a) (heldIn b r)
+  pub held-after : recordGood r ≡ true → (b : ℕ) → heldIn b (recordAfter (a .kind) (a .count) (a .body) r) ≡ orElse (valueCarried b a) (heldIn b r)
   unfolding slotAfter
   held-after g b =
       ⊎-elim

@@ -23,7 +23,7 @@ use Rattle.table.proofs.StartLaws.{fresh-record, start-well-made}
 use Rattle.play.specs.declared.Heard.{Heard}
 use Rattle.play.specs.Play.{playOf}
 use Rattle.play.proofs.KeepLaws.{play-keeps}
-use Rattle.demands.specs.Trace.{Arrival, Trace, heardOf, traceOf, own, carried, orElse, lastCarried, countedTypes, countsOf, countRule, answerTo, answersAfter}
+use Rattle.demands.specs.Trace.{Arrival, Trace, heardBy, traceOf, own, valueCarried, orElse, lastCarried, countedTypes, countsOf, countRule, answerTo, answersAfter}
 use Rattle.demands.specs.Demands.{ours, heldIn, Right, pastOf, playAll, saidAll}
 use Rattle.demands.proofs.RuleLaws.{own-append, last-more, counts-append, added-by-last, rule-more}
 use Rattle.demands.proofs.HearingLaws.{Fine, heard-fine, Listed, recordOn, doneOn, play-is, listed-on, record-whole, record-own, record-other}
@@ -58,7 +58,7 @@ right-start ids t d e =
 
 pub trace-append : (ids : List ℕ) (ps qs : List (List ℕ)) → traceOf ids (ps ++ qs) ≡ traceOf ids ps ++ traceOf ids qs
 trace-append ids [] qs = refl
-trace-append ids (ws ∷ ps) qs = ap (λ (l : Trace). heardOf ids ws ∷ l) (trace-append ids ps qs)
+trace-append ids (ws ∷ ps) qs = ap (λ (l : Trace). heardBy ids ws ∷ l) (trace-append ids ps qs)
 
 -- the rules of a stream's own packets
 record Ruled (before : List Arrival) (r : List ℕ) : Type 0 where
@@ -91,7 +91,7 @@ module _ (ids : List ℕ) (before : List (List ℕ)) (t : List ℕ) (r : Right i
       let old = own s (traceOf ids before) in
       let g = well-record t (r .made) s (rw (r .streams) h) in
       record {
-        held = λ b. held-after ids a f (recordAt s t) l g b ∙ ap (orElse (carried b a)) (r .held s h b) ∙ sym (last-more b old a);
+        held = λ b. held-after ids a f (recordAt s t) l g b ∙ ap (orElse (valueCarried b a)) (r .held s h b) ∙ sym (last-more b old a);
         counts = λ kind o.
             count-after ids a f (recordAt s t) l kind o
             ∙ ap (λ (ws : List ℕ). pick (eqb (a .kind) kind) (countedOf (a .count) ws) ws) (r .counts s h kind o)
@@ -112,16 +112,16 @@ module _ (ids : List ℕ) (before : List (List ℕ)) (t : List ℕ) (r : Right i
   pub right-more : (ws : List ℕ) → Right ids (before ++ (ws ∷ [])) (leftOf (playOf t ws) t)
   right-more ws =
       let l = listed-on ids t listing ws in
-      let same : leftOf (playOf t ws) t ≡ leftOf (onward (heardOf ids ws) (doneOn t)) t = ap (λ (o : Outcome (Done Heard (List ℕ))). leftOf o t) (play-is ids t listing ws) in
-      let grown : (s : ℕ) → own s (traceOf ids (before ++ (ws ∷ []))) ≡ own s (traceOf ids before) ++ own s (heardOf ids ws ∷ []) =
-      λ s. ap (own s) (trace-append ids before (ws ∷ [])) ∙ own-append s (traceOf ids before) (heardOf ids ws ∷ []) in
+      let same : leftOf (playOf t ws) t ≡ leftOf (onward (heardBy ids ws) (doneOn t)) t = ap (λ (o : Outcome (Done Heard (List ℕ))). leftOf o t) (play-is ids t listing ws) in
+      let grown : (s : ℕ) → own s (traceOf ids (before ++ (ws ∷ []))) ≡ own s (traceOf ids before) ++ own s (heardBy ids ws ∷ []) =
+      λ s. ap (own s) (trace-append ids before (ws ∷ [])) ∙ own-append s (traceOf ids before) (heardBy ids ws ∷ []) in
       record {
         made = l .made;
         streams = l .streams;
         list = l .list;
-        held = λ s h b. ap (λ (u : List ℕ). heldIn b (recordAt s u)) same ∙ ruled-heard (heardOf ids ws) (heard-fine ids ws) s h .held b ∙ ap (lastCarried b) (sym (grown s));
+        held = λ s h b. ap (λ (u : List ℕ). heldIn b (recordAt s u)) same ∙ ruled-heard (heardBy ids ws) (heard-fine ids ws) s h .held b ∙ ap (lastCarried b) (sym (grown s));
         counts = λ s h kind o.
-            ap (λ (u : List ℕ). countOf (orderOf kind) (recordAt s u)) same ∙ ruled-heard (heardOf ids ws) (heard-fine ids ws) s h .counts kind o
+            ap (λ (u : List ℕ). countOf (orderOf kind) (recordAt s u)) same ∙ ruled-heard (heardBy ids ws) (heard-fine ids ws) s h .counts kind o
             ∙ ap (λ (l : List Arrival). countRule (countsOf kind l)) (sym (grown s));
       }
 
@@ -135,8 +135,8 @@ module _ (ids : List ℕ) (before : List (List ℕ)) (t : List ℕ) (r : Right i
       ap (λ (ws : List ℕ). addedOf (lastOf ws) (a .count)) (r .counts (a .stream) (g .stream) (a .kind) (g .kind)) in
       rw (added, added-by-last (countsOf (a .kind) (own (a .stream) (traceOf ids before))) (a .count))
 
-  pub right-answer : (ws : List ℕ) → saidOf (playOf t ws) ≡ answerTo (traceOf ids before) (heardOf ids ws)
-  right-answer ws = ap saidOf (play-is ids t listing ws) ∙ answer-heard (heardOf ids ws) (heard-fine ids ws)
+  pub right-answer : (ws : List ℕ) → saidOf (playOf t ws) ≡ answerTo (traceOf ids before) (heardBy ids ws)
+  right-answer ws = ap saidOf (play-is ids t listing ws) ∙ answer-heard (heardBy ids ws) (heard-fine ids ws)
 
 -- ---- many
 

@@ -14,7 +14,7 @@ use Rattle.words.specs.Tests.{pick}
 use Rattle.words.specs.Outcome.{refused, accepted}
 use Rattle.record.specs.Counts.{missedOf, addedOf, countedOf}
 use Rattle.fields.specs.Layout.{fieldOf}
-use Rattle.demands.specs.Trace.{Arrival, Trace, own, carries, carried, orElse, lastCarried, NoneCarried, LastCarried, countsOf, lastOf, missedAfter, missed, lastPlusOne, countRule, addedAfter}
+use Rattle.demands.specs.Trace.{Arrival, Trace, own, carries, valueCarried, orElse, lastCarried, NoneCarried, LastCarried, countsOf, lastCount, missedAfter, missed, lastPlusOne, countRule, addedAfter}
 use Rattle.demands.specs.Demands.{LastMeant}
 
 -- ---- a stream's own packets
@@ -39,10 +39,10 @@ or-assoc : {A : Type 0} (x y z : Option A) → orElse (orElse x y) z ≡ orElse 
 or-assoc none y z = refl
 or-assoc (some a) y z = refl
 
-pub last-more : (b : ℕ) (before : List Arrival) (a : Arrival) → lastCarried b (before ++ (a ∷ [])) ≡ orElse (carried b a) (lastCarried b before)
+pub last-more : (b : ℕ) (before : List Arrival) (a : Arrival) → lastCarried b (before ++ (a ∷ [])) ≡ orElse (valueCarried b a) (lastCarried b before)
 last-more b [] a = simp or-none
 last-more b (x ∷ before) a =
-    ap (λ (o : Option (List ℕ)). orElse o (carried b x)) (last-more b before a) ∙ or-assoc (carried b a) (lastCarried b before) (carried b x)
+    ap (λ (o : Option (List ℕ)). orElse o (valueCarried b x)) (last-more b before a) ∙ or-assoc (valueCarried b a) (lastCarried b before) (valueCarried b x)
 
 -- ---- the last that carried a field, by a cut of the packets
 
@@ -60,7 +60,7 @@ carried-does b a v false e = absurd (Option·none-ne-some v e)
 
 silent : (b : ℕ) (packets : List Arrival) → lastCarried b packets ≡ none → NoneCarried b packets
 silent b [] e = tt
-silent b (a ∷ later) e = let k = or-both (lastCarried b later) (carried b a) e in (carried-not b a (carries b a) (k .1), silent b later (k .0))
+silent b (a ∷ later) e = let k = or-both (lastCarried b later) (valueCarried b a) e in (carried-not b a (carries b a) (k .1), silent b later (k .0))
 
 from-silent : (b : ℕ) (packets : List Arrival) → NoneCarried b packets → lastCarried b packets ≡ none
 from-silent b [] h = refl
@@ -70,7 +70,7 @@ further : (b : ℕ) (a : Arrival) (packets : List Arrival) (v : List ℕ) → La
 further b a packets v x = record { before = a ∷ x .before; last = x .last; later = x .later; cut = ap (λ (l : List Arrival). a ∷ l) (x .cut); does = x .does; value = x .value; silent = x .silent }
 
 found : (b : ℕ) (a : Arrival) (later : List Arrival) (v : List ℕ) (o : Option (List ℕ)) → lastCarried b later ≡ o
-    → ((w : List ℕ) → lastCarried b later ≡ some w → LastCarried b later w) → orElse o (carried b a) ≡ some v → LastCarried b (a ∷ later) v
+    → ((w : List ℕ) → lastCarried b later ≡ some w → LastCarried b later w) → orElse o (valueCarried b a) ≡ some v → LastCarried b (a ∷ later) v
 found b a later v none e ih f =
     let k = carried-does b a v (carries b a) f in
     record { before = []; last = a; later = later; cut = refl; does = k .0; value = k .1; silent = silent b later e }
@@ -98,14 +98,14 @@ counts-append kind (a ∷ before) bs =
     ap (λ (l : List ℕ). pick (eqb (a .kind) kind) (a .count ∷ l) l) (counts-append kind before bs)
     ∙ sym (pick-append (eqb (a .kind) kind) (a .count) (countsOf kind before) (countsOf kind bs))
 
-last-of-more : (c : ℕ) (cs : List ℕ) (d : ℕ) → lastOf c (cs ++ (d ∷ [])) ≡ d
+last-of-more : (c : ℕ) (cs : List ℕ) (d : ℕ) → lastCount c (cs ++ (d ∷ [])) ≡ d
 last-of-more c [] d = refl
 last-of-more c (x ∷ cs) d = last-of-more x cs d
 
-missed-after-more : (c : ℕ) (cs : List ℕ) (d : ℕ) → missedAfter c (cs ++ (d ∷ [])) ≡ missedAfter c cs + missedOf (lastOf c cs) d
+missed-after-more : (c : ℕ) (cs : List ℕ) (d : ℕ) → missedAfter c (cs ++ (d ∷ [])) ≡ missedAfter c cs + missedOf (lastCount c cs) d
 missed-after-more c [] d = omega arith
 missed-after-more c (x ∷ cs) d =
-    ap (λ (n : ℕ). missedOf c x + n) (missed-after-more x cs d) ∙ sym (add-assoc (missedOf c x) (missedAfter x cs) (missedOf (lastOf x cs) d))
+    ap (λ (n : ℕ). missedOf c x + n) (missed-after-more x cs d) ∙ sym (add-assoc (missedOf c x) (missedAfter x cs) (missedOf (lastCount x cs) d))
 
 missed-more : (cs : List ℕ) (d : ℕ) → missed (cs ++ (d ∷ [])) ≡ missed cs + addedAfter cs d
 missed-more [] d = refl
@@ -120,9 +120,9 @@ pub added-by-last : (cs : List ℕ) (d : ℕ) → addedOf (lastPlusOne cs) d ≡
 unfolding addedOf
 added-by-last [] d = refl
 added-by-last (c ∷ cs) d =
-    let n : lastOf c cs + 1 ≡ 0 → ⊥ = λ e. omega (arith, e) in
-    let m : lastOf c cs + 1 - 1 ≡ lastOf c cs = omega arith in
-    rw (ne-eqb (lastOf c cs + 1) 0 n, m)
+    let n : lastCount c cs + 1 ≡ 0 → ⊥ = λ e. omega (arith, e) in
+    let m : lastCount c cs + 1 - 1 ≡ lastCount c cs = omega arith in
+    rw (ne-eqb (lastCount c cs + 1) 0 n, m)
 
 -- one more is seen, what it adds is missing, and its count is the last
 pub rule-more : (cs : List ℕ) (d : ℕ) → countRule (cs ++ (d ∷ [])) ≡ countedOf d (countRule cs)

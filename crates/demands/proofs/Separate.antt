@@ -13,7 +13,7 @@ use Rattle.words.specs.Outcome.{Outcome, refused, accepted}
 use Rattle.words.proofs.Cases.{true-or-false}
 use Rattle.table.specs.Layout.{recordAt}
 use Rattle.play.specs.declared.Heard.{Heard}
-use Rattle.demands.specs.Trace.{Arrival, Trace, heardOf, traceOf, isOwn, own, lastCarried, countsOf, countRule, addedAfter, answerTo, answersAfter}
+use Rattle.demands.specs.Trace.{Arrival, Trace, heardBy, traceOf, isOwn, own, lastCarried, countsOf, countRule, addedAfter, answerTo, answersAfter}
 use Rattle.demands.specs.Demands.{ours, Right, playAll, saidAll, Altered, ended, same, changed, added, dropped, ownAnswers}
 use Rattle.demands.proofs.RuleLaws.{own-append}
 use Rattle.demands.proofs.RightLaws.{right-on, answers-on}
@@ -31,11 +31,11 @@ own-same s (accepted a) xs ys e = rw e
 
 pub own-altered : (ids : List ℕ) (s : ℕ) {ps qs : List (List ℕ)} → Altered ids s ps qs → own s (traceOf ids ps) ≡ own s (traceOf ids qs)
 own-altered ids s ended = refl
-own-altered ids s (same {ps} {qs} ws a) = own-same s (heardOf ids ws) (traceOf ids ps) (traceOf ids qs) (own-altered ids s a)
+own-altered ids s (same {ps} {qs} ws a) = own-same s (heardBy ids ws) (traceOf ids ps) (traceOf ids qs) (own-altered ids s a)
 own-altered ids s (changed {ps} {qs} ws vs e f a) =
-    own-not s (heardOf ids ws) (traceOf ids ps) e ∙ own-altered ids s a ∙ sym (own-not s (heardOf ids vs) (traceOf ids qs) f)
-own-altered ids s (added {ps} {qs} vs f a) = own-altered ids s a ∙ sym (own-not s (heardOf ids vs) (traceOf ids qs) f)
-own-altered ids s (dropped {ps} {qs} ws e a) = own-not s (heardOf ids ws) (traceOf ids ps) e ∙ own-altered ids s a
+    own-not s (heardBy ids ws) (traceOf ids ps) e ∙ own-altered ids s a ∙ sym (own-not s (heardBy ids vs) (traceOf ids qs) f)
+own-altered ids s (added {ps} {qs} vs f a) = own-altered ids s a ∙ sym (own-not s (heardBy ids vs) (traceOf ids qs) f)
+own-altered ids s (dropped {ps} {qs} ws e a) = own-not s (heardBy ids ws) (traceOf ids ps) e ∙ own-altered ids s a
 
 -- ---- the answers to them
 
@@ -68,7 +68,7 @@ own-answers : (ids : List ℕ) (s : ℕ) (before : Trace) (packets : List (List 
 unfolding ownRule
 own-answers ids s before [] = refl
 own-answers ids s before (ws ∷ packets) =
-    chosen s (heardOf ids ws) before (traceOf ids packets) _ (own-answers ids s (before ++ (heardOf ids ws ∷ [])) packets)
+    chosen s (heardBy ids ws) before (traceOf ids packets) _ (own-answers ids s (before ++ (heardBy ids ws ∷ [])) packets)
 
 -- ---- other streams' packets altered
 

@@ -23,7 +23,7 @@ use Rattle.record.specs.Counts.{missedOf}
 use Rattle.table.specs.Layout.{recordAt}
 use Rattle.table.specs.Identifiers.{listed, apart, listGood}
 use Rattle.play.specs.declared.Heard.{Heard}
-use Rattle.demands.specs.Trace.{placeIn, arrivalOf, heardOf, traceOf, own, lastCarried, countsOf, countRule}
+use Rattle.demands.specs.Trace.{placeIn, arrivalOf, heardBy, traceOf, own, lastCarried, countsOf, countRule}
 use Rattle.demands.specs.Demands.{Program, Demand2, Demand3, heldIn, playAll, saidAll}
 
 -- ---- packets of stream 7: sample data of three and of four words, and Context packets that carry one word, in the field of bit 30
@@ -51,14 +51,14 @@ sizeRead (accepted p) = p .size
 record Computed : Type 0 where
   read3 : (p : Packet) × (readOf data3 ≡ accepted p) × (p .size ≡ 3)
   read4 : (p : Packet) × (readOf data4 ≡ accepted p) × (p .size ≡ 4)
-  heard3 : heardOf ids data3 ≡ accepted (record { stream = 0; kind = 1; count = 15; size = 3; body = [] })
-  heard-first : heardOf ids first ≡ accepted (record { stream = 0; kind = 4; count = 0; size = 4; body = 0x40000000 ∷ 1 ∷ [] })
-  heard-second : heardOf ids second ≡ accepted (record { stream = 0; kind = 4; count = 0; size = 4; body = 0x40000000 ∷ 2 ∷ [] })
+  heard3 : heardBy ids data3 ≡ accepted (record { stream = 0; kind = 1; count = 15; size = 3; body = [] })
+  heard-first : heardBy ids first ≡ accepted (record { stream = 0; kind = 4; count = 0; size = 4; body = 0x40000000 ∷ 1 ∷ [] })
+  heard-second : heardBy ids second ≡ accepted (record { stream = 0; kind = 4; count = 0; size = 4; body = 0x40000000 ∷ 2 ∷ [] })
   field-first : fieldOf 30 (0x40000000 ∷ 1 ∷ []) ≡ 1 ∷ []
   field-second : fieldOf 30 (0x40000000 ∷ 2 ∷ []) ≡ 2 ∷ []
 
 computed : Computed
-unfolding heardOf arrivalOf placeIn firstOf trailed tsmOf reservedOf streamed hasSeconds hasFraction classAt secondsAt fractionAt bodyAt requiredOf bodyLength wordIf classHigh classLow fractionOf partsOf bodyOf packetOf part headerChecks sizeChecks timeOver prologueChecks bodyChecks checksOf readOf contextOf lowBitsSet otherLength ruleBroken bodyWords spanOf obeyed ruleOf wordsOf sizeOf bitsOf above placeOf fieldOf
+unfolding heardBy arrivalOf placeIn firstOf trailed tsmOf reservedOf streamed hasSeconds hasFraction classAt secondsAt fractionAt bodyAt requiredOf bodyLength wordIf classHigh classLow fractionOf partsOf bodyOf packetOf part headerChecks sizeChecks timeOver prologueChecks bodyChecks checksOf readOf contextOf lowBitsSet otherLength ruleBroken bodyWords spanOf obeyed ruleOf wordsOf sizeOf bitsOf above placeOf fieldOf
 computed = record {
   read3 = (_, refl, refl);
   read4 = (_, refl, refl);

@@ -31,7 +31,7 @@ use Rattle.page.specs.PutBack.{putBackOf}
 use Rattle.demands.specs.Calls.{OneOutcome, RefusalLeaves, Each, calls}
 use Rattle.demands.specs.Refusals.{InOrder}
 use Rattle.demands.specs.Clean.{Clean}
-use Rattle.demands.specs.Trace.{Arrival, heardOf, traceOf, isOwn, own, lastCarried, NoneCarried, LastCarried, countedTypes, countsOf, countRule, answersAfter}
+use Rattle.demands.specs.Trace.{Arrival, heardBy, traceOf, isOwn, own, lastCarried, NoneCarried, LastCarried, countedTypes, countsOf, countRule, answersAfter}
 
 -- ---- a program
 
@@ -156,15 +156,15 @@ pub record Resumes (P : Program) (ids t : List ℕ) (first rest : List (List ℕ
 pub data Altered (ids : List ℕ) (s : ℕ) : List (List ℕ) → List (List ℕ) → Type 0 where
   ended : Altered ids s [] []
   same : {ps qs : List (List ℕ)} (ws : List ℕ) → Altered ids s ps qs → Altered ids s (ws ∷ ps) (ws ∷ qs)
-  changed : {ps qs : List (List ℕ)} (ws vs : List ℕ) → isOwn s (heardOf ids ws) ≡ false → isOwn s (heardOf ids vs) ≡ false → Altered ids s ps qs → Altered ids s (ws ∷ ps) (vs ∷ qs)
-  added : {ps qs : List (List ℕ)} (vs : List ℕ) → isOwn s (heardOf ids vs) ≡ false → Altered ids s ps qs → Altered ids s ps (vs ∷ qs)
-  dropped : {ps qs : List (List ℕ)} (ws : List ℕ) → isOwn s (heardOf ids ws) ≡ false → Altered ids s ps qs → Altered ids s (ws ∷ ps) qs
+  changed : {ps qs : List (List ℕ)} (ws vs : List ℕ) → isOwn s (heardBy ids ws) ≡ false → isOwn s (heardBy ids vs) ≡ false → Altered ids s ps qs → Altered ids s (ws ∷ ps) (vs ∷ qs)
+  added : {ps qs : List (List ℕ)} (vs : List ℕ) → isOwn s (heardBy ids vs) ≡ false → Altered ids s ps qs → Altered ids s ps (vs ∷ qs)
+  dropped : {ps qs : List (List ℕ)} (ws : List ℕ) → isOwn s (heardBy ids ws) ≡ false → Altered ids s ps qs → Altered ids s (ws ∷ ps) qs
 
 -- of the answers to some packets, those to the accepted packets of stream s
 abbrev pub ownAnswers : List ℕ → ℕ → List (List ℕ) → List (Outcome Heard) → List (Outcome Heard)
 ownAnswers ids s [] answers = []
 ownAnswers ids s (ws ∷ packets) [] = []
-ownAnswers ids s (ws ∷ packets) (x ∷ answers) = pick (isOwn s (heardOf ids ws)) (x ∷ ownAnswers ids s packets answers) (ownAnswers ids s packets answers)
+ownAnswers ids s (ws ∷ packets) (x ∷ answers) = pick (isOwn s (heardBy ids ws)) (x ∷ ownAnswers ids s packets answers) (ownAnswers ids s packets answers)
 
 pub record Demand3 (P : Program) : Type 0 where
   -- "Start a fresh table for any valid list of streams": one is started wherever there is room

@@ -48,9 +48,9 @@ abbrev pub refusal : ℕ → Bool → Refusal
 refusal number applies = record { number = number; applies = applies }
 
 -- the first that applies is given, and else the answer
-abbrev pub firstOf : {A : Type 0} → List Refusal → Outcome A → Outcome A
-firstOf [] answer = answer
-firstOf (r ∷ rest) answer = pick (r .applies) (refused (r .number)) (firstOf rest answer)
+abbrev pub firstGiven : {A : Type 0} → List Refusal → Outcome A → Outcome A
+firstGiven [] answer = answer
+firstGiven (r ∷ rest) answer = pick (r .applies) (refused (r .number)) (firstGiven rest answer)
 
 -- one test or the other holds
 abbrev pub either : Bool → Bool → Bool
@@ -190,28 +190,28 @@ trailerList enables indicators e associated =
 -- ---- each call gives the first refusal of its list that applies, and is else accepted. Of the public calls, those that are not here never refuse
 
 pub record InOrder : Type 0 where
-  pub read : (ws : List ℕ) → readOf ws ≡ firstOf (readList ws (getD ws 0 0)) (accepted (packetOf (getD ws 0 0) ws))
+  pub read : (ws : List ℕ) → readOf ws ≡ firstGiven (readList ws (getD ws 0 0)) (accepted (packetOf (getD ws 0 0) ws))
   pub write : (p : Parts) (body out : List ℕ) (at : ℕ) → writeOf p body out at
-      ≡ firstOf (writeList p body out at)
+      ≡ firstGiven (writeList p body out at)
       (accepted (record { says = sizeFor p (length body); leaves = take at out ++ packetWords p body ++ drop (at + sizeFor p (length body)) out }))
-  pub start : (ids t : List ℕ) → startOf ids t ≡ firstOf (startList ids t) (accepted (record { says = base (length ids); leaves = freshTable ids t }))
+  pub start : (ids t : List ℕ) → startOf ids t ≡ firstGiven (startList ids t) (accepted (record { says = base (length ids); leaves = freshTable ids t }))
   pub play : (t ws : List ℕ) → let p = packetOf (getD ws 0 0) ws in
       let s = streamOf (p .parts .identifier) t in
-      playOf t ws ≡ firstOf (playList t ws p) (accepted (record { says = Play.heardOf p s t; leaves = tableAfter p s ws t }))
-  pub save : (t page : List ℕ) → saveOf t page ≡ firstOf (saveList t page) (accepted (record { says = pageLength t; leaves = pageOf t ++ drop (pageLength t) page }))
-  pub putBack : (p t : List ℕ) → putBackOf p t ≡ firstOf (putBackList p t) (accepted (record { says = base (bodiesIn p); leaves = tableOf p ++ drop (base (bodiesIn p)) t }))
-  pub reading : (t : List ℕ) (stream bit : ℕ) → readingOf t stream bit ≡ firstOf (readingList t stream bit) (accepted (recordShows bit (recordAt stream t)))
+      playOf t ws ≡ firstGiven (playList t ws p) (accepted (record { says = Play.heardOf p s t; leaves = tableAfter p s ws t }))
+  pub save : (t page : List ℕ) → saveOf t page ≡ firstGiven (saveList t page) (accepted (record { says = pageLength t; leaves = pageOf t ++ drop (pageLength t) page }))
+  pub putBack : (p t : List ℕ) → putBackOf p t ≡ firstGiven (putBackList p t) (accepted (record { says = base (bodiesIn p); leaves = tableOf p ++ drop (base (bodiesIn p)) t }))
+  pub reading : (t : List ℕ) (stream bit : ℕ) → readingOf t stream bit ≡ firstGiven (readingList t stream bit) (accepted (recordShows bit (recordAt stream t)))
   pub pack : (first second : ℕ) (is es cs out : List ℕ) → packOf first second is es cs out
-      ≡ firstOf (packList first second is es cs out) (accepted (record { says = wordsFor first (length is); leaves = packed (packingOf first) (length is) is es cs out }))
+      ≡ firstGiven (packList first second is es cs out) (accepted (record { says = wordsFor first (length is); leaves = packed (packingOf first) (length is) is es cs out }))
   pub unpack : (first second n : ℕ) (ws : List ℕ) (b : Buffers) → unpackOf first second n ws b
-      ≡ firstOf (unpackList first second n ws b) (accepted (record { says = n; leaves = unpacked (packingOf first) n ws b }))
-  pub signed : (w x : ℕ) → signedOf w x ≡ firstOf (signedList w x) (accepted (twosComplement w x))
-  pub checkBody : (body : List ℕ) → contextOf body ≡ firstOf (bodyList body) (accepted tt)
-  pub wordsNeeded : (first second n : ℕ) → neededOf first second n ≡ firstOf (neededList first second n) (accepted (wordsFor first n))
+      ≡ firstGiven (unpackList first second n ws b) (accepted (record { says = n; leaves = unpacked (packingOf first) n ws b }))
+  pub signed : (w x : ℕ) → signedOf w x ≡ firstGiven (signedList w x) (accepted (twosComplement w x))
+  pub checkBody : (body : List ℕ) → contextOf body ≡ firstGiven (bodyList body) (accepted tt)
+  pub wordsNeeded : (first second n : ℕ) → neededOf first second n ≡ firstGiven (neededList first second n) (accepted (wordsFor first n))
   pub trailerWord : (enables indicators e associated : ℕ) → trailerWordOf enables indicators e associated
-      ≡ firstOf (trailerList enables indicators e associated) (accepted (join (7 ∷ 1 ∷ 12 ∷ 12 ∷ []) (associated ∷ e ∷ indicators ∷ enables ∷ [])))
+      ≡ firstGiven (trailerList enables indicators e associated) (accepted (join (7 ∷ 1 ∷ 12 ∷ 12 ∷ []) (associated ∷ e ∷ indicators ∷ enables ∷ [])))
   pub playRun : (t ws : List ℕ) (from : ℕ) (out : List ℕ) → let w = wholeWalk t ws from out in
-      runOf t ws from out ≡ firstOf (refusal TABLE (not (wellMade t)) ∷ []) (accepted (record { says = reachedOf w; leaves = (w .table, answersOf w out) }))
-  pub length-of-page : (t : List ℕ) → lengthOf t ≡ firstOf (refusal TABLE (not (wellMade t)) ∷ refusal SIZE (ltb 65535 (pageLength t)) ∷ []) (accepted (pageLength t))
+      runOf t ws from out ≡ firstGiven (refusal TABLE (not (wellMade t)) ∷ []) (accepted (record { says = reachedOf w; leaves = (w .table, answersOf w out) }))
+  pub length-of-page : (t : List ℕ) → lengthOf t ≡ firstGiven (refusal TABLE (not (wellMade t)) ∷ refusal SIZE (ltb 65535 (pageLength t)) ∷ []) (accepted (pageLength t))
   pub heldWords : (t : List ℕ) (stream bit : ℕ) (out : List ℕ) → let ws = heldIn bit (recordAt stream t) in
-      heldWordsOf t stream bit out ≡ firstOf (heldWordsList t stream bit out) (accepted (record { says = length ws; leaves = ws ++ drop (length ws) out }))
+      heldWordsOf t stream bit out ≡ firstGiven (heldWordsList t stream bit out) (accepted (record { says = length ws; leaves = ws ++ drop (length ws) out }))

@@ -42,15 +42,15 @@ arrivalOf ids ws p =
     (accepted (record { stream = placeIn ids (p .parts .identifier); kind = p .parts .kind; count = p .parts .count; size = p .size; body = part (p .body) (p .length) ws })))
 
 -- what some words are to a list: refused, by reading or with STREAM; or an accepted packet of a stream
-unfoldable pub heardOf : List ℕ → List ℕ → Outcome Arrival
-heardOf ids ws = onward (readOf ws) (arrivalOf ids ws)
+unfoldable pub heardBy : List ℕ → List ℕ → Outcome Arrival
+heardBy ids ws = onward (readOf ws) (arrivalOf ids ws)
 
 -- packets one after the other, "refused ones among them"
 abbrev pub Trace : Type 0
 Trace = List (Outcome Arrival)
 
 abbrev pub traceOf : List ℕ → List (List ℕ) → Trace
-traceOf ids packets = map (heardOf ids) packets
+traceOf ids packets = map (heardBy ids) packets
 
 -- an accepted packet of stream s
 abbrev pub isOwn : ℕ → Outcome Arrival → Bool
@@ -74,8 +74,8 @@ abbrev pub carries : ℕ → Arrival → Bool
 carries b a = both (kept b) (both (eqb (a .kind) 4) (has (indicatorOf (a .body)) b))
 
 -- the value of the field of bit b in a packet
-abbrev pub carried : ℕ → Arrival → Option (List ℕ)
-carried b a = pick (carries b a) (some (fieldOf b (a .body))) none
+abbrev pub valueCarried : ℕ → Arrival → Option (List ℕ)
+valueCarried b a = pick (carries b a) (some (fieldOf b (a .body))) none
 
 -- the first that is there
 abbrev pub orElse : {A : Type 0} → Option A → Option A → Option A
@@ -85,7 +85,7 @@ orElse (some x) y = some x
 -- the value in the last of these packets that carried the field: what a later one carried goes before what an earlier one did
 abbrev pub lastCarried : ℕ → List Arrival → Option (List ℕ)
 lastCarried b [] = none
-lastCarried b (a ∷ later) = orElse (lastCarried b later) (carried b a)
+lastCarried b (a ∷ later) = orElse (lastCarried b later) (valueCarried b a)
 
 -- the same, by a cut of the packets: v is the value in `last`, which carried the field, and none of the later ones did (`last-meant`, in proofs/RuleLaws.antt)
 abbrev pub NoneCarried : ℕ → List Arrival → Type 0
@@ -112,9 +112,9 @@ countsOf kind [] = []
 countsOf kind (a ∷ later) = pick (eqb (a .kind) kind) (a .count ∷ countsOf kind later) (countsOf kind later)
 
 -- the last of the counts c and those after it
-abbrev pub lastOf : ℕ → List ℕ → ℕ
-lastOf c [] = c
-lastOf c (d ∷ later) = lastOf d later
+abbrev pub lastCount : ℕ → List ℕ → ℕ
+lastCount c [] = c
+lastCount c (d ∷ later) = lastCount d later
 
 -- "later ones add (count - last - 1) modulo 16": what the counts after c add together
 abbrev pub missedAfter : ℕ → List ℕ → ℕ
@@ -129,7 +129,7 @@ missed (c ∷ later) = missedAfter c later
 -- "last plus one or 0 if not started"
 abbrev pub lastPlusOne : List ℕ → ℕ
 lastPlusOne [] = 0
-lastPlusOne (c ∷ later) = lastOf c later + 1
+lastPlusOne (c ∷ later) = lastCount c later + 1
 
 -- the three words of a type's count, by the counts of its packets: seen, missing, and last plus one or 0
 abbrev pub countRule : List ℕ → List ℕ
@@ -140,7 +140,7 @@ countRule counts = (length counts % 2 ^ 32) ∷ (missed counts % 2 ^ 32) ∷ las
 -- the missing that a packet of count d adds, by the counts of its type before it
 abbrev pub addedAfter : List ℕ → ℕ → ℕ
 addedAfter [] d = 0
-addedAfter (c ∷ later) d = missedOf (lastOf c later) d
+addedAfter (c ∷ later) d = missedOf (lastCount c later) d
 
 -- the answer to a packet, by the trace before it
 abbrev pub answerTo : Trace → Outcome Arrival → Outcome Heard
