@@ -27,6 +27,8 @@ pub mod Determined
 pub mod Resumed
 -- other streams' packets altered
 pub mod Separate
+-- a run plays a recording's packets
+pub mod RunLaws
 -- the demands are met
 pub mod AllMet
 -- the bench's samples

@@ -4,6 +4,8 @@
 pub mod Demands
 -- which packets of a trace are accepted, and the rules over them
 pub mod Trace
+-- many packets in one slice of words
+pub mod Recording
 -- the refusals of each call, in order
 pub mod Refusals
 -- packed words, as a writer makes them

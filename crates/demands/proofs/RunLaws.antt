@@ -1,0 +1,64 @@
+-- A run plays a recording's packets. The idea: a walk goes on exactly where the trace does (`on-same`), since what play says is what the rules say; so the walk's
+-- table and entries are those of playing its packets one by one (`walked`).
+use mathlib.Core.Path.{_≡_, refl, sym, ap, _∙_}
+use mathlib.Core.Bool.{Bool, true, false}
+use mathlib.Core.Logic.{⊎-elim}
+use mathlib.Core.List.{List, [], _∷_, _++_}
+use Prim.Native.Nat.{ℕ, zero, suc, _+_, _/_, _≤_, _<_}
+use native.Mathlib.Nat.{add-zero}
+use borrow.Author.Tests.{le-leb, lt-leb}
+use lib.ListN.{length, getD, drop}
+use lib.Seq.{getD-drop}
+use Rattle.words.specs.Tests.{pick, when}
+use Rattle.words.specs.Outcome.{Outcome, refused, accepted, saidOf, leftOf}
+use Rattle.words.proofs.Cases.{le-or-lt, true-or-false}
+use Rattle.packet.specs.Header.{sizeOf}
+use Rattle.play.specs.Play.{madeOf, playOf}
+use Rattle.play.specs.Run.{goesOn, saidAt, leftAt, nextOf, entryWords, entryOf, entryAt, Walk, walkOf, wholeWalk, reachedOf, answersOf, runOf}
+use Rattle.demands.specs.Trace.{Arrival, Trace, heardBy, traceOf, answerTo}
+use Rattle.demands.specs.Demands.{ours, Right, playAll, saidAll}
+use Rattle.demands.specs.Recording.{goesPast, packetsFrom, entriesOf, RunRight, Runs}
+use Rattle.demands.proofs.RightLaws.{right-more, right-answer, right-on, answers-on}
+
+said-goes : (before : Trace) (x : Outcome Arrival) → goesOn (answerTo before x) ≡ goesPast x
+said-goes before (refused n) = refl
+said-goes before (accepted a) = refl
+
+on-same : (ids : List ℕ) (before : List (List ℕ)) (t : List ℕ) → Right ids before t → (ws : List ℕ) → goesOn (saidOf (playOf t ws)) ≡ goesPast (heardBy ids ws)
+on-same ids before t r ws = ap goesOn (right-answer ids before t r ws) ∙ said-goes (traceOf ids before) (heardBy ids ws)
+
+walked : (ids : List ℕ) (n : ℕ) (ws : List ℕ) (at : ℕ) (before : List (List ℕ)) (t : List ℕ) → Right ids before t
+    → (walkOf n ws at t .table ≡ playAll ours t (packetsFrom ids n ws at))
+    × (walkOf n ws at t .entries ≡ entriesOf (packetsFrom ids n ws at) (saidAll ours t (packetsFrom ids n ws at)))
+unfolding walkOf saidAt leftAt nextOf entryAt
+walked ids zero ws at before t r = (refl, refl)
+walked ids (suc n) ws at before t r =
+    let next : ℕ = at + sizeOf (getD ws at 0) in
+    let left : List ℕ = leftOf (playOf t (drop at ws)) t in
+    let first : sizeOf (getD ws at 0) ≡ sizeOf (getD (drop at ws) 0 0) = ap sizeOf (ap (λ (i : ℕ). getD ws i 0) (sym (add-zero at)) ∙ sym (getD-drop at ws 0 0)) in
+    let entry : entryOf (saidOf (playOf t (drop at ws))) (sizeOf (getD ws at 0)) ≡ entryOf (saidOf (playOf t (drop at ws))) (sizeOf (getD (drop at ws) 0 0)) =
+    ap (entryOf (saidOf (playOf t (drop at ws)))) first in
+    let same = on-same ids before t r (drop at ws) in
+    ⊎-elim (λ (h : length ws ≤ at). rw (le-leb (length ws) at h) (refl, refl))
+    (λ (h : at < length ws).
+    ⊎-elim
+    (λ (e : goesPast (heardBy ids (drop at ws)) ≡ true).
+    let ih = walked ids n ws next (before ++ (drop at ws ∷ [])) left (right-more ids before t r (drop at ws)) in
+    rw (lt-leb (length ws) at h, same, e)
+    (ih .0, ap (λ (l : List ℕ). l ++ walkOf n ws next left .entries) entry ∙ ap (λ (l : List ℕ). entryOf (saidOf (playOf t (drop at ws))) (sizeOf (getD (drop at ws) 0 0)) ++ l) (ih .1)))
+    (λ (e : goesPast (heardBy ids (drop at ws)) ≡ false). rw (lt-leb (length ws) at h, same, e) (refl, ap (λ (l : List ℕ). l ++ []) entry))
+    (true-or-false (goesPast (heardBy ids (drop at ws)))))
+    (le-or-lt (length ws) at)
+
+pub runs : Runs
+unfolding runOf madeOf wholeWalk
+runs ids before t r ws from out =
+    let n : ℕ = length out / entryWords in
+    let k = walked ids n ws from before t r in
+    let w : Walk = walkOf n ws from t in
+    record {
+      done = record { says = reachedOf w; leaves = (w .table, answersOf w out) };
+      accepts = rw (r .made);
+      right = rw (k .0) (right-on ids before (packetsFrom ids n ws from) t r);
+      entries = ap (λ (es : List ℕ). es ++ drop (length es) out) (k .1 ∙ ap (entriesOf (packetsFrom ids n ws from)) (answers-on ids before (packetsFrom ids n ws from) t r));
+    }
