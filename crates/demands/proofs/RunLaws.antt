@@ -1,7 +1,7 @@
 -- A run plays a recording's packets. The idea: a walk goes on exactly where the trace does (`on-same`), since what play says is what the rules say; so the walk's
 -- table and entries are those of playing its packets one by one (`walked`).
 use mathlib.Core.Path.{_≡_, refl, sym, ap, _∙_}
-use mathlib.Core.Bool.{Bool, true, false}
+use mathlib.Core.Bool.{true, false}
 use mathlib.Core.Logic.{⊎-elim}
 use mathlib.Core.List.{List, [], _∷_, _++_}
 use Prim.Native.Nat.{ℕ, zero, suc, _+_, _/_, _≤_, _<_}
@@ -9,7 +9,6 @@ use native.Mathlib.Nat.{add-zero}
 use borrow.Author.Tests.{le-leb, lt-leb}
 use lib.ListN.{length, getD, drop}
 use lib.Seq.{getD-drop}
-use Rattle.words.specs.Tests.{pick, when}
 use Rattle.words.specs.Outcome.{Outcome, refused, accepted, saidOf, leftOf}
 use Rattle.words.proofs.Cases.{le-or-lt, true-or-false}
 use Rattle.packet.specs.Header.{sizeOf}
@@ -17,7 +16,7 @@ use Rattle.play.specs.Play.{madeOf, playOf}
 use Rattle.play.specs.Run.{goesOn, saidAt, leftAt, nextOf, entryWords, entryOf, entryAt, Walk, walkOf, wholeWalk, reachedOf, answersOf, runOf}
 use Rattle.demands.specs.Trace.{Arrival, Trace, heardBy, traceOf, answerTo}
 use Rattle.demands.specs.Demands.{ours, Right, playAll, saidAll}
-use Rattle.demands.specs.Recording.{goesPast, packetsFrom, entriesOf, RunRight, Runs}
+use Rattle.demands.specs.Recording.{goesPast, packetsFrom, entriesOf, Runs}
 use Rattle.demands.proofs.RightLaws.{right-more, right-answer, right-on, answers-on}
 
 said-goes : (before : Trace) (x : Outcome Arrival) → goesOn (answerTo before x) ≡ goesPast x
