@@ -29,6 +29,8 @@ pub mod Resumed
 pub mod Separate
 -- a run plays a recording's packets
 pub mod RunLaws
+-- demand 3 of calls as they are made
+pub mod CallsMade
 -- the demands are met
 pub mod AllMet
 -- the bench's samples

@@ -97,6 +97,7 @@ module _ (ids t : List ℕ) (r : Right ids [] t) (first rest : List (List ℕ)) 
       record {
         done = record { says = base (length ids); leaves = back };
         accepts = put-back;
+        says = refl;
         right = on;
         answers = answers-on ids first rest back here;
         same-answers =

@@ -145,6 +145,7 @@ saidAll P t (ws ∷ packets) = saidOf (P .play t ws) ∷ saidAll P (leftOf (P .p
 pub record Resumes (P : Program) (ids t : List ℕ) (first rest : List (List ℕ)) (page lent : List ℕ) : Type 0 where
   pub done : Done ℕ (List ℕ)
   pub accepts : P .putBack page lent ≡ accepted done
+  pub says : done .says ≡ base (length ids)
   pub right : Right ids (first ++ rest) (playAll P (done .leaves) rest)
   pub answers : saidAll P (done .leaves) rest ≡ answersAfter (traceOf ids first) (traceOf ids rest)
   pub same-answers : saidAll P t (first ++ rest) ≡ saidAll P t first ++ saidAll P (done .leaves) rest

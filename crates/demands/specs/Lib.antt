@@ -4,6 +4,8 @@
 pub mod Demands
 -- which packets of a trace are accepted, and the rules over them
 pub mod Trace
+-- demand 3 of calls as they are made
+pub mod CallsMade
 -- many packets in one slice of words
 pub mod Recording
 -- the refusals of each call, in order

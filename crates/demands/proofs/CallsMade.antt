@@ -1,0 +1,96 @@
+-- Demand 3 of calls as they are made. The idea: an outcome that meets a promise is the one that the definition gives, answer and lent words; so calls one
+-- after the other are `playAll` and `saidAll`.
+use mathlib.Core.Path.{_≡_, refl, sym, ap, _∙_}
+use mathlib.Core.List.{List, [], _++_, map, map-append}
+use Prim.Native.Nat.{ℕ, _≤_}
+use native.Mathlib.Omega.{arith}
+use lib.ListN.{length, take}
+use Rattle.words.specs.Outcome.{Outcome, refused, accepted, Done, saidOf, leftOf, Meets}
+use Rattle.table.specs.Layout.{base}
+use Rattle.table.specs.Start.{startOf}
+use Rattle.play.specs.declared.Played.{Played}
+use Rattle.play.specs.Play.{paper}
+use Rattle.page.specs.declared.PutBack.{PutBack}
+use Rattle.page.specs.Save.{saveOf}
+use Rattle.page.specs.PutBack.{putBackOf, backPaper}
+use Rattle.demands.specs.Demands.{ours, Right, layoutOf, playAll, saidAll, Resumes}
+use Rattle.demands.specs.CallsMade.{StartMade, PlaysMade, none, next, SaveMade, Ruled, Demand3Made}
+use Rattle.demands.proofs.RightLaws.{right-start, right-on, answers-on}
+use Rattle.demands.proofs.Resumed.{resumes}
+use Rattle.demands.proofs.Separate.{apart}
+
+-- ---- outcomes
+
+-- what an accepted answer tells of the outcome
+said-done : {B L : Type 0} (o : Outcome (Done B L)) (b : B) → saidOf o ≡ accepted b → (d : Done B L) × (o ≡ accepted d) × (b ≡ d .says)
+said-done (refused n) b e = let z : _≡_ {A = ℕ} 0 1 = cc in absurd (omega (arith, z))
+said-done (accepted d) b e = (d, refl, cc)
+
+left-done : {B L : Type 0} (o : Outcome (Done B L)) (d : Done B L) (before : L) → o ≡ accepted d → leftOf o before ≡ d .leaves
+left-done o d before e = ap (λ (x : Outcome (Done _ _)). leftOf x before) e
+
+started : (ids lent t : List ℕ) → StartMade ids lent t → Right ids [] t
+started ids lent t m =
+    let k = said-done (startOf ids lent) (m .says) (sym (m .meets .answer) ∙ m .accepts) in
+    rw (m .meets .buffer ∙ left-done (startOf ids lent) (k .0) lent (k .1)) (right-start ids lent (k .0) (k .1))
+
+played : {t last : List ℕ} {packets : List (List ℕ)} {rs : List Played} → PlaysMade t packets rs last
+    → (last ≡ playAll ours t packets) × (map paper rs ≡ saidAll ours t packets)
+played none = (refl, refl)
+played (next {t} {ws} {after} {last} {packets} {r} {rs} m p) =
+    let k = played p in
+    (k .0 ∙ ap (λ (u : List ℕ). playAll ours u packets) (m .buffer), rw (m .answer, k .1, m .buffer))
+
+ruled : (ids t last : List ℕ) (before packets : List (List ℕ)) (answers : List Played) → Right ids before t → PlaysMade t packets answers last
+    → Ruled ids before packets answers last
+ruled ids t last before packets answers r p =
+    let k = played p in
+    record { table = rw (k .0) (right-on ids before packets t r); said = k .1 ∙ answers-on ids before packets t r }
+
+-- ---- a page between
+
+module _ (ids lent t middle page room back : List ℕ) (first rest : List (List ℕ)) (heard : List Played) (r : PutBack)
+    (a : StartMade ids lent t) (b : PlaysMade t first heard middle) (c : SaveMade middle page) (h : base (length ids) ≤ length room)
+    (m : Meets backPaper (putBackOf page room) room r back) where
+  again : Resumes ours ids t first rest page room
+  again =
+      let k = said-done (saveOf middle (c .lent)) (c .says) (sym (c .meets .answer) ∙ c .accepts) in
+      let s : saveOf (playAll ours t first) (c .lent) ≡ accepted (k .0) = ap (λ (u : List ℕ). saveOf u (c .lent)) (sym (played b .0)) ∙ k .1 in
+      let e : page ≡ take (k .0 .says) (k .0 .leaves) =
+      c .wrote ∙ ap (λ (n : ℕ). take n (c .left)) (k .2) ∙ ap (take (k .0 .says)) (c .meets .buffer ∙ left-done (saveOf middle (c .lent)) (k .0) (c .lent) (k .1)) in
+      rw e (resumes ids t (started ids lent t a) first rest (c .lent) room (k .0) s h)
+
+  put-back : back ≡ again .done .leaves
+  put-back = m .buffer ∙ left-done (putBackOf page room) (again .done) room (again .accepts)
+
+  pub accepted-back : backPaper r ≡ accepted (base (length ids))
+  accepted-back = m .answer ∙ ap saidOf (again .accepts) ∙ ap accepted (again .says)
+
+  module _ (last : List ℕ) (answers : List Played) (p : PlaysMade back rest answers last) where
+    on : last ≡ playAll ours (again .done .leaves) rest
+    on = played p .0 ∙ ap (λ (u : List ℕ). playAll ours u rest) put-back
+
+    said-on : map paper answers ≡ saidAll ours (again .done .leaves) rest
+    said-on = played p .1 ∙ ap (λ (u : List ℕ). saidAll ours u rest) put-back
+
+    pub resumed : Ruled ids first rest answers last
+    resumed = record { table = rw on (again .right); said = said-on ∙ again .answers }
+
+    pub as-unbroken : (whole : List ℕ) (all : List Played) → PlaysMade t (first ++ rest) all whole
+        → (layoutOf ids last ≡ layoutOf ids whole) × (map paper all ≡ map paper (heard ++ answers))
+    as-unbroken whole all q = (
+      ap (layoutOf ids) on ∙ again .same-table ∙ ap (layoutOf ids) (sym (played q .0)),
+      played q .1 ∙ again .same-answers ∙ sym (map-append paper heard answers ∙ rw (played b .1, said-on)),
+    )
+
+pub demand-3-made : Demand3Made
+demand-3-made = record {
+  plays = λ ids lent t last packets answers a p. ruled ids t last [] packets answers (started ids lent t a) p;
+  resumes = λ ids lent t middle page room back last first rest heard answers r a b c h m p.
+      (accepted-back ids lent t middle page room back first rest heard r a b c h m, resumed ids lent t middle page room back first rest heard r a b c h m last answers p);
+  unbroken = λ ids lent t middle page room back last whole first rest heard answers all r a b c h m p q.
+      as-unbroken ids lent t middle page room back first rest heard r a b c h m last answers p whole all q;
+  apart = λ ids lent room t u last other ps qs answers others s a x b y h alter.
+      let k = apart ids t u (started ids lent t a) (started ids room u b) s h ps qs alter in
+      (rw (played x .0, played y .0) (k .0), rw (played x .1, played y .1) (k .1));
+}
