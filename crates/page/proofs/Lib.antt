@@ -16,13 +16,13 @@ pub mod WordsLaws
 pub mod Bounds
 -- pieces that are written one after the other
 pub mod WriteLaws
--- how saving goes: the bodies' lengths, and its refusals
+-- how saving goes: the bodies' lengths, the pairs, the bodies, and its answers
 pub mod SaveLaws
 -- the held words of a record, laid into a page
 pub mod SqueezeLaws
 -- how a program tests a page
 pub mod GoodLaws
--- how putting back goes: a body's record, and the records behind S
+-- how putting back goes: a body's record, the records behind S, and its answers
 pub mod PutLaws
 -- saving and putting back, one after the other
 pub mod RoundTrip

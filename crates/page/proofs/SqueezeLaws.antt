@@ -9,12 +9,11 @@ use native.Mathlib.Nat.{add-zero, lt-of-le-of-lt}
 use native.Mathlib.Omega.{arith}
 use lib.Bits.{bitAnd, and-le-r}
 use lib.ListN.{length}
-use lib.Seq.{sets}
 use Rattle.words.specs.Word.{has}
 use Rattle.words.specs.Part.{part, put}
 use Rattle.words.specs.SetBits.{bitsOf}
 use Rattle.words.specs.Laid.{Laid}
-use Rattle.words.proofs.LaidLaws.{then, laid-length, sets-put}
+use Rattle.words.proofs.LaidLaws.{then, laid-length}
 use Rattle.words.proofs.PartLaws.{part-length}
 use Rattle.words.proofs.SetBitLaws.{bits-zero, bits-yes, bits-no, bits-trim, bits-none}
 use Rattle.words.proofs.Cases.{true-or-false}
@@ -25,6 +24,7 @@ use Rattle.record.specs.Layout.{slotWords, slotIn}
 use Rattle.record.specs.After.{heldWords}
 use Rattle.record.proofs.SlotLaws.{in-order-none, in-order-more, held-small}
 use Rattle.record.proofs.HoldLaws.{slot-inside, within-holds}
+use Rattle.page.proofs.WriteLaws.{laid-part}
 
 -- the bits of a list are those of held fields
 abbrev pub AllHeld : List ℕ → Type 0
@@ -69,12 +69,10 @@ unfolding slotIn
 squeezing-turn {held} {at} {rest} {to} {slots} {before} {page} p b rest′ n page′ cut e o l room q =
     let f : ℕ → List ℕ = λ x. slotIn x slots in
     let k : length (slotIn b slots) ≡ n = part-length (slotAt b) (sizeOf b) slots (omega (arith, slot-inside b o)) ∙ sym e in
-    let w : page′ ≡ sets page to (slotIn b slots) =
-    q ∙ ap (λ (m : ℕ). put to n (part (slotAt b) m slots) page) e
-    ∙ sym (sets-put page (slotIn b slots) to (omega arith) ∙ ap (λ (m : ℕ). put to m (slotIn b slots) page) k) in
+    let w : page′ ≡ put to n (slotIn b slots) page = q ∙ ap (λ (m : ℕ). put to n (part (slotAt b) m slots) page) e in
     record {
       done = p .done ++ slotIn b slots;
-      laid = then (p .laid) (record { past = ap (λ (m : ℕ). to + m) (sym k); kept = w });
+      laid = then (p .laid) (laid-part page (slotIn b slots) page′ to n k room w);
       left =
           append-assoc (p .done) (slotIn b slots) (inOrder (bitsOf 32 rest′) f)
           ∙ ap (λ (z : List ℕ). p .done ++ z) (sym (ap (λ (z : List ℕ). inOrder z f) cut ∙ in-order-more b (bitsOf 32 rest′) f)) ∙ p .left;
