@@ -1,5 +1,5 @@
-# The two commands of the README: make play, make test.
-.PHONY: play test vectors
+# The two commands of the README: make play, make test; and for C: make lib, make example.
+.PHONY: play test lib example vectors
 
 # plays the sample survey and prints a line for each packet
 play:
@@ -8,6 +8,17 @@ play:
 # the gate
 test:
 	@bash .ci/run
+
+# proves the calls for C and builds the library
+lib:
+	@tools/check_header
+	@mkdir -p target
+	@rt staticlib vrt49 >target/lib.log 2>&1 || { tail -n 20 target/lib.log; exit 1; }
+	@echo 'proved and built: target/staticlib/libvrt49.a; its header: include/vrt49.h'
+
+# builds a C program over the library, and runs it
+example: lib
+	@tools/run_c examples/c/survey.c
 
 # makes the vectors and what they should give again, from the reference
 vectors:

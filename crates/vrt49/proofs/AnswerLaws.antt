@@ -1,0 +1,89 @@
+-- What a call for C gives, by its answer. The idea: there are three ways to return. The buffer for the values is too short (`gives-room`); the call was refused,
+-- and nothing is stored (`gives-refused`); it was accepted, and its values are stored (`gives-values`). Each is one law over plain variables, and one more for a
+-- call that is lent other buffers beside (`beside-..`).
+use mathlib.Core.Path.{_≡_, refl, sym, ap, _∙_}
+use mathlib.Core.List.{List, _++_}
+use Prim.Native.Nat.{ℕ, _+_, _≤_, _<_}
+use native.Mathlib.Nat.{zero-add}
+use native.Mathlib.Omega.{arith}
+use borrow.Author.Tests.{lt-ltb, le-ltb}
+use lib.ListN.{length, drop}
+use lib.Seq.{sets, sets-eq}
+use Rattle.words.specs.Numbers.{ROOM}
+use Rattle.words.specs.Part.{part, put}
+use Rattle.words.specs.Outcome.{Outcome, refused, accepted, numberOf, Done, saidOf, leftOf, Meets}
+use Rattle.words.proofs.Cases.{accepted-same}
+use Rattle.words.proofs.PartLaws.{part-whole}
+use Rattle.vrt49.specs.Answers.{Gives, front, answering, answeringBeside}
+
+refused-same : {A : Type 0} {j k : ℕ} → _≡_ {A = Outcome A} (refused j) (refused k) → j ≡ k
+refused-same e = ap numberOf e
+
+-- ---- an answer with values
+module _ {A B : Type 0} (n : ℕ) (values : A → List B) (want : Outcome A) (answer : List B) where
+  pub gives-room : length answer < n → Gives (answering n values want answer) answer ROOM answer
+  unfolding answering
+  gives-room h = rw (lt-ltb (length answer) n h) (record { number = refl; buffers = refl })
+
+  pub gives-refused : (k : ℕ) → n ≤ length answer → want ≡ refused k → Gives (answering n values want answer) answer k answer
+  unfolding answering
+  gives-refused k h e = rw (le-ltb (length answer) n h, e) (record { number = refl; buffers = refl })
+
+  pub gives-values : (a : A) (after : List B) → n ≤ length answer → want ≡ accepted a → after ≡ front (values a) answer → Gives (answering n values want answer) answer 0 after
+  unfolding answering
+  gives-values a after h e f = rw (le-ltb (length answer) n h, e) (record { number = refl; buffers = f })
+
+-- ---- the same beside other buffers
+module _ {A L : Type 0} where
+  -- what a call says tells what it does
+  said-number : (want : Outcome (Done A L)) → numberOf (saidOf want) ≡ numberOf want
+  said-number (refused k) = refl
+  said-number (accepted d) = refl
+
+  said-refused : (want : Outcome (Done A L)) (k : ℕ) → saidOf want ≡ refused k → want ≡ refused k
+  said-refused (refused j) k e = ap refused (refused-same e)
+  said-refused (accepted d) k e = let z : _≡_ {A = ℕ} 0 1 = cc in absurd (omega arith)
+
+  pub said-accepted : (want : Outcome (Done A L)) (a : A) → saidOf want ≡ accepted a → (d : Done A L) × (want ≡ accepted d) × (d .says ≡ a)
+  said-accepted (refused j) a e = let z : _≡_ {A = ℕ} 0 1 = cc in absurd (omega arith)
+  said-accepted (accepted d) a e = (d, refl, accepted-same e)
+
+-- a call that has no values beside what it leaves: its number is that of its answer
+pub gives-number : {A L R : Type 0} (paper : R → Outcome A) (want : Outcome (Done A L)) (before left : L) (r : R) (k : ℕ) → Meets paper want before r left
+    → numberOf (paper r) ≡ k → Gives want before k left
+gives-number paper want before left r k m e = record { number = sym e ∙ ap numberOf (m .answer) ∙ said-number want; buffers = m .buffer }
+
+module _ {A B L : Type 0} (n : ℕ) (values : A → List B) (want : Outcome (Done A L)) (answer : List B) (before : L) where
+  pub beside-room : length answer < n → Gives (answeringBeside n values want answer) (before, answer) ROOM (before, answer)
+  unfolding answeringBeside
+  beside-room h = rw (lt-ltb (length answer) n h) (record { number = refl; buffers = refl })
+
+  stored-beside : (d : Done A L) (a : A) (left : L) (after : List B) → want ≡ accepted d → d .says ≡ a → left ≡ leftOf want before → n ≤ length answer
+      → after ≡ front (values a) answer → Gives (answeringBeside n values want answer) (before, answer) 0 (left, after)
+  unfolding answeringBeside
+  stored-beside d a left after e s b h g = rw (b, g, le-ltb (length answer) n h, e, ← s) (record { number = refl; buffers = refl })
+
+  -- r is what the call inside answered, and `left` what it left in the other buffers
+  module _ {R : Type 0} (paper : R → Outcome A) (r : R) (left : L) (h : n ≤ length answer) (m : Meets paper want before r left) where
+    pub beside-refused : (k : ℕ) → paper r ≡ refused k → Gives (answeringBeside n values want answer) (before, answer) k (left, answer)
+    unfolding answeringBeside
+    beside-refused k e =
+        let f = said-refused want k (sym (m .answer) ∙ e) in
+        rw (m .buffer, le-ltb (length answer) n h, f) (record { number = refl; buffers = refl })
+
+    pub beside-values : (a : A) (after : List B) → paper r ≡ accepted a → after ≡ front (values a) answer → Gives (answeringBeside n values want answer) (before, answer) 0 (left, after)
+    beside-values a after e g = let d = said-accepted want a (sym (m .answer) ∙ e) in stored-beside (d .0) a left after (d .1) (d .2) (m .buffer) h g
+
+-- ---- values stored
+
+-- a copy of all values to the front
+pub copied-front : (values answer : List ℕ) → put 0 (length values) (part 0 (length values) values) answer ≡ front values answer
+unfolding put front
+copied-front values answer = rw (part-whole values)
+
+-- stores one by one
+pub stored-front : {B : Type 0} (values answer : List B) → length values ≤ length answer → sets answer 0 values ≡ front values answer
+unfolding front
+stored-front values answer h =
+    let g : 0 + length values ≤ length answer = omega arith in
+    sets-eq values answer 0 g ∙ ap (λ (n : ℕ). values ++ drop n answer) (zero-add (length values))

@@ -1,0 +1,29 @@
+-- The parts of a packet as words: what their checks let through, and what writing answers behind them.
+use mathlib.Core.Path.{_≡_, refl}
+use mathlib.Core.List.{List}
+use Prim.Native.Nat.{ℕ}
+use borrow.Author.Tests.{eqb-true}
+use lib.ListN.{length}
+use Rattle.words.specs.Outcome.{refused, accepted, Meets}
+use Rattle.words.proofs.Cases.{passed}
+use Rattle.payload.proofs.FormatLaws.{not-false}
+use Rattle.packet.specs.declared.Parts.{Parts}
+use Rattle.packet.specs.declared.Written.{Written}
+use Rattle.packet.specs.declared.Written.the-variants.{Refused}
+use Rattle.packet.specs.Write.{writeOf, writtenPaper}
+use Rattle.vrt49.specs.Packets.{partsOf, wordsChecks, writeWordsOf}
+
+-- there are fifteen
+pub fifteen : (ws : List ℕ) → wordsChecks ws ≡ accepted tt → length ws ≡ 15
+unfolding wordsChecks
+fifteen ws e = eqb-true (length ws) 15 (not-false _ (passed _ _ _ tt e .0))
+
+module _ (ws body out : List ℕ) (at : ℕ) where
+  pub words-refused : (k : ℕ) → wordsChecks ws ≡ refused k → Meets writtenPaper (writeWordsOf ws body out at) out (Refused k) out
+  unfolding writeWordsOf
+  words-refused k e = rw e (record { answer = refl; buffer = refl })
+
+  pub words-written : (p : Parts) (r : Written) (left : List ℕ) → wordsChecks ws ≡ accepted tt → p ≡ partsOf ws → Meets writtenPaper (writeOf p body out at) out r left
+      → Meets writtenPaper (writeWordsOf ws body out at) out r left
+  unfolding writeWordsOf
+  words-written p r left e q m = rw (e, ← q) m

@@ -1,0 +1,22 @@
+-- `store_signed` meets its promise: one store, of a value that is read back as it is.
+use mathlib.Core.Path.{ap, _∙_}
+use mathlib.Core.List.{[], _∷_}
+use lib.IntN.{ℤ}
+use mir.Facts.{toZ-ofZ}
+use Rattle.vrt49.specs.Answers.{front}
+use Rattle.vrt49.proofs.AnswerLaws.{stored-front}
+use borrow.Author.Needs.{needs}
+use Rattle.vrt49.proofs.answers.store_signed.Statement.{statement}
+use Rattle.vrt49.proofs.answers.store_signed.Tie as tie
+
+slice-set-from-z : tie.Need-slice-set-from-z
+slice-set-from-z c = search needs
+
+same-length : tie.Need-same-length
+same-length c = search needs
+
+returns : tie.Need-returns
+returns c = stored-front (_ ∷ []) (c .args .value .now) (c .pre) ∙ ap (λ (z : ℤ). front (z ∷ []) (c .args .value .now)) (toZ-ofZ (c .fits .z))
+
+pub store-signed-spec : {M : Type 1} → statement M
+store-signed-spec = tie.close (tie.spec slice-set-from-z same-length returns)

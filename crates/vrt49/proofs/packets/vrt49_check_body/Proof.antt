@@ -1,0 +1,25 @@
+-- `vrt49_check_body` meets its promise: 0 where nothing is refused, and else the number.
+use mathlib.Core.Path.{sym, ap, _∙_}
+use Rattle.words.specs.Outcome.{checked, numberOf}
+use borrow.Author.Needs.{needs}
+use Rattle.vrt49.proofs.packets.vrt49_check_body.Statement.{statement}
+use Rattle.vrt49.proofs.packets.vrt49_check_body.Tie as tie
+
+check-body-requires : tie.Need-check-body-requires
+check-body-requires c κs = search needs
+
+enum-told : tie.Need-enum-told
+enum-told c = search needs
+
+enum-known-n : tie.Need-enum-known-n
+enum-known-n c = search needs
+
+returns : tie.Need-returns
+returns c = ap numberOf (sym (ap checked (c .enum-told .given .1)) ∙ c .before .before .check-body .ensures)
+
+returns-2 : tie.Need-returns-2
+returns-2 c = ap numberOf (sym (ap checked (c .before .n .given .1)) ∙ c .before .before .before .check-body .ensures)
+
+pub vrt49-check-body-spec : {M : Type 1} → statement M
+vrt49-check-body-spec =
+    tie.close (tie.spec check-body-requires enum-told enum-known-n returns returns-2)

@@ -1,0 +1,58 @@
+-- `vrt49_read` meets its promise: ROOM, else what reading answers.
+use mathlib.Core.Path.{sym, ap, _∙_}
+use native.Mathlib.Omega.{arith}
+use Rattle.packet.specs.Read.{paper}
+use Rattle.vrt49.proofs.SmallLaws.{size-small}
+use Rattle.packet.proofs.ReadLaws.{body-inside}
+use Rattle.vrt49.specs.Packets.{readGives}
+use Rattle.vrt49.proofs.AnswerLaws.{gives-room, gives-refused, gives-values}
+use borrow.Author.Needs.{needs}
+use Rattle.vrt49.proofs.packets.vrt49_read.Statement.{statement}
+use Rattle.vrt49.proofs.packets.vrt49_read.Tie as tie
+
+returns : tie.Need-returns
+unfolding readGives
+returns c = gives-room _ _ _ _ (omega (arith, c .if1 .taken))
+
+read-requires : tie.Need-read-requires
+read-requires c κs = search needs
+
+enum-known-n : tie.Need-enum-known-n
+enum-known-n c = search needs
+
+enum-known-p : tie.Need-enum-known-p
+enum-known-p c = search needs
+
+store-packet-requires : tie.Need-store-packet-requires
+store-packet-requires c κs =
+    let k = c .before .before .before .before in
+    let e = sym (k .read .ensures) ∙ ap paper (c .before .before .p .given .1) in
+    (k .before .if1 .left, size-small _ _ e, body-inside _ _ e)
+
+returns-2 : tie.Need-returns-2
+unfolding readGives
+returns-2 c =
+    let k = c .before .before .before in
+    gives-refused _ _ _ _ _ (k .before .if1 .left) (sym (k .read .ensures) ∙ ap paper (c .before .n .given .1))
+
+same-length : tie.Need-same-length
+same-length c = search needs
+
+returns-3 : tie.Need-returns-3
+unfolding readGives
+returns-3 c =
+    let k = c .before .before .before .before .before in
+    gives-values _ _ _ _ _ _ (k .before .before .before .if1 .left) (sym (k .before .before .read .ensures) ∙ ap paper (k .p .given .1)) (c .before .before .store-packet .ensures)
+
+pub vrt49-read-spec : {M : Type 1} → statement M
+vrt49-read-spec =
+    tie.close
+    (tie.spec
+    returns
+    read-requires
+    enum-known-n
+    enum-known-p
+    store-packet-requires
+    returns-2
+    same-length
+    returns-3)

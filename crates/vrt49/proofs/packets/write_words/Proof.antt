@@ -1,0 +1,46 @@
+-- `write_words` meets its promise: what the checks refuse, and else what writing answers.
+use mathlib.Core.Path.{sym, ap, _∙_}
+use Rattle.words.specs.Outcome.{checked}
+use Rattle.vrt49.proofs.PartsLaws.{fifteen, words-refused, words-written}
+use borrow.Author.Needs.{needs}
+use Rattle.vrt49.proofs.packets.write_words.Statement.{statement}
+use Rattle.vrt49.proofs.packets.write_words.Tie as tie
+
+check-words-requires : tie.Need-check-words-requires
+check-words-requires c κs = search needs
+
+enum-known-checked : tie.Need-enum-known-checked
+enum-known-checked c = search needs
+
+returns : tie.Need-returns
+returns c = words-refused _ _ _ _ _ (sym (c .before .before .before .check-words .ensures) ∙ ap checked (c .before .checked .given .1))
+
+enum-told : tie.Need-enum-told
+enum-told c = search needs
+
+parts-of-requires : tie.Need-parts-of-requires
+parts-of-requires c κs = fifteen _ (sym (c .before .before .check-words .ensures) ∙ ap checked (c .enum-told .given .1))
+
+write-requires : tie.Need-write-requires
+write-requires c κs = search needs
+
+same-length : tie.Need-same-length
+same-length c = search needs
+
+returns-2 : tie.Need-returns-2
+returns-2 c =
+    let k = c .before .before .before .before in
+    words-written _ _ _ _ _ _ _ (sym (k .before .before .before .check-words .ensures) ∙ ap checked (k .before .enum-told .given .1)) (k .parts-of .ensures) (c .before .before .write .ensures)
+
+pub write-words-spec : {M : Type 1} → statement M
+write-words-spec =
+    tie.close
+    (tie.spec
+    check-words-requires
+    enum-known-checked
+    returns
+    enum-told
+    parts-of-requires
+    write-requires
+    same-length
+    returns-2)

@@ -1,0 +1,89 @@
+-- Packets, trailers and the fields of a body: the values of each answer in the order of include/vrt49.h, and what each call gives.
+use Prim.Native.Nat.{ℕ, _/_, _%_, _^_}
+use mathlib.Core.Bool.{not}
+use mathlib.Core.List.{List, [], _∷_}
+use lib.Dec.{eqb, ltb}
+use lib.ListN.{length, getD}
+use Rattle.words.specs.Numbers.{COUNT, TYPE, VALUE}
+use Rattle.words.specs.Tests.{pick, when}
+use Rattle.words.specs.Word.{highFirst}
+use Rattle.words.specs.Outcome.{Outcome, refused, accepted, after, Done}
+use Rattle.fields.specs.Layout.{foundOf}
+use Rattle.packet.specs.declared.Parts.{Parts}
+use Rattle.packet.specs.declared.Packet.{Packet}
+use Rattle.packet.specs.declared.Trailer.{Trailer}
+use Rattle.packet.specs.Read.{readOf}
+use Rattle.packet.specs.Write.{writeOf}
+use Rattle.packet.specs.Trailer.{trailerOf, trailerWordOf}
+use Rattle.vrt49.specs.Answers.{oneValue, answering, answeringBeside}
+
+-- ---- the values
+
+-- type, C, T, TSM, TSI, TSF, count, size, identifier, OUI, information class, packet class, seconds, fraction high, fraction low, the body's place, the body's
+-- words, trailer word
+abbrev pub packetValues : Packet → List ℕ
+packetValues p =
+    p .parts .kind ∷ when (p .parts .classed) 1 ∷ when (p .parts .trailed) 1 ∷ when (p .parts .tsm) 1 ∷ p .parts .tsi ∷ p .parts .tsf ∷ p .parts .count ∷ p .size
+    ∷ p .parts .identifier ∷ p .parts .oui ∷ p .parts .information ∷ p .parts .packet ∷ p .parts .seconds
+    ∷ p .parts .fraction / 2 ^ 32 ∷ p .parts .fraction % 2 ^ 32 ∷ p .body ∷ p .length ∷ p .parts .trailer ∷ []
+
+-- enables, indicators, E, associated count
+abbrev pub trailerValues : Trailer → List ℕ
+trailerValues t = t .enables ∷ t .indicators ∷ when (t .e) 1 ∷ t .associated ∷ []
+
+-- 1, the place and the words of a field that was found; else three zeros
+abbrev pub foundValues : List ℕ → List ℕ
+foundValues [] = 0 ∷ 0 ∷ 0 ∷ []
+foundValues (at ∷ rest) = 1 ∷ at ∷ rest
+
+-- ---- a packet's parts as words: type, C, T, TSM, TSI, TSF, count, identifier, OUI, information class, packet class, seconds, fraction high, fraction low,
+-- trailer word
+
+unfoldable pub partsOf : List ℕ → Parts
+partsOf ws = record {
+  kind = getD ws 0 0;
+  classed = eqb (getD ws 1 0) 1;
+  trailed = eqb (getD ws 2 0) 1;
+  tsm = eqb (getD ws 3 0) 1;
+  tsi = getD ws 4 0;
+  tsf = getD ws 5 0;
+  count = getD ws 6 0;
+  identifier = getD ws 7 0;
+  oui = getD ws 8 0;
+  information = getD ws 9 0;
+  packet = getD ws 10 0;
+  seconds = getD ws 11 0;
+  fraction = highFirst (getD ws 12 0) (getD ws 13 0);
+  trailer = getD ws 14 0;
+}
+
+-- COUNT for another number of words; then TYPE and VALUE as in writing, VALUE also where C, T or TSM "does not fit its bits"
+unfoldable pub wordsChecks : List ℕ → Outcome Unit
+wordsChecks ws =
+    pick (not (eqb (length ws) 15)) (refused COUNT)
+    (pick (ltb 5 (getD ws 0 0)) (refused TYPE)
+    (pick (ltb 1 (getD ws 1 0)) (refused VALUE)
+    (pick (ltb 1 (getD ws 2 0)) (refused VALUE)
+    (pick (ltb 1 (getD ws 3 0)) (refused VALUE)
+    (accepted tt)))))
+
+-- what writing a packet whose parts are words answers and leaves
+unfoldable pub writeWordsOf : List ℕ → List ℕ → List ℕ → ℕ → Outcome (Done ℕ (List ℕ))
+writeWordsOf ws body out at = after (wordsChecks ws) (writeOf (partsOf ws) body out at)
+
+-- ---- what the calls give
+
+unfoldable pub readGives : List ℕ → List ℕ → Outcome (Done Unit (List ℕ))
+readGives ws answer = answering 18 packetValues (readOf ws) answer
+
+unfoldable pub writeGives : List ℕ → List ℕ → List ℕ → ℕ → List ℕ → Outcome (Done Unit (List ℕ × List ℕ))
+writeGives ws body out at answer = answeringBeside 1 oneValue (writeWordsOf ws body out at) answer
+
+unfoldable pub trailerGives : ℕ → List ℕ → Outcome (Done Unit (List ℕ))
+trailerGives word answer = answering 4 trailerValues (accepted (trailerOf word)) answer
+
+unfoldable pub trailerWordGives : ℕ → ℕ → ℕ → ℕ → List ℕ → Outcome (Done Unit (List ℕ))
+trailerWordGives enables indicators e associated answer = answering 1 oneValue (trailerWordOf enables indicators e associated) answer
+
+unfoldable pub findGives : List ℕ → ℕ → List ℕ → Outcome (Done Unit (List ℕ))
+findGives body bit answer = answering 3 foundValues (accepted (foundOf bit body)) answer

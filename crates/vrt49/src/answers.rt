@@ -1,0 +1,40 @@
+// Values, as words in lent buffers.
+ghost use mathlib.Core.Path.{_≡_};
+ghost use mathlib.Core.List.{[], _∷_};
+ghost use Prim.Native.Nat.{_≤_};
+ghost use lib.ListN.{length};
+ghost use Rattle.words.specs.Tests.{when};
+ghost use Rattle.vrt49.specs.Answers.{front};
+
+// A flag as a word.
+pub fn flag(set: bool) -> u32
+    ensures { λ r. ⌜ r ≡ when set 1 ⌝ }
+{
+    if set { 1 } else { 0 }
+}
+
+// Stores values at the front of a buffer.
+pub fn store(answer: &mut [u32], values: &[u32])
+    requires { ⌜ length (now values) ≤ length (now answer) ⌝ }
+    ensures { λ _. ⌜ now (answer .exit) ≡ front (now (values .entry)) (now (answer .entry)) ⌝ }
+{
+    words::inner::copy_part(answer, 0, values, 0, values.len());
+}
+
+// Stores three values at the front of a buffer.
+pub fn store_three(answer: &mut [u64], a: u64, b: u64, c: u64)
+    requires { ⌜ 3 ≤ length (now answer) ⌝ }
+    ensures { λ _. ⌜ now (answer .exit) ≡ front (a ∷ b ∷ c ∷ []) (now (answer .entry)) ⌝ }
+{
+    answer[0] = a;
+    answer[1] = b;
+    answer[2] = c;
+}
+
+// Stores a signed value at the front of a buffer.
+pub fn store_signed(value: &mut [i64], z: i64)
+    requires { ⌜ 1 ≤ length (now value) ⌝ }
+    ensures { λ _. ⌜ now (value .exit) ≡ front (z ∷ []) (now (value .entry)) ⌝ }
+{
+    value[0] = z;
+}

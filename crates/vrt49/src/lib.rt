@@ -1,0 +1,8 @@
+// The calls for C, of a static library: include/vrt49.h has them for C, each with its promise in words. A call gives 0 where it is accepted, and else the number
+// of the refusal; its values come back in lent buffers.
+mod answers;
+mod packets;
+mod pages;
+mod payloads;
+mod readings;
+mod tables;

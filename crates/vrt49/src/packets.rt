@@ -1,0 +1,214 @@
+// Packets, trailers and the fields of a body.
+ghost use mathlib.Core.Path.{_≡_};
+ghost use Prim.Native.Nat.{_+_, _≤_};
+ghost use lib.ListN.{length};
+ghost use Rattle.words.specs.Outcome.{numberOf, checked, Meets};
+ghost use Rattle.fields.specs.Layout.{carried, contextOf};
+ghost use Rattle.packet.specs.Write.{writtenPaper};
+ghost use Rattle.vrt49.specs.Answers.{Gives, front};
+ghost use Rattle.vrt49.specs.Packets.{packetValues, wordsChecks, partsOf, writeWordsOf, readGives, writeGives, trailerGives, trailerWordGives, findGives};
+
+// Stores what reading says of a packet.
+fn store_packet(answer: &mut [u32], p: packet::Packet)
+    requires { ⌜ (18 ≤ length (now answer)) × (p .size ≤ 65535) × (p .body + p .length ≤ p .size) ⌝ }
+    ensures { λ _. ⌜ now (answer .exit) ≡ front (packetValues p) (now (answer .entry)) ⌝ }
+{
+    let parts = p.parts;
+    let values = [
+        parts.kind,
+        crate::answers::flag(parts.classed),
+        crate::answers::flag(parts.trailed),
+        crate::answers::flag(parts.tsm),
+        parts.tsi,
+        parts.tsf,
+        parts.count,
+        p.size as u32,
+        parts.identifier,
+        parts.oui,
+        parts.information,
+        parts.packet,
+        parts.seconds,
+        (parts.fraction / 0x1_0000_0000) as u32,
+        (parts.fraction % 0x1_0000_0000) as u32,
+        p.body as u32,
+        p.length as u32,
+        parts.trailer,
+    ];
+    crate::answers::store(answer, &values);
+}
+
+// Reads the packet at the front of the words.
+#[no_mangle]
+pub extern "C" fn vrt49_read(words: &[u32], answer: &mut [u32]) -> u32
+    ensures { λ r. ⌜ Gives (readGives (now (words .entry)) (now (answer .entry))) (now (answer .entry)) r (now (answer .exit)) ⌝ }
+{
+    if answer.len() < 18 {
+        return words::ROOM;
+    }
+    match packet::read(words) {
+        packet::Parsed::Refused(n) => n,
+        packet::Parsed::Accepted(p) => {
+            store_packet(answer, p);
+            0
+        }
+    }
+}
+
+// COUNT, TYPE and VALUE, of the words that give the parts of a packet.
+fn check_words(parts: &[u32]) -> words::Check
+    ensures { λ r. ⌜ checked r ≡ wordsChecks (now (parts .entry)) ⌝ }
+{
+    if parts.len() != 15 {
+        return words::Check::Refused(words::COUNT);
+    }
+    if 5 < parts[0] {
+        return words::Check::Refused(words::TYPE);
+    }
+    if 1 < parts[1] {
+        return words::Check::Refused(words::VALUE);
+    }
+    if 1 < parts[2] {
+        return words::Check::Refused(words::VALUE);
+    }
+    if 1 < parts[3] {
+        return words::Check::Refused(words::VALUE);
+    }
+    words::Check::Fine
+}
+
+// The parts of a packet that fifteen words give.
+fn parts_of(parts: &[u32]) -> packet::Parts
+    requires { ⌜ length (now parts) ≡ 15 ⌝ }
+    ensures { λ r. ⌜ r ≡ partsOf (now (parts .entry)) ⌝ }
+{
+    packet::Parts {
+        kind: parts[0],
+        classed: parts[1] == 1,
+        trailed: parts[2] == 1,
+        tsm: parts[3] == 1,
+        tsi: parts[4],
+        tsf: parts[5],
+        count: parts[6],
+        identifier: parts[7],
+        oui: parts[8],
+        information: parts[9],
+        packet: parts[10],
+        seconds: parts[11],
+        fraction: words::inner::high_first(parts[12], parts[13]),
+        trailer: parts[14],
+    }
+}
+
+// Writes a packet whose parts are words.
+fn write_words(parts: &[u32], body: &[u32], out: &mut [u32], at: usize) -> packet::Written
+    ensures { λ r. ⌜ Meets writtenPaper (writeWordsOf (now (parts .entry)) (now (body .entry)) (now (out .entry)) at) (now (out .entry)) r (now (out .exit)) ⌝ }
+{
+    let checked = check_words(parts);
+    if let words::Check::Refused(n) = checked {
+        return packet::Written::Refused(n);
+    }
+    packet::write(parts_of(parts), body, out, at)
+}
+
+// Writes a packet from a word of a buffer on.
+#[no_mangle]
+pub extern "C" fn vrt49_write(
+    parts: &[u32],
+    body: &[u32],
+    out: &mut [u32],
+    at: usize,
+    answer: &mut [u32],
+) -> u32
+    ensures { λ r. ⌜ Gives (writeGives (now (parts .entry)) (now (body .entry)) (now (out .entry)) at (now (answer .entry))) (now (out .entry), now (answer .entry)) r (now (out .exit), now (answer .exit)) ⌝ }
+{
+    if answer.len() < 1 {
+        return words::ROOM;
+    }
+    match write_words(parts, body, out, at) {
+        packet::Written::Refused(n) => n,
+        packet::Written::Accepted(n) => {
+            answer[0] = n as u32;
+            0
+        }
+    }
+}
+
+// A trailer word's parts.
+#[no_mangle]
+pub extern "C" fn vrt49_trailer_parts(word: u32, answer: &mut [u32]) -> u32
+    ensures { λ r. ⌜ Gives (trailerGives word (now (answer .entry))) (now (answer .entry)) r (now (answer .exit)) ⌝ }
+{
+    if answer.len() < 4 {
+        return words::ROOM;
+    }
+    let t = packet::trailer_parts(word);
+    let values = [
+        t.enables,
+        t.indicators,
+        crate::answers::flag(t.e),
+        t.associated,
+    ];
+    crate::answers::store(answer, &values);
+    0
+}
+
+// The trailer word of its parts.
+#[no_mangle]
+pub extern "C" fn vrt49_trailer_word(
+    enables: u32,
+    indicators: u32,
+    e: u32,
+    associated: u32,
+    answer: &mut [u32],
+) -> u32
+    ensures { λ r. ⌜ Gives (trailerWordGives enables indicators e associated (now (answer .entry))) (now (answer .entry)) r (now (answer .exit)) ⌝ }
+{
+    if answer.len() < 1 {
+        return words::ROOM;
+    }
+    match packet::trailer_word(enables, indicators, e, associated) {
+        packet::TrailerWord::Refused(n) => n,
+        packet::TrailerWord::Accepted(w) => {
+            answer[0] = w;
+            0
+        }
+    }
+}
+
+// How many fields an indicator word carries.
+#[no_mangle]
+pub extern "C" fn vrt49_field_count(indicator: u32) -> u32
+    ensures { λ r. ⌜ r ≡ length (carried indicator) ⌝ }
+{
+    fields::field_count(indicator)
+}
+
+// Whether a type 4 body is as document 01 says.
+#[no_mangle]
+pub extern "C" fn vrt49_check_body(body: &[u32]) -> u32
+    ensures { λ r. ⌜ r ≡ numberOf (contextOf (now (body .entry))) ⌝ }
+{
+    match fields::check_body(body) {
+        words::Check::Fine => 0,
+        words::Check::Refused(n) => n,
+    }
+}
+
+// Where the field of a bit stands in a type 4 body.
+#[no_mangle]
+pub extern "C" fn vrt49_find(body: &[u32], bit: u32, answer: &mut [u64]) -> u32
+    ensures { λ r. ⌜ Gives (findGives (now (body .entry)) bit (now (answer .entry))) (now (answer .entry)) r (now (answer .exit)) ⌝ }
+{
+    if answer.len() < 3 {
+        return words::ROOM;
+    }
+    match fields::find(body, bit) {
+        fields::Found::At(at, n) => {
+            crate::answers::store_three(answer, 1, at as u64, n as u64);
+        }
+        fields::Found::Absent => {
+            crate::answers::store_three(answer, 0, 0, 0);
+        }
+    }
+    0
+}

@@ -1,0 +1,54 @@
+// The page of a table: its length, saved, and put back.
+ghost use Rattle.vrt49.specs.Answers.{Gives};
+ghost use Rattle.vrt49.specs.Pages.{lengthGives, saveGives, putBackGives};
+
+// The length of a table's page.
+#[no_mangle]
+pub extern "C" fn vrt49_page_length(table: &[u32], answer: &mut [u32]) -> u32
+    ensures { λ r. ⌜ Gives (lengthGives (now (table .entry)) (now (answer .entry))) (now (answer .entry)) r (now (answer .exit)) ⌝ }
+{
+    if answer.len() < 1 {
+        return words::ROOM;
+    }
+    match page::page_length(table) {
+        page::Saved::Refused(n) => n,
+        page::Saved::Accepted(length) => {
+            answer[0] = length as u32;
+            0
+        }
+    }
+}
+
+// Saves a table's page.
+#[no_mangle]
+pub extern "C" fn vrt49_save(table: &[u32], page: &mut [u32], answer: &mut [u32]) -> u32
+    ensures { λ r. ⌜ Gives (saveGives (now (table .entry)) (now (page .entry)) (now (answer .entry))) (now (page .entry), now (answer .entry)) r (now (page .exit), now (answer .exit)) ⌝ }
+{
+    if answer.len() < 1 {
+        return words::ROOM;
+    }
+    match page::save(table, page) {
+        page::Saved::Refused(n) => n,
+        page::Saved::Accepted(length) => {
+            answer[0] = length as u32;
+            0
+        }
+    }
+}
+
+// Puts a page back.
+#[no_mangle]
+pub extern "C" fn vrt49_put_back(page: &[u32], table: &mut [u32], answer: &mut [u32]) -> u32
+    ensures { λ r. ⌜ Gives (putBackGives (now (page .entry)) (now (table .entry)) (now (answer .entry))) (now (table .entry), now (answer .entry)) r (now (table .exit), now (answer .exit)) ⌝ }
+{
+    if answer.len() < 1 {
+        return words::ROOM;
+    }
+    match page::put_back(page, table) {
+        page::PutBack::Refused(n) => n,
+        page::PutBack::Accepted(length) => {
+            answer[0] = length as u32;
+            0
+        }
+    }
+}

@@ -1,0 +1,82 @@
+// Packed samples.
+ghost use Rattle.payload.specs.Unpack.{buffers, unpackOf};
+ghost use Rattle.vrt49.specs.Answers.{Gives};
+ghost use Rattle.vrt49.specs.Payloads.{packGives, neededGives, signedGives};
+
+// Unpacks n items with their event tags and channel tags.
+#[no_mangle]
+pub extern "C" fn vrt49_unpack(
+    first: u32,
+    second: u32,
+    n: usize,
+    words: &[u32],
+    items: &mut [u64],
+    events: &mut [u8],
+    channels: &mut [u16],
+) -> u32
+    ensures { λ r. ⌜ Gives (unpackOf first second n (now (words .entry)) (buffers (now (items .entry)) (now (events .entry)) (now (channels .entry)))) (buffers (now (items .entry)) (now (events .entry)) (now (channels .entry))) r (buffers (now (items .exit)) (now (events .exit)) (now (channels .exit))) ⌝ }
+{
+    match payload::unpack(first, second, n, words, items, events, channels) {
+        payload::Unpacked::Refused(number) => number,
+        payload::Unpacked::Accepted(_) => 0,
+    }
+}
+
+// Packs items with their event tags and channel tags.
+#[no_mangle]
+pub extern "C" fn vrt49_pack(
+    first: u32,
+    second: u32,
+    items: &[u64],
+    events: &[u8],
+    channels: &[u16],
+    out: &mut [u32],
+    answer: &mut [u32],
+) -> u32
+    ensures { λ r. ⌜ Gives (packGives first second (now (items .entry)) (now (events .entry)) (now (channels .entry)) (now (out .entry)) (now (answer .entry))) (now (out .entry), now (answer .entry)) r (now (out .exit), now (answer .exit)) ⌝ }
+{
+    if answer.len() < 1 {
+        return words::ROOM;
+    }
+    match payload::pack(first, second, items, events, channels, out) {
+        payload::Packed::Refused(n) => n,
+        payload::Packed::Accepted(n) => {
+            answer[0] = n as u32;
+            0
+        }
+    }
+}
+
+// The words that n items need.
+#[no_mangle]
+pub extern "C" fn vrt49_words_needed(first: u32, second: u32, n: usize, answer: &mut [u32]) -> u32
+    ensures { λ r. ⌜ Gives (neededGives first second n (now (answer .entry))) (now (answer .entry)) r (now (answer .exit)) ⌝ }
+{
+    if answer.len() < 1 {
+        return words::ROOM;
+    }
+    match payload::words_needed(first, second, n) {
+        payload::Needed::Refused(number) => number,
+        payload::Needed::Words(many) => {
+            answer[0] = many as u32;
+            0
+        }
+    }
+}
+
+// The two's complement value of an item.
+#[no_mangle]
+pub extern "C" fn vrt49_signed(width: u32, item: u64, value: &mut [i64]) -> u32
+    ensures { λ r. ⌜ Gives (signedGives width item (now (value .entry))) (now (value .entry)) r (now (value .exit)) ⌝ }
+{
+    if value.len() < 1 {
+        return words::ROOM;
+    }
+    match payload::signed(width, item) {
+        payload::Shown::Refused(n) => n,
+        payload::Shown::Value(z) => {
+            crate::answers::store_signed(value, z);
+            0
+        }
+    }
+}
