@@ -1,10 +1,10 @@
 /* vrt49.h: the calls of libvrt49.a: VITA 49.0 packets, payloads, tables, pages and readings, as document 01 has them.
 
    A buffer is handed over as a pointer and its number of entries. The pointer is never null, also of no entries; a buffer that is written
-   overlaps no other. Every call answers a number: 0 where it is accepted, else the number of the first refusal that applies, of the list
-   below. A refusal changes no entry of any buffer. Values come back in lent buffers, such as `answer`: the call writes the first entries, as
-   many as its comment names (answer[18]: eighteen), and no others. Where such a buffer has fewer, the call answers ROOM before it looks at
-   anything else. Nothing is kept between calls, and nothing is allocated. */
+   overlaps no other. Every call answers a number: 0 where it is accepted, and only there, else the number of the first refusal that applies, of
+   the list below (docs/MANUAL.md says what to do). A refusal changes no entry of any buffer. Values come back in lent buffers, such as `answer`:
+   the call writes the first entries, as many as its comment names (answer[18]: eighteen), and no others. Where such a buffer has fewer, the
+   call answers ROOM before it looks at anything else. Nothing is kept between calls, and nothing is allocated. */
 #ifndef VRT49_H
 #define VRT49_H
 #include <stddef.h>
@@ -61,7 +61,7 @@ uint32_t vrt49_field_count(uint32_t indicator);
 uint32_t vrt49_check_body(const uint32_t *body, size_t n);
 
 /* Where the field of a bit stands in a type 4 body. answer[3]: 1, its place in the body and its words; three zeros where it is absent. */
-uint32_t vrt49_find(const uint32_t *body, size_t n, uint32_t bit, uint64_t *answer, size_t answer_n);
+uint32_t vrt49_find(const uint32_t *body, size_t body_n, uint32_t bit, uint64_t *answer, size_t answer_n);
 
 /* ---- packed samples; a format is the two words of field 15 */
 
