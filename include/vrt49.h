@@ -1,10 +1,11 @@
 /* vrt49.h: the calls of libvrt49.a: VITA 49.0 packets, payloads, tables, pages and readings, as document 01 has them.
 
    A buffer is handed over as a pointer and its number of entries. The pointer is never null, also of no entries; a buffer that is written
-   overlaps no other. Every call answers a number: 0 where it is accepted, and only there, else the number of the first refusal that applies, of
-   the list below (docs/MANUAL.md says what to do). A refusal changes no entry of any buffer. Values come back in lent buffers, such as `answer`:
-   the call writes the first entries, as many as its comment names (answer[18]: eighteen), and no others. Where such a buffer has fewer, the
-   call answers ROOM before it looks at anything else. Nothing is kept between calls, and nothing is allocated. */
+   overlaps no other. A call answers a number: 0 where it is accepted, and only there, else the number of the first refusal that applies, of
+   the list below (docs/MANUAL.md says what to do); vrt49_field_count and vrt49_well_made refuse nothing and answer their value. A refusal
+   changes no entry of any buffer. Values come back in lent buffers, such as `answer`: the call writes the first entries, as many as its comment
+   names (answer[18]: eighteen), and no others. Where such a buffer has fewer, the call answers ROOM before it looks at anything else. Nothing
+   is kept between calls, and nothing is allocated. */
 #ifndef VRT49_H
 #define VRT49_H
 #include <stddef.h>

@@ -1,6 +1,6 @@
 /* A survey of the calls of libvrt49.a: a context packet and a data packet are read, one is written again, both are played on a table of two
-   streams, the table is saved and put back, the held fields are read for the panel, and samples are unpacked and packed again. It prints what it does, and exits with 1
-   where a call answers what it should not. make example builds and runs it. */
+   streams, the table is saved and put back, the held fields are read for the panel, and samples are unpacked and packed again. It prints
+   what it does, and exits with 1 where a call answers what it should not. make example builds and runs it. */
 #include <inttypes.h>
 #include <stdio.h>
 #include <stdlib.h>
@@ -39,10 +39,12 @@ static void read_packets(void)
     read_packet(context, ENTRIES(context), packet);
     expect("vrt49_check_body", vrt49_check_body(context + packet[15], packet[16]), 0);
     expect("vrt49_find", vrt49_find(context + packet[15], packet[16], 24, place, 3), 0);
-    printf("  %" PRIu32 " fields; field 24 at %" PRIu64 " of the body, %" PRIu64 " word\n", vrt49_field_count(context[packet[15]]), place[1], place[2]);
+    printf("  %" PRIu32 " fields; field 24 at %" PRIu64 " of the body, %" PRIu64 " word\n", vrt49_field_count(context[packet[15]]), place[1],
+           place[2]);
     read_packet(data, ENTRIES(data), packet);
     expect("vrt49_trailer_parts", vrt49_trailer_parts(packet[17], parts, 4), 0);
-    printf("  trailer: enables %" PRIu32 ", indicators %" PRIu32 ", E %" PRIu32 ", associated %" PRIu32 "\n", parts[0], parts[1], parts[2], parts[3]);
+    printf("  trailer: enables %" PRIu32 ", indicators %" PRIu32 ", E %" PRIu32 ", associated %" PRIu32 "\n", parts[0], parts[1],
+           parts[2], parts[3]);
     expect("vrt49_read of a packet that is cut", vrt49_read(data, 4, packet, 18), VRT49_CUT);
     expect("vrt49_read without room", vrt49_read(data, 5, packet, 17), VRT49_ROOM);
 }

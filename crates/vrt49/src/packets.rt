@@ -37,7 +37,7 @@ fn store_packet(answer: &mut [u32], p: packet::Packet)
     crate::answers::store(answer, &values);
 }
 
-// Reads the packet at the front of the words.
+// Reads the packet at the front of the words; answers ROOM, or what reading refuses, 1 to 10. Eighteen values.
 #[no_mangle]
 pub extern "C" fn vrt49_read(words: &[u32], answer: &mut [u32]) -> u32
     ensures { λ r. ⌜ Gives (readGives (now (words .entry)) (now (answer .entry))) (now (answer .entry)) r (now (answer .exit)) ⌝ }
@@ -110,7 +110,8 @@ fn write_words(parts: &[u32], body: &[u32], out: &mut [u32], at: usize) -> packe
     packet::write(parts_of(parts), body, out, at)
 }
 
-// Writes a packet from a word of a buffer on.
+// Writes a packet from a word of a buffer on; answers ROOM for a short answer, COUNT for other than fifteen parts, or what writing refuses. One value, the words
+// written.
 #[no_mangle]
 pub extern "C" fn vrt49_write(
     parts: &[u32],
@@ -133,7 +134,7 @@ pub extern "C" fn vrt49_write(
     }
 }
 
-// A trailer word's parts.
+// A trailer word's parts; answers ROOM. Four values.
 #[no_mangle]
 pub extern "C" fn vrt49_trailer_parts(word: u32, answer: &mut [u32]) -> u32
     ensures { λ r. ⌜ Gives (trailerGives word (now (answer .entry))) (now (answer .entry)) r (now (answer .exit)) ⌝ }
@@ -152,7 +153,7 @@ pub extern "C" fn vrt49_trailer_parts(word: u32, answer: &mut [u32]) -> u32
     0
 }
 
-// The trailer word of its parts.
+// The trailer word of its parts; answers ROOM or VALUE. One value, the word.
 #[no_mangle]
 pub extern "C" fn vrt49_trailer_word(
     enables: u32,
@@ -175,7 +176,7 @@ pub extern "C" fn vrt49_trailer_word(
     }
 }
 
-// How many fields an indicator word carries.
+// How many fields an indicator word carries: the answer itself.
 #[no_mangle]
 pub extern "C" fn vrt49_field_count(indicator: u32) -> u32
     ensures { λ r. ⌜ r ≡ length (carried indicator) ⌝ }
@@ -183,7 +184,7 @@ pub extern "C" fn vrt49_field_count(indicator: u32) -> u32
     fields::field_count(indicator)
 }
 
-// Whether a type 4 body is as document 01 says.
+// Whether a type 4 body is as document 01 says; answers INDICATOR, LAYOUT or FIELD where it is not.
 #[no_mangle]
 pub extern "C" fn vrt49_check_body(body: &[u32]) -> u32
     ensures { λ r. ⌜ r ≡ numberOf (contextOf (now (body .entry))) ⌝ }
@@ -194,7 +195,7 @@ pub extern "C" fn vrt49_check_body(body: &[u32]) -> u32
     }
 }
 
-// Where the field of a bit stands in a type 4 body.
+// Where the field of a bit stands in a type 4 body; answers ROOM. Three values: 1, its place and its words, or zeros where it is absent.
 #[no_mangle]
 pub extern "C" fn vrt49_find(body: &[u32], bit: u32, answer: &mut [u64]) -> u32
     ensures { λ r. ⌜ Gives (findGives (now (body .entry)) bit (now (answer .entry))) (now (answer .entry)) r (now (answer .exit)) ⌝ }

@@ -2,7 +2,7 @@
 ghost use Rattle.vrt49.specs.Answers.{Gives};
 ghost use Rattle.vrt49.specs.Pages.{lengthGives, saveGives, putBackGives};
 
-// The length of a table's page.
+// The length of a table's page; answers ROOM, TABLE or SIZE. One value.
 #[no_mangle]
 pub extern "C" fn vrt49_page_length(table: &[u32], answer: &mut [u32]) -> u32
     ensures { λ r. ⌜ Gives (lengthGives (now (table .entry)) (now (answer .entry))) (now (answer .entry)) r (now (answer .exit)) ⌝ }
@@ -19,7 +19,7 @@ pub extern "C" fn vrt49_page_length(table: &[u32], answer: &mut [u32]) -> u32
     }
 }
 
-// Saves a table's page.
+// Saves a table's page; answers ROOM for a short answer, or what saving refuses. One value, the page's length.
 #[no_mangle]
 pub extern "C" fn vrt49_save(table: &[u32], page: &mut [u32], answer: &mut [u32]) -> u32
     ensures { λ r. ⌜ Gives (saveGives (now (table .entry)) (now (page .entry)) (now (answer .entry))) (now (page .entry), now (answer .entry)) r (now (page .exit), now (answer .exit)) ⌝ }
@@ -36,7 +36,7 @@ pub extern "C" fn vrt49_save(table: &[u32], page: &mut [u32], answer: &mut [u32]
     }
 }
 
-// Puts a page back.
+// Puts a page back; answers ROOM for a short answer, PAGE, or ROOM. One value, the layout's words.
 #[no_mangle]
 pub extern "C" fn vrt49_put_back(page: &[u32], table: &mut [u32], answer: &mut [u32]) -> u32
     ensures { λ r. ⌜ Gives (putBackGives (now (page .entry)) (now (table .entry)) (now (answer .entry))) (now (table .entry), now (answer .entry)) r (now (table .exit), now (answer .exit)) ⌝ }

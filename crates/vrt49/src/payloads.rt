@@ -3,7 +3,7 @@ ghost use Rattle.payload.specs.Unpack.{buffers, unpackOf};
 ghost use Rattle.vrt49.specs.Answers.{Gives};
 ghost use Rattle.vrt49.specs.Payloads.{packGives, neededGives, signedGives};
 
-// Unpacks n items with their event tags and channel tags.
+// Unpacks n items with their event tags and channel tags; answers FORMAT, COUNT or ROOM.
 #[no_mangle]
 pub extern "C" fn vrt49_unpack(
     first: u32,
@@ -22,7 +22,7 @@ pub extern "C" fn vrt49_unpack(
     }
 }
 
-// Packs items with their event tags and channel tags.
+// Packs items with their event tags and channel tags; answers ROOM for a short answer, or what packing refuses. One value, the words written.
 #[no_mangle]
 pub extern "C" fn vrt49_pack(
     first: u32,
@@ -47,7 +47,7 @@ pub extern "C" fn vrt49_pack(
     }
 }
 
-// The words that n items need.
+// The words that n items need; answers ROOM, FORMAT or COUNT. One value.
 #[no_mangle]
 pub extern "C" fn vrt49_words_needed(first: u32, second: u32, n: usize, answer: &mut [u32]) -> u32
     ensures { λ r. ⌜ Gives (neededGives first second n (now (answer .entry))) (now (answer .entry)) r (now (answer .exit)) ⌝ }
@@ -64,7 +64,7 @@ pub extern "C" fn vrt49_words_needed(first: u32, second: u32, n: usize, answer: 
     }
 }
 
-// The two's complement value of an item.
+// The two's complement value of an item; answers ROOM, FORMAT or VALUE. One value.
 #[no_mangle]
 pub extern "C" fn vrt49_signed(width: u32, item: u64, value: &mut [i64]) -> u32
     ensures { λ r. ⌜ Gives (signedGives width item (now (value .entry))) (now (value .entry)) r (now (value .exit)) ⌝ }

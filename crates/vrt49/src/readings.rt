@@ -87,7 +87,7 @@ fn store_numbers(answer: &mut [u32], hertz: &mut [i64], levels: &mut [f32], v: V
     store_levels(levels, v.first, v.second);
 }
 
-// What the panel shows of a stream's field.
+// What the panel shows of a stream's field; answers ROOM, TABLE, STREAM or VALUE. The kind and the parts, the whole hertz, and two levels.
 #[no_mangle]
 pub extern "C" fn vrt49_reading(
     table: &[u32],
@@ -111,7 +111,7 @@ pub extern "C" fn vrt49_reading(
     0
 }
 
-// The held words of a stream's field, at the front of a buffer.
+// The held words of a stream's field, at the front of a buffer; answers ROOM for a short answer, or what `held_words` refuses. One value, how many.
 #[no_mangle]
 pub extern "C" fn vrt49_held_words(
     table: &[u32],

@@ -7,7 +7,7 @@ ghost use Rattle.table.specs.Well.{wellMade};
 ghost use Rattle.vrt49.specs.Answers.{Gives, front};
 ghost use Rattle.vrt49.specs.Tables.{heardValues, reachedValues, startGives, playGives, runGives};
 
-// Starts a table for identifiers.
+// Starts a table for identifiers; answers ROOM for a short answer, LIST, or ROOM. One value, the layout's words.
 #[no_mangle]
 pub extern "C" fn vrt49_start(ids: &[u32], table: &mut [u32], answer: &mut [u32]) -> u32
     ensures { λ r. ⌜ Gives (startGives (now (ids .entry)) (now (table .entry)) (now (answer .entry))) (now (table .entry), now (answer .entry)) r (now (table .exit), now (answer .exit)) ⌝ }
@@ -41,7 +41,7 @@ fn store_heard(answer: &mut [u32], h: play::Heard)
     crate::answers::store(answer, &values);
 }
 
-// Plays the packet at the front of the words.
+// Plays the packet at the front of the words; answers ROOM, TABLE, what reading refuses, or STREAM. Four values: size, type, stream, missing.
 #[no_mangle]
 pub extern "C" fn vrt49_play(table: &mut [u32], words: &[u32], answer: &mut [u32]) -> u32
     ensures { λ r. ⌜ Gives (playGives (now (table .entry)) (now (words .entry)) (now (answer .entry))) (now (table .entry), now (answer .entry)) r (now (table .exit), now (answer .exit)) ⌝ }
@@ -67,7 +67,7 @@ fn store_reached(reached: &mut [u64], r: play::Reached)
     reached[1] = r.next as u64;
 }
 
-// Plays packets from a place on, five words of answers for each.
+// Plays packets from a place on, five words of answers for each; answers ROOM for a short `reached`, or TABLE. Two values: the packets and the place after them.
 #[no_mangle]
 pub extern "C" fn vrt49_play_run(
     table: &mut [u32],
