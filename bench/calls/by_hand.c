@@ -1,0 +1,226 @@
+// What the calls of libvrt49.a are measured against: read, write, play, save and put back in C by hand, with the same checks in the
+// same order and the same entries written. The tests of bodies, records and tables are those of the play bench.
+#include "../play/by_hand.c"
+enum { COUNT = 17, ROOM = 13, VALUE = 14, SIZE = 15, PAGE = 19, MOST = 65535 };
+// where the parts that a header announces begin, and how many words are required
+struct places {
+    u32 class, seconds, fraction, body, required;
+};
+static inline struct places places_of(u32 h) {
+    u32 kind = h >> 28, trailed = kind < 4 ? h >> 26 & 1 : 0;
+    struct places p;
+    p.class = 1 + (0x3a >> kind & 1);
+    p.seconds = p.class + (h >> 26 & 2);
+    p.fraction = p.seconds + ((h >> 22 & 3) != 0);
+    p.body = p.fraction + (h >> 20 & 3 ? 2 : 0);
+    p.required = p.body + trailed + (kind == 4);
+    return p;
+}
+u32 c_read(const u32 *w, size_t n, u32 *a, size_t an) {
+    if (an < 18)
+        return ROOM;
+    if (!n)
+        return EMPTY;
+    u32 h = w[0], kind = h >> 28, size = h & 0xffff, tsi = h >> 22 & 3, tsf = h >> 20 & 3;
+    if (kind > 5)
+        return TYPE;
+    if (h >> (kind < 4 ? 24 : 25) & 3)
+        return BITS;
+    struct places p = places_of(h);
+    if (size < p.required)
+        return SHORT;
+    if (n < size)
+        return CUT;
+    u32 classed = h >> 27 & 1, trailed = kind < 4 ? h >> 26 & 1 : 0;
+    u32 oui = classed ? w[p.class] : 0, codes = classed ? w[p.class + 1] : 0;
+    u32 high = tsf ? w[p.fraction] : 0, low = tsf ? w[p.fraction + 1] : 0;
+    if (oui >> 24)
+        return CLASS;
+    if (tsf == 2 && ((u64)high << 32 | low) >= TIME_LIMIT)
+        return TIME;
+    u32 length = size - p.body - trailed;
+    if (kind == 4) {
+        u32 refused = check_context(w + p.body, length);
+        if (refused)
+            return refused;
+    }
+    a[0] = kind;
+    a[1] = classed;
+    a[2] = trailed;
+    a[3] = kind < 4 ? 0 : h >> 24 & 1;
+    a[4] = tsi;
+    a[5] = tsf;
+    a[6] = h >> 16 & 15;
+    a[7] = size;
+    a[8] = 0x3a >> kind & 1 ? w[1] : 0;
+    a[9] = oui;
+    a[10] = codes >> 16;
+    a[11] = codes & 0xffff;
+    a[12] = tsi ? w[p.seconds] : 0;
+    a[13] = high;
+    a[14] = low;
+    a[15] = p.body;
+    a[16] = length;
+    a[17] = trailed ? w[size - 1] : 0;
+    return 0;
+}
+u32 c_write(const u32 *q, size_t qn, const u32 *body, size_t n, u32 *out, size_t room, size_t at, u32 *a, size_t an) {
+    if (an < 1)
+        return ROOM;
+    if (qn != 15)
+        return COUNT;
+    u32 kind = q[0], classed = q[1], trailed = q[2], tsm = q[3], tsi = q[4], tsf = q[5];
+    if (kind > 5)
+        return TYPE;
+    if (classed > 1 || trailed > 1 || tsm > 1 || tsi > 3 || tsf > 3 || q[6] > 15 || (kind < 4 ? tsm : trailed))
+        return VALUE;
+    if (classed && (q[8] >> 24 || q[9] >> 16 || q[10] >> 16))
+        return VALUE;
+    if (kind == 4 && !n)
+        return SHORT;
+    u32 h = kind << 28 | classed << 27 | trailed << 26 | tsm << 24 | tsi << 22 | tsf << 20 | q[6] << 16;
+    struct places p = places_of(h);
+    size_t size = p.body + n + trailed;
+    if (size > MOST)
+        return SIZE;
+    if (tsf == 2 && ((u64)q[12] << 32 | q[13]) >= TIME_LIMIT)
+        return TIME;
+    if (kind == 4) {
+        u32 refused = check_context(body, n);
+        if (refused)
+            return refused;
+    }
+    if (room < size || room - size < at)
+        return ROOM;
+    u32 *w = out + at;
+    *w++ = h | size;
+    if (0x3a >> kind & 1)
+        *w++ = q[7];
+    if (classed) {
+        *w++ = q[8];
+        *w++ = q[9] << 16 | q[10];
+    }
+    if (tsi)
+        *w++ = q[11];
+    if (tsf) {
+        *w++ = q[12];
+        *w++ = q[13];
+    }
+    for (size_t i = 0; i < n; i++)
+        w[i] = body[i];
+    if (trailed)
+        w[n] = q[14];
+    a[0] = size;
+    return 0;
+}
+u32 c_play(u32 *t, size_t tn, const u32 *w, size_t n, u32 *a, size_t an) {
+    struct packet p;
+    u32 missing, refused;
+    if (an < 4)
+        return ROOM;
+    if (!table_good(t, tn))
+        return TABLE;
+    refused = read_packet(w, n, &p);
+    if (refused)
+        return refused;
+    long s = hear(t, &p, &missing);
+    if (s < 0)
+        return STREAM;
+    a[0] = w[0] & 0xffff;
+    a[1] = p.kind;
+    a[2] = s;
+    a[3] = missing;
+    return 0;
+}
+static inline size_t held_words(u32 held) {
+    size_t n = HEAD;
+    while (held) {
+        u32 bit = __builtin_clz(held) ^ 31;
+        held ^= 1u << bit;
+        n += sizes[bit];
+    }
+    return n;
+}
+u32 c_save(const u32 *t, size_t tn, u32 *page, size_t room, u32 *a, size_t an) {
+    if (an < 1)
+        return ROOM;
+    if (!table_good(t, tn))
+        return TABLE;
+    size_t streams = t[0], length = 2 + 2 * streams, at = length;
+    for (size_t s = 0; s < streams; s++)
+        length += held_words(t[2 + RECORD * s]);
+    if (length > MOST)
+        return SIZE;
+    if (room < length)
+        return ROOM;
+    page[0] = streams;
+    page[1] = length;
+    for (size_t s = 0; s < streams; s++) {
+        const u32 *r = t + 1 + RECORD * s;
+        u32 held = r[1], *b = page + at;
+        memcpy(b, r, HEAD * 4);
+        b += HEAD;
+        while (held) {
+            u32 bit = __builtin_clz(held) ^ 31;
+            held ^= 1u << bit;
+            for (size_t i = 0; i < sizes[bit]; i++)
+                *b++ = r[slots[bit] + i];
+        }
+        page[2 + 2 * s] = at;
+        page[3 + 2 * s] = b - page - at;
+        at = b - page;
+    }
+    a[0] = length;
+    return 0;
+}
+// A record out of the body at b.
+static void fill_record(u32 *r, const u32 *b) {
+    u32 held = b[1] & 0x7fffffff;
+    memset(r + HEAD, 0, (RECORD - HEAD) * 4);
+    memcpy(r, b, HEAD * 4);
+    b += HEAD;
+    while (held) {
+        u32 bit = __builtin_clz(held) ^ 31;
+        held ^= 1u << bit;
+        for (size_t i = 0; i < sizes[bit]; i++)
+            r[slots[bit] + i] = *b++;
+    }
+}
+static int page_good(const u32 *p, size_t n) {
+    u32 r[RECORD];
+    size_t streams = n ? p[0] : 0, at = 2 + 2 * streams;
+    if (streams < 1 || streams > 32 || n < at || p[1] != n)
+        return 0;
+    for (size_t s = 0; s < streams; s++) {
+        size_t length = p[3 + 2 * s];
+        if (p[2 + 2 * s] != at || length < HEAD || n - at < length || p[at + 1] & ~HELD || held_words(p[at + 1]) != length)
+            return 0;
+        at += length;
+    }
+    if (at != n)
+        return 0;
+    for (size_t i = 1; i < streams; i++)
+        for (size_t j = 0; j < i; j++)
+            if (p[p[2 + 2 * i]] == p[p[2 + 2 * j]])
+                return 0;
+    for (size_t s = 0; s < streams; s++) {
+        fill_record(r, p + p[2 + 2 * s]);
+        if (!record_good(r))
+            return 0;
+    }
+    return 1;
+}
+u32 c_put_back(const u32 *p, size_t n, u32 *t, size_t tn, u32 *a, size_t an) {
+    if (an < 1)
+        return ROOM;
+    if (!page_good(p, n))
+        return PAGE;
+    size_t streams = p[0];
+    if (tn < 1 + RECORD * streams)
+        return ROOM;
+    t[0] = streams;
+    for (size_t s = 0; s < streams; s++)
+        fill_record(t + 1 + RECORD * s, p + p[2 + 2 * s]);
+    a[0] = 1 + RECORD * streams;
+    return 0;
+}

@@ -1,0 +1,92 @@
+// Makes a table, packets and pages, repeats one call, and prints its last answer with a sum of the buffers that it was lent.
+#include <stdint.h>
+#include <stdio.h>
+#include <stdlib.h>
+#include <string.h>
+typedef uint64_t u64;
+typedef uint32_t u32;
+#define NAME(side, call) side##_##call
+#define OF(side, call) NAME(side, call)
+#define CALL(call) OF(SIDE, call)
+#define REPEAT(answer) for (size_t i = 0; i < times; i++) r |= answer
+u32 CALL(read)(const u32 *, size_t, u32 *, size_t);
+u32 CALL(write)(const u32 *, size_t, const u32 *, size_t, u32 *, size_t, size_t, u32 *, size_t);
+u32 CALL(play)(u32 *, size_t, const u32 *, size_t, u32 *, size_t);
+u32 CALL(save)(const u32 *, size_t, u32 *, size_t, u32 *, size_t);
+u32 CALL(put_back)(const u32 *, size_t, u32 *, size_t, u32 *, size_t);
+enum { RECORD = 88, LONGEST = 2882 };
+static u32 state = 12345;
+static u32 word(void) {
+    state = state * 1664525 + 1013904223;
+    return state >> 8 << 16 | (state * 2654435761u >> 16);
+}
+// A data packet of n body words with identifier, seconds, fraction and trailer.
+static size_t data(u32 *w, u32 identifier, size_t n) {
+    size_t at = 0;
+    w[at++] = 0x14600000 | (n + 6);
+    w[at++] = identifier;
+    w[at++] = word();
+    w[at++] = 7;
+    w[at++] = word();
+    for (size_t i = 0; i < n; i++)
+        w[at++] = word();
+    w[at++] = word();
+    return at;
+}
+// A context packet that carries fields 29, 27, 24, 23, 21 and 18.
+static size_t context(u32 *w, u32 identifier) {
+    u32 fields[] = {1u << 29 | 1 << 27 | 1 << 24 | 1 << 23 | 1 << 21 | 1 << 18, 1, 2, 3, 4, 0xff80, 6, 7, 8, 0xffe0};
+    w[0] = 0x4060000f;
+    w[1] = identifier;
+    w[2] = word();
+    w[3] = 7;
+    w[4] = word();
+    memcpy(w + 5, fields, sizeof fields);
+    return 15;
+}
+static u64 sum(u64 x, const u32 *w, size_t n) {
+    for (size_t i = 0; i < n; i++)
+        x = x * 31 + w[i];
+    return x;
+}
+int main(int argc, char **argv) {
+    // CALL(read write play save put_back) KIND(data context) SIZE TIMES: SIZE is body words of a data packet, or streams of a table
+    if (argc != 5)
+        return 2;
+    int kind = !strcmp(argv[2], "context");
+    size_t size = atol(argv[3]), times = atol(argv[4]);
+    int packet_alone = !strcmp(argv[1], "read") || !strcmp(argv[1], "write");
+    size_t streams = packet_alone ? 1 : size, words = packet_alone ? size : 64;
+    static u32 w[70000], out[70000], t[2900], page[LONGEST], a[18], parts[15];
+    size_t n = 0, tn = 1 + RECORD * streams, pn = 0;
+    u32 r = 0;
+    t[0] = streams;
+    for (size_t s = 0; s < streams; s++) {
+        t[1 + RECORD * s] = 0x1000 + s;
+        n = context(w, 0x1000 + s);
+        r = CALL(play)(t, tn, w, n, a, 4);
+    }
+    r |= CALL(save)(t, tn, page, LONGEST, a, 1);
+    pn = a[0];
+    n = kind ? context(w, 0x1000 + streams - 1) : data(w, 0x1000 + streams - 1, words);
+    r |= CALL(read)(w, n, a, 18);
+    for (int i = 0; i < 7; i++)
+        parts[i] = a[i];
+    for (int i = 0; i < 7; i++)
+        parts[7 + i] = a[8 + i];
+    parts[14] = a[17];
+    u32 body = a[15], length = a[16];
+    const char *call = argv[1];
+    if (!strcmp(call, "read"))
+        REPEAT(CALL(read)(w, n, a, 18));
+    if (!strcmp(call, "write"))
+        REPEAT(CALL(write)(parts, 15, w + body, length, out, 70000, 3, a, 18));
+    if (!strcmp(call, "play"))
+        REPEAT(CALL(play)(t, tn, w, n, a, 18));
+    if (!strcmp(call, "save"))
+        REPEAT(CALL(save)(t, tn, page, LONGEST, a, 18));
+    if (!strcmp(call, "put_back"))
+        REPEAT(CALL(put_back)(page, pn, t, tn, a, 18));
+    printf("%u %016llx\n", r, (unsigned long long)sum(sum(sum(sum(0, t, tn), page, pn), out, 70000), a, 18));
+    return 0;
+}
