@@ -10,16 +10,14 @@ use lib.Seq.{drop-drop}
 use Rattle.words.specs.Tests.{both}
 use Rattle.words.specs.SetBits.{bitsOf}
 use Rattle.words.proofs.Cases.{both-yes, both-assoc}
-use Rattle.words.proofs.SetBitLaws.{bits-trim, bits-few, bits-mod}
+use Rattle.words.proofs.SetBitLaws.{bits-trim, bits-few, bits-none, bits-mod}
 use Rattle.fields.specs.Sizes.{wordsOf}
 use Rattle.fields.specs.Rules.{ruleOf}
 use Rattle.fields.specs.Layout.{spanOf, obeyed, carried, indicatorOf, bodyWords}
 
-pub record Walking (bits : ℕ) (body : List ℕ) (n rest end : ℕ) (kept : Bool) (i : ℕ) : Type 0 where
+pub record Walking (bits : ℕ) (body : List ℕ) (rest end : ℕ) (kept : Bool) : Type 0 where
   pub fits : rest < 2 ^ 32
-  pub few : n ≤ 32
-  pub left : i + length (bitsOf 32 rest) ≡ n
-  pub near : end ≤ 1 + i * 2 ^ 33
+  pub near : end + length (bitsOf 32 rest) * 2 ^ 33 ≤ 1 + 32 * 2 ^ 33
   pub span : end + spanOf (bitsOf 32 rest) (drop end body) ≡ 1 + spanOf (bitsOf 31 bits) (drop 1 body)
   pub rules : both kept (obeyed (bitsOf 32 rest) (drop end body)) ≡ obeyed (bitsOf 31 bits) (drop 1 body)
 
@@ -36,23 +34,21 @@ rules-cons b w at bs body e = rw (← e, drop-drop)
 
 -- ---- the loop: its start, a turn, its end
 
-pub walking-start : (bits n : ℕ) (body : List ℕ) → bits < 2 ^ 31 → n ≡ length (bitsOf 31 bits) → Walking bits body n bits 1 true 0
-walking-start bits n body h e =
+pub walking-start : (bits : ℕ) (body : List ℕ) → bits < 2 ^ 31 → Walking bits body bits 1 true
+walking-start bits body h =
     let same : bitsOf 32 bits ≡ bitsOf 31 bits = bits-trim 31 32 bits (omega arith) h in
     record {
       fits = omega arith;
-      few = omega (arith, bits-few 31 bits);
-      left = omega (arith, ap length same);
-      near = omega arith;
+      near = omega (arith, bits-few 32 bits);
       span = rw same;
       rules = rw same;
     }
 
-pub walking-turn : {bits n rest end i : ℕ} {body : List ℕ} {kept : Bool} → Walking bits body n rest end kept i
+pub walking-turn : {bits rest end : ℕ} {body : List ℕ} {kept : Bool} → Walking bits body rest end kept
     → (b rest′ w : ℕ) (kept′ ok : Bool) → bitsOf 32 rest ≡ b ∷ bitsOf 32 rest′ → rest′ < rest
     → w ≡ wordsOf b (drop end body) → w ≤ 2 ^ 33 → ok ≡ ruleOf b (drop end body) → kept′ ≡ both kept ok
-    → Walking bits body n rest′ (end + w) kept′ (i + 1)
-walking-turn {bits} {n} {rest} {end} {i} {body} {kept} p b rest′ w kept′ ok cut less size small rule all =
+    → Walking bits body rest′ (end + w) kept′
+walking-turn {bits} {rest} {end} {body} {kept} p b rest′ w kept′ ok cut less size small rule all =
     let more : List ℕ = bitsOf 32 rest′ in
     let spans : spanOf (bitsOf 32 rest) (drop end body) ≡ w + spanOf more (drop (end + w) body) =
     ap (λ (l : List ℕ). spanOf l (drop end body)) cut ∙ span-cons b w end more body size in
@@ -60,23 +56,25 @@ walking-turn {bits} {n} {rest} {end} {i} {body} {kept} p b rest′ w kept′ ok 
     ap (λ (l : List ℕ). obeyed l (drop end body)) cut ∙ rw rule (rules-cons b w end more body size) in
     record {
       fits = omega (arith, p .fits);
-      few = p .few;
-      left = omega (arith, p .left, ap length cut);
-      near = omega (arith, p .near);
+      near = omega (arith, p .near, ap length cut);
       span = omega (arith, p .span, spans);
       rules = rw all (both-assoc kept ok (obeyed more (drop (end + w) body)) ∙ ap (both kept) (sym obeys) ∙ p .rules);
     }
+
+pub walking-end : {bits rest end : ℕ} {body : List ℕ} {kept : Bool} → Walking bits body rest end kept → rest ≡ 0
+    → (end ≡ 1 + spanOf (bitsOf 31 bits) (drop 1 body)) × (kept ≡ obeyed (bitsOf 31 bits) (drop 1 body))
+unfolding spanOf obeyed
+walking-end {bits} {rest} {end} {body} {kept} p h =
+    let e : bitsOf 32 rest ≡ [] = bits-none 32 rest (omega arith) in
+    (omega (arith, rw e at (p .span)), sym (both-yes kept) ∙ rw e at (p .rules))
 
 pub none-left : (l : List ℕ) → length l ≤ 0 → l ≡ []
 none-left [] h = refl
 none-left (b ∷ l) h = absurd (omega arith)
 
-pub walking-end : {bits n rest end i : ℕ} {body : List ℕ} {kept : Bool} → Walking bits body n rest end kept i → n ≤ i
-    → (end ≡ 1 + spanOf (bitsOf 31 bits) (drop 1 body)) × (kept ≡ obeyed (bitsOf 31 bits) (drop 1 body))
-unfolding spanOf obeyed
-walking-end {bits} {n} {rest} {end} {i} {body} {kept} p h =
-    let e : bitsOf 32 rest ≡ [] = none-left (bitsOf 32 rest) (omega (arith, p .left)) in
-    (omega (arith, rw e at (p .span)), sym (both-yes kept) ∙ rw e at (p .rules))
+-- a place that the walk reaches is small
+pub walking-near : {bits rest end : ℕ} {body : List ℕ} {kept : Bool} → Walking bits body rest end kept → end < 2 ^ 40
+walking-near p = omega (arith, p .near)
 
 -- ---- the walk over all fields of a body, whose indicator is w
 

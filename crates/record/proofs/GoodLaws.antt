@@ -23,6 +23,7 @@ use Rattle.words.proofs.BitLaws.{has-and, word-same}
 use Rattle.words.proofs.PartLaws.{seen, getD-part, part-part, part-length}
 use Rattle.fields.specs.Sizes.{sizeOf}
 use Rattle.fields.specs.Rules.{ruleOf}
+use Rattle.fields.proofs.SizeLaws.{size-some}
 use Rattle.fields.specs.Layout.{indicatorOf, fieldOf, contextOf}
 use Rattle.fields.proofs.BodyLaws.{context-fits, field-rule}
 use Rattle.record.specs.Held.{heldMask, holds, slotAt}
@@ -30,7 +31,7 @@ use Rattle.record.specs.Layout.{headWords, slotWords, recordWords, heldO
 use Rattle.record.specs.Counts.{countedOf, countRecord}
 use Rattle.record.specs.After.{slotAfter, heldAfter, holdRecord}
 use Rattle.record.specs.Good.{zeros, countGood, countGoodAt, heldGood, slotGood, recordGood, GoodCount, Good}
-use Rattle.record.proofs.SlotLaws.{held-small, held-low, held-high}
+use Rattle.record.proofs.SlotLaws.{held-small, held-not, held-low, held-high}
 use Rattle.record.proofs.HoldLaws.{slot-inside, within-holds}
 use Rattle.record.proofs.AfterLaws.{hold-slot, hold-held, hold-count, held-bit, count-count, count-other, count-slot, count-held}
 
@@ -49,9 +50,16 @@ last-at r = count-word 2 2 r (omega arith)
 
 -- ---- the slot of a bit, as a program tests it: it stands from `at` on among the slots and has n words
 
-pub slot-skipped : (r : List ℕ) (b : ℕ) → holds b ≡ false → true ≡ slotGood r b
+-- the slots of bits below 10 are not looked at
+pub slots-skipped : (r : List ℕ) → all 10 (slotGood r) ≡ true
 unfolding slotGood
-slot-skipped r b o = rw o
+slots-skipped r = all-intro (slotGood r) 10 (λ b h. rw (held-not b h))
+
+pub slot-length : (b : ℕ) (r : List ℕ) → length r ≡ recordWords → holds b ≡ true → length (slotOf b r) ≡ sizeOf b
+unfolding slotOf slotIn slotsOf
+slot-length b r l o =
+    let m : length (part headWords slotWords r) ≡ slotWords = part-length headWords slotWords r (omega arith) in
+    part-length (slotAt b) (sizeOf b) (part headWords slotWords r) (omega (arith, slot-inside b o))
 
 module _ (r : List ℕ) (b at n : ℕ) (l : length r ≡ recordWords) (o : holds b ≡ true) (ea : at ≡ slotAt b) (en : n ≡ sizeOf b) where
   pub slot-end : headWords + at + n ≤ length r
@@ -65,13 +73,27 @@ module _ (r : List ℕ) (b at n : ℕ) (l : length r ≡ recordWords) (o : holds
   slot-seen =
       seen (headWords + at) (headWords + at + n) n r refl ∙ rw (ea, en) (sym (part-part (slotAt b) (sizeOf b) headWords slotWords r (slot-inside b o)))
 
-  pub slot-ruled : (t : Bool) → has (heldOf r) b ≡ true → t ≡ ruleOf b (drop 0 (take (headWords + at + n - (headWords + at)) (drop (headWords + at) r))) → t ≡ slotGood r b
+  -- the slot has a word
+  pub slot-there : 0 < length (take (headWords + at + n - (headWords + at)) (drop (headWords + at) r))
+  slot-there = omega (arith, ap length slot-seen, slot-length b r l o, size-some b (held-low b o) (held-high b o))
+
+  pub slot-ruled : (t : Bool) → has (heldOf r) b ≡ true → t ≡ ruleOf b (take (headWords + at + n - (headWords + at)) (drop (headWords + at) r)) → t ≡ slotGood r b
   unfolding slotGood
   slot-ruled t h e = rw (o, h) (e ∙ ap (ruleOf b) slot-seen)
 
-  pub slot-zero : (t : Bool) → has (heldOf r) b ≡ false → t ≡ zeros (take (headWords + at + n - (headWords + at)) (drop (headWords + at) r)) → t ≡ slotGood r b
+  pub slot-zeroed : (t : Bool) → has (heldOf r) b ≡ false → t ≡ zeros (take (headWords + at + n - (headWords + at)) (drop (headWords + at) r)) → t ≡ slotGood r b
   unfolding slotGood
-  slot-zero t h e = rw (o, h) (e ∙ ap zeros slot-seen)
+  slot-zeroed t h e = rw (o, h) (e ∙ ap zeros slot-seen)
+
+-- ---- a slot that is zero, of one word or two
+
+pub zeros-one : (ws : List ℕ) → length ws ≡ 1 → eqb (getD ws 0 0) 0 ≡ zeros ws
+unfolding zeros all
+zeros-one ws l = rw l
+
+pub zeros-two : (ws : List ℕ) → length ws ≡ 2 → both (eqb (getD ws 0 0) 0) (eqb (getD ws 1 0) 0) ≡ zeros ws
+unfolding zeros all
+zeros-two ws l = rw l
 
 -- ---- the tests as facts
 
@@ -90,12 +112,6 @@ zeros-are ws e =
 pub zeros-good : (n : ℕ) → zeros (replicate n 0) ≡ true
 unfolding zeros
 zeros-good n = all-intro _ (length (replicate {A = ℕ} n 0)) (λ i h. eq-eqb (getD (replicate n 0) i 0) 0 (zero-at n i))
-
-pub slot-length : (b : ℕ) (r : List ℕ) → length r ≡ recordWords → holds b ≡ true → length (slotOf b r) ≡ sizeOf b
-unfolding slotOf slotIn slotsOf
-slot-length b r l o =
-    let m : length (part headWords slotWords r) ≡ slotWords = part-length headWords slotWords r (omega arith) in
-    part-length (slotAt b) (sizeOf b) (part headWords slotWords r) (omega (arith, slot-inside b o))
 
 -- a count
 pub count-facts : (seen missing last : ℕ) → countGood seen missing last ≡ true → GoodCount seen missing last

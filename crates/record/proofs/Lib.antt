@@ -2,6 +2,8 @@
 
 -- the held fields and their slots
 pub mod SlotLaws
+-- the words of a field, copied
+pub mod CopyLaws
 -- fields put into their slots
 pub mod HoldLaws
 -- slots and their held words, both ways

@@ -16,7 +16,7 @@ use Rattle.words.specs.Tests.{pick}
 use Rattle.words.specs.Word.{has}
 use Rattle.words.specs.SetBits.{bitsOf, above}
 use Rattle.words.specs.Part.{part}
-use Rattle.words.specs.All.{all}
+use Rattle.words.specs.All.{all, tabled}
 use Rattle.words.proofs.AllLaws.{all-at}
 use Rattle.words.proofs.Cases.{le-or-lt, true-or-false, true-is-false}
 use Rattle.words.proofs.PartLaws.{part-is, part-front, part-past, part-drop}
@@ -24,7 +24,7 @@ use Rattle.words.proofs.SetBitLaws.{has-above, bits-zero, bits-yes, bits-no, bi
 use Rattle.fields.specs.Sizes.{sizeOf, sizesOf}
 use Rattle.fields.proofs.SizeLaws.{sizes-none, sizes-more, sizes-append}
 use Rattle.fields.proofs.WalkLaws.{none-left}
-use Rattle.record.specs.Held.{heldMask, holds, heldBits, inOrder}
+use Rattle.record.specs.Held.{heldMask, holds, heldBits, slotAt, inOrder}
 use Rattle.record.specs.Layout.{slotWords}
 
 -- ---- places
@@ -140,12 +140,12 @@ outside b = not (holds b)
 inside : ℕ → Bool
 inside b = pick (ltb b 10) true (holds b)
 
-pub held-low : (b : ℕ) → holds b ≡ true → 10 ≤ b
+pub held-not : (b : ℕ) → b < 10 → holds b ≡ false
 unfolding all outside holds heldMask
-held-low b e =
-    ⊎-elim (λ h. h)
-    (λ (h : b < 10). absurd (true-is-false (sym e ∙ not-true (holds b) (all-at outside 10 b h refl))))
-    (le-or-lt 10 b)
+held-not b h = not-true (holds b) (all-at outside 10 b h refl)
+
+pub held-low : (b : ℕ) → holds b ≡ true → 10 ≤ b
+held-low b e = ⊎-elim (λ h. h) (λ (h : b < 10). absurd (true-is-false (sym e ∙ held-not b h))) (le-or-lt 10 b)
 
 pub held-high : (b : ℕ) → holds b ≡ true → b < 31
 unfolding holds
@@ -160,3 +160,11 @@ held-all b h g = rw (le-ltb b 10 h) at (all-at inside 31 b g refl)
 pub slots-whole : sizesOf heldBits ≡ slotWords
 unfolding heldBits heldMask bitsOf sizesOf sizeOf
 slots-whole = refl
+
+-- the table of places has each slot's, by a test that computes once over the whole table
+abbrev pub slotPlaces : List ℕ
+slotPlaces = 74 ∷ 74 ∷ 74 ∷ 74 ∷ 74 ∷ 74 ∷ 74 ∷ 74 ∷ 74 ∷ 74 ∷ 73 ∷ 60 ∷ 47 ∷ 36 ∷ 25 ∷ 23 ∷ 22 ∷ 20 ∷ 19 ∷ 18 ∷ 16 ∷ 14 ∷ 13 ∷ 12 ∷ 11 ∷ 9 ∷ 7 ∷ 5 ∷ 3 ∷ 1 ∷ 0 ∷ 0 ∷ []
+
+pub places-tabled : tabled 32 slotAt slotPlaces ≡ true
+unfolding slotAt heldBits heldMask bitsOf above sizesOf sizeOf all
+places-tabled = refl

@@ -1,5 +1,6 @@
 // What the crates above use of a record.
 mod after;
+mod copies;
 mod counts;
 mod good;
 mod held;

@@ -1,7 +1,9 @@
 -- A test at every number below a bound: what each loop that checks says, and each that looks for something.
 use Prim.Native.Nat.{ℕ, zero, suc}
 use mathlib.Core.Bool.{Bool, true}
-use lib.Dec.{ltb}
+use mathlib.Core.List.{List}
+use lib.Dec.{eqb, ltb}
+use lib.ListN.{getD}
 use Rattle.words.specs.Tests.{pick, both}
 
 -- f passes at each number below n
@@ -13,3 +15,7 @@ all (suc n) f = both (all n f) (f n)
 unfoldable pub firstOf : ℕ → (ℕ → Bool) → ℕ
 firstOf zero f = zero
 firstOf (suc n) f = pick (ltb (firstOf n f) n) (firstOf n f) (pick (f n) n (suc n))
+
+-- a table has the value of f at each of its first n entries
+abbrev pub tabled : ℕ → (ℕ → ℕ) → List ℕ → Bool
+tabled n f xs = all n (λ i. eqb (getD xs i 0) (f i))

@@ -11,22 +11,20 @@ pub struct Walked {
     pub kept: bool,
 }
 
-// Walks the fields of some bits of an indicator, which stand in a body from word 1 on. Count of ones says how many they are.
+// Walks the fields of some bits of an indicator, which stand in a body from word 1 on, as long as bits are left.
 pub fn walk(bits: u32, body: &[u32]) -> Walked
     requires { ⌜ bits < 2 ^ 31 ⌝ }
     ensures { λ r. ⌜ (r .end ≡ 1 + spanOf (bitsOf 31 bits) (drop 1 (now (body .entry)))) × (r .kept ≡ obeyed (bitsOf 31 bits) (drop 1 (now (body .entry)))) ⌝ }
 {
-    let n = crate::field_count(bits);
+    let sizes = crate::inner::sizes::SIZES;
     let mut rest = bits;
     let mut end: usize = 1;
     let mut kept = true;
-    let mut i = 0;
-    while i < n {
+    while rest != 0 {
         let f = crate::inner::carried::next_field(rest);
         kept = words::inner::both_of(kept, crate::inner::rules::rule_at(f.bit, body, end));
-        end += crate::inner::sizes::words_at(f.bit, body, end);
+        end += crate::inner::sizes::words_in(&sizes, f.bit, body, end);
         rest = f.rest;
-        i += 1;
     }
     Walked { end, kept }
 }

@@ -1,12 +1,14 @@
 // How many words the field of each indicator bit takes.
 ghost use mathlib.Core.Path.{_≡_};
+ghost use mathlib.Core.Bool.{true};
 ghost use mathlib.Core.List.{[], _∷_};
 ghost use Prim.Native.Nat.{_^_, _≤_, _<_};
 ghost use lib.ListN.{drop};
+ghost use Rattle.words.specs.All.{tabled};
 ghost use Rattle.fields.specs.Sizes.{sizeOf, asciiWords, listWords, wordsOf};
 
 // Document 01, "Words for each bit": the fields of fixed size by their bit, 0 where a bit has none.
-const SIZES: [usize; 32] = [
+pub const SIZES: [u8; 32] = [
     0,
     0,
     0,
@@ -41,12 +43,21 @@ const SIZES: [usize; 32] = [
     0,
 ];
 
+// The words of a field of fixed size, by the table, which a loop builds once and lends.
+pub fn size_in(sizes: &[u8; 32], bit: u32) -> usize
+    requires { ⌜ (tabled 32 sizeOf (now sizes) ≡ true) × (bit < 32) ⌝ }
+    ensures { λ r. ⌜ (r ≡ sizeOf bit) × (r ≤ 13) ⌝ }
+{
+    sizes[bit as usize] as usize
+}
+
 // The words of a field of fixed size.
 pub fn size_of(bit: u32) -> usize
     requires { ⌜ bit < 32 ⌝ }
     ensures { λ r. ⌜ (r ≡ sizeOf bit) × (r ≤ 13) ⌝ }
 {
-    SIZES[bit as usize]
+    let sizes = SIZES;
+    size_in(&sizes, bit)
 }
 
 // The words of field 9 at a place of a body.
@@ -64,11 +75,14 @@ fn list_words(a: u32, b: u32) -> u32
     2 + a / 0x1_0000 % 512 + a % 512 + b / 0x1_0000 % 0x1_0000 + b % 0x8000 * (1 + b / 0x8000 % 2)
 }
 
-// The words of the field of a bit that stands at a place of a body.
-pub fn words_at(bit: u32, body: &[u32], at: usize) -> usize
-    requires { ⌜ (bit < 32) × (at < 2 ^ 40) ⌝ }
+// The words of the field of a bit that stands at a place of a body, with the table lent.
+pub fn words_in(sizes: &[u8; 32], bit: u32, body: &[u32], at: usize) -> usize
+    requires { ⌜ (tabled 32 sizeOf (now sizes) ≡ true) × (bit < 32) × (at < 2 ^ 40) ⌝ }
     ensures { λ r. ⌜ (r ≡ wordsOf bit (drop at (now (body .entry)))) × (r ≤ 2 ^ 33) ⌝ }
 {
+    if 9 < bit {
+        return size_in(sizes, bit);
+    }
     if bit == 9 {
         return ascii_words(body, at);
     }
@@ -78,5 +92,14 @@ pub fn words_at(bit: u32, body: &[u32], at: usize) -> usize
             words::inner::word_at(body, at + 1),
         ) as usize;
     }
-    size_of(bit)
+    size_in(sizes, bit)
+}
+
+// The words of the field of a bit that stands at a place of a body.
+pub fn words_at(bit: u32, body: &[u32], at: usize) -> usize
+    requires { ⌜ (bit < 32) × (at < 2 ^ 40) ⌝ }
+    ensures { λ r. ⌜ (r ≡ wordsOf bit (drop at (now (body .entry)))) × (r ≤ 2 ^ 33) ⌝ }
+{
+    let sizes = SIZES;
+    words_in(&sizes, bit, body, at)
 }

@@ -1,9 +1,12 @@
 // Whether a record is good: a function for each rule, with one loop at most.
 ghost use mathlib.Core.Path.{_≡_};
+ghost use mathlib.Core.Bool.{true};
 ghost use Prim.Native.Nat.{_<_};
 ghost use lib.ListN.{length};
-ghost use Rattle.words.specs.All.{all};
-ghost use Rattle.record.specs.Held.{holds};
+ghost use Rattle.words.specs.All.{all, tabled};
+ghost use Rattle.fields.specs.Sizes.{sizeOf};
+ghost use Rattle.fields.specs.Rules.{ruleOf};
+ghost use Rattle.record.specs.Held.{holds, slotAt};
 ghost use Rattle.record.specs.Layout.{recordWords};
 ghost use Rattle.record.specs.Good.{zeros, countGood, countGoodAt, heldGood, slotGood, recordGood};
 
@@ -19,6 +22,19 @@ fn all_zero(ws: &[u32]) -> bool
         i += 1;
     }
     true
+}
+
+// The same of a slot: most have one word or two.
+fn slot_zero(ws: &[u32]) -> bool
+    ensures { λ r. ⌜ r ≡ zeros (now (ws .entry)) ⌝ }
+{
+    if ws.len() == 1 {
+        return ws[0] == 0;
+    }
+    if ws.len() == 2 {
+        return words::inner::both_of(ws[0] == 0, ws[1] == 0);
+    }
+    all_zero(ws)
 }
 
 // Whether a count is good: one not started has zeros, and a last count is at most 15.
@@ -60,40 +76,45 @@ fn held_good(held: u32, last: u32) -> bool
     true
 }
 
-// Whether the field of a bit is held.
-fn is_held(bit: u32) -> bool
-    requires { ⌜ bit < 32 ⌝ }
-    ensures { λ r. ⌜ r ≡ holds bit ⌝ }
+// Whether the words of a slot obey the rule of the field of a bit.
+fn rule_good(bit: u32, slot: &[u32]) -> bool
+    requires { ⌜ 0 < length (now slot) ⌝ }
+    ensures { λ r. ⌜ r ≡ ruleOf bit (now (slot .entry)) ⌝ }
 {
-    (crate::inner::held::HELD >> bit) % 2 == 1
+    if fields::inner::first_ok(bit, slot[0]) {
+        if 17 < bit {
+            return true;
+        }
+        return fields::inner::more_ok(bit, slot, 0);
+    }
+    false
 }
 
-// Whether the slot of a bit is good: zero where the field is not held, and else by the field's rule.
-fn slot_good(rec: &[u32], bit: u32) -> bool
-    requires { ⌜ (length (now rec) ≡ recordWords) × (bit < 31) ⌝ }
+// Whether the slot of a bit of a held field is good: zero where the field is not held, and else by the field's rule. The tables are lent.
+fn slot_good(rec: &[u32], bit: u32, sizes: &[u8; 32], places: &[u8; 32]) -> bool
+    requires { ⌜ (length (now rec) ≡ recordWords) × (holds bit ≡ true) × (tabled 32 sizeOf (now sizes) ≡ true) × (tabled 32 slotAt (now places) ≡ true) ⌝ }
     ensures { λ r. ⌜ r ≡ slotGood (now (rec .entry)) bit ⌝ }
 {
-    if !is_held(bit) {
-        return true;
-    }
-    let at = crate::inner::HEAD_WORDS + crate::inner::held::slot_at(bit);
-    let end = at + fields::inner::size_of(bit);
+    let at = crate::inner::HEAD_WORDS + crate::inner::held::slot_in(places, bit);
+    let end = at + fields::inner::size_in(sizes, bit);
     let held = rec[1];
     if (held >> bit) % 2 == 1 {
-        fields::inner::rule_at(bit, &rec[at..end], 0)
+        rule_good(bit, &rec[at..end])
     } else {
-        all_zero(&rec[at..end])
+        slot_zero(&rec[at..end])
     }
 }
 
-// Whether all slots of a record are good.
+// Whether all slots of a record are good: those of bits 30 to 10.
 fn slots_good(rec: &[u32]) -> bool
     requires { ⌜ length (now rec) ≡ recordWords ⌝ }
     ensures { λ r. ⌜ r ≡ all 31 (slotGood (now (rec .entry))) ⌝ }
 {
-    let mut bit = 0;
+    let sizes = fields::inner::SIZES;
+    let places = crate::inner::held::SLOTS;
+    let mut bit = 10;
     while bit < 31 {
-        if !slot_good(rec, bit) {
+        if !slot_good(rec, bit, &sizes, &places) {
             return false;
         }
         bit += 1;

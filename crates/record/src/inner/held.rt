@@ -5,6 +5,7 @@ ghost use Prim.Native.Nat.{ℕ, _+_, _≤_, _<_};
 ghost use lib.Bits.{bitAnd};
 ghost use lib.ListN.{length};
 ghost use Rattle.words.specs.Outcome.{accepted};
+ghost use Rattle.words.specs.All.{tabled};
 ghost use Rattle.words.specs.Word.{has};
 ghost use Rattle.fields.specs.Layout.{contextOf};
 ghost use Rattle.record.specs.Held.{heldMask, slotAt};
@@ -15,7 +16,7 @@ ghost use Rattle.record.specs.After.{Inside, refilled, holdRecord};
 pub const HELD: u32 = 0x7FFF_FC00;
 
 // Where the slots begin among each other, by the bit of the field: each after those of the held bits above it.
-const SLOTS: [usize; 32] = [
+pub const SLOTS: [u8; 32] = [
     74,
     74,
     74,
@@ -50,12 +51,21 @@ const SLOTS: [usize; 32] = [
     0,
 ];
 
+// Where the slot of a field begins among the slots, by the table, which a loop builds once and lends.
+pub fn slot_in(places: &[u8; 32], bit: u32) -> usize
+    requires { ⌜ (tabled 32 slotAt (now places) ≡ true) × (bit < 32) ⌝ }
+    ensures { λ r. ⌜ (r ≡ slotAt bit) × (r ≤ slotWords) ⌝ }
+{
+    places[bit as usize] as usize
+}
+
 // Where the slot of a field begins among the slots.
 pub fn slot_at(bit: u32) -> usize
     requires { ⌜ bit < 32 ⌝ }
     ensures { λ r. ⌜ (r ≡ slotAt bit) × (r ≤ slotWords) ⌝ }
 {
-    SLOTS[bit as usize]
+    let places = SLOTS;
+    slot_in(&places, bit)
 }
 
 // Each field of these bits into its slot, whole. The fields stand in the words one after the other, from a place on.
@@ -63,12 +73,14 @@ pub fn refill(slots: &mut [u32], bits: u32, words: &[u32], at: usize)
     requires { ⌜ (length (now slots) ≡ slotWords) × (bitAnd bits heldMask ≡ bits) × Inside bits at (now words) ⌝ }
     ensures { λ _. ⌜ now (slots .exit) ≡ refilled bits at (now (words .entry)) (now (slots .entry)) ⌝ }
 {
+    let sizes = fields::inner::SIZES;
+    let places = SLOTS;
     let mut rest = bits;
     let mut from = at;
     while rest != 0 {
         let f = fields::inner::next_field(rest);
-        let n = fields::inner::size_of(f.bit);
-        words::inner::copy_part(slots, slot_at(f.bit), words, from, n);
+        let n = fields::inner::size_in(&sizes, f.bit);
+        crate::inner::copies::copy_field(slots, slot_in(&places, f.bit), words, from, n);
         from += n;
         rest = f.rest;
     }

@@ -1,63 +1,17 @@
--- `words_at` meets its promise: each return is a row of the definition, answered by that row's function.
-use mathlib.Core.Path.{_≡_}
-use denote.Ref.{now}
-use lib.ListN.{drop}
-use Rattle.words.proofs.Cases.{cases}
-use Rattle.fields.specs.Sizes.{listWords, wordsOf}
-use Rattle.fields.proofs.PlaceLaws.{first-word, second-word}
-use Rattle.fields.proofs.SizeLaws.{list-words-two}
+-- `words_at` meets its promise: it lends the table, which has the rows of document 01.
+use mathlib.Core.Path.{refl}
+use Rattle.words.specs.All.{all}
+use Rattle.fields.specs.Sizes.{sizeOf}
 use borrow.Author.Needs.{needs}
 use Rattle.fields.proofs.inner.sizes.words_at.Statement.{statement}
 use Rattle.fields.proofs.inner.sizes.words_at.Tie as tie
 
-ascii-words-requires : tie.Need-ascii-words-requires
-ascii-words-requires c κs = search needs
+words-in-requires : tie.Need-words-in-requires
+unfolding all sizeOf
+words-in-requires c κs = (refl, search needs, search needs)
 
 returns : tie.Need-returns
-unfolding wordsOf
-returns c = (search (cases, c .ascii-words .ensures .0), search needs)
-
-word-at-requires : tie.Need-word-at-requires
-word-at-requires c κs = search needs
-
-add-word-at : tie.Need-add-word-at
-add-word-at c = search needs
-
-word-at-requires-2 : tie.Need-word-at-requires-2
-word-at-requires-2 c κs = search needs
-
-list-words-requires : tie.Need-list-words-requires
-list-words-requires c κs = search needs
-
-cast-result : tie.Need-cast-result
-cast-result c = search needs
-
-returns-2 : tie.Need-returns-2
-unfolding wordsOf
-returns-2 c =
-    let a = c .before .before .before .before .before .before .args in
-    let e : c .list-words .result ≡ listWords (drop (a .at) (now (a .body))) =
-    rw (list-words-two, first-word, second-word, ← c .before .before .word-at .ensures, ← c .before .word-at2 .ensures) (c .list-words .ensures .0) in
-    (search (cases, e), search needs)
-
-size-of-requires : tie.Need-size-of-requires
-size-of-requires c κs = search needs
-
-returns-3 : tie.Need-returns-3
-unfolding wordsOf
-returns-3 c = (search (cases, c .size-of .ensures .0), search needs)
+returns c = search needs
 
 pub words-at-spec : {M : Type 1} → statement M
-words-at-spec =
-    tie.close
-    (tie.spec
-    ascii-words-requires
-    returns
-    word-at-requires
-    add-word-at
-    word-at-requires-2
-    list-words-requires
-    cast-result
-    returns-2
-    size-of-requires
-    returns-3)
+words-at-spec = tie.close (tie.spec words-in-requires returns)

@@ -1,25 +1,20 @@
 -- `slot_good` meets its promise: the slot is lent to the test that its held bit asks for.
-use mathlib.Core.Path.{sym, _∙_}
-use borrow.Author.Tests.{eq-eqb, ne-eqb, not-true, not-false}
-use Rattle.record.proofs.GoodLaws.{slot-skipped, slot-end, slot-ruled, slot-zero}
+use native.Mathlib.Omega.{arith}
+use borrow.Author.Tests.{eq-eqb, ne-eqb}
+use Rattle.record.proofs.SlotLaws.{held-low, held-high}
+use Rattle.record.proofs.GoodLaws.{slot-end, slot-there, slot-ruled, slot-zeroed}
 use borrow.Author.Needs.{needs}
 use Rattle.record.proofs.inner.good.slot_good.Statement.{statement}
 use Rattle.record.proofs.inner.good.slot_good.Tie as tie
 
-is-held-requires : tie.Need-is-held-requires
-is-held-requires c κs = search needs
-
-returns : tie.Need-returns
-returns c = slot-skipped _ _ (sym (c .before .is-held .ensures) ∙ not-true _ (c .if1 .taken))
-
-slot-at-requires : tie.Need-slot-at-requires
-slot-at-requires c κs = search needs
+slot-in-requires : tie.Need-slot-in-requires
+slot-in-requires c κs = (c .before .pre .3, omega (arith, held-high _ (c .before .pre .1)))
 
 add-at : tie.Need-add-at
 add-at c = search needs
 
-size-of-requires : tie.Need-size-of-requires
-size-of-requires c κs = search needs
+size-in-requires : tie.Need-size-in-requires
+size-in-requires c κs = (c .before .before .pre .2, omega (arith, held-high _ (c .before .before .pre .1)))
 
 add-end : tie.Need-add-end
 add-end c = search needs
@@ -27,66 +22,64 @@ add-end c = search needs
 shared-slice-read-held : tie.Need-shared-slice-read-held
 shared-slice-read-held c = search needs
 
-shr-if2 : tie.Need-shr-if2
-shr-if2 c = search needs
+shr-if1 : tie.Need-shr-if1
+shr-if1 c = omega (arith, held-high _ (c .before .before .before .before .pre .1))
 
-mul-rule-at : tie.Need-mul-rule-at
-mul-rule-at c = search needs
+mul-rule-good : tie.Need-mul-rule-good
+mul-rule-good c = search needs
 
-sub-rule-at : tie.Need-sub-rule-at
-sub-rule-at c = search needs
+sub-rule-good : tie.Need-sub-rule-good
+sub-rule-good c = search needs
 
-part-rule-at-start : tie.Need-part-rule-at-start
-part-rule-at-start c = search needs
+part-rule-good-start : tie.Need-part-rule-good-start
+part-rule-good-start c = search needs
 
-part-rule-at-end : tie.Need-part-rule-at-end
-part-rule-at-end c = slot-end (c .before .before .before .before .before .before .before .args .rec .now) (c .before .before .before .before .before .before .before .args .bit) _ _ (c .before .before .before .before .before .before .before .pre .0) (sym (c .before .before .before .before .before .is-held .ensures) ∙ not-false _ (c .before .before .before .before .if1 .left)) (c .before .before .before .slot-at .ensures .0) (c .before .before .size-of .ensures .0)
+part-rule-good-end : tie.Need-part-rule-good-end
+part-rule-good-end c = slot-end (c .before .before .before .before .before .args .rec .now) (c .before .before .before .before .before .args .bit) _ _ (c .before .before .before .before .before .pre .0) (c .before .before .before .before .before .pre .1) (c .before .before .before .slot-in .ensures .0) (c .before .before .size-in .ensures .0)
 
-rule-at-requires : tie.Need-rule-at-requires
-rule-at-requires c κs = search needs
+rule-good-requires : tie.Need-rule-good-requires
+rule-good-requires c κs = slot-there (c .before .before .before .before .before .before .args .rec .now) (c .before .before .before .before .before .before .args .bit) _ _ (c .before .before .before .before .before .before .pre .0) (c .before .before .before .before .before .before .pre .1) (c .before .before .before .before .slot-in .ensures .0) (c .before .before .before .size-in .ensures .0)
 
-mul-all-zero : tie.Need-mul-all-zero
-mul-all-zero c = search needs
+mul-slot-zero : tie.Need-mul-slot-zero
+mul-slot-zero c = search needs
 
-sub-all-zero : tie.Need-sub-all-zero
-sub-all-zero c = search needs
+sub-slot-zero : tie.Need-sub-slot-zero
+sub-slot-zero c = search needs
 
-part-all-zero-start : tie.Need-part-all-zero-start
-part-all-zero-start c = search needs
+part-slot-zero-start : tie.Need-part-slot-zero-start
+part-slot-zero-start c = search needs
 
-part-all-zero-end : tie.Need-part-all-zero-end
-part-all-zero-end c = slot-end (c .before .before .before .before .before .before .before .args .rec .now) (c .before .before .before .before .before .before .before .args .bit) _ _ (c .before .before .before .before .before .before .before .pre .0) (sym (c .before .before .before .before .before .is-held .ensures) ∙ not-false _ (c .before .before .before .before .if1 .left)) (c .before .before .before .slot-at .ensures .0) (c .before .before .size-of .ensures .0)
+part-slot-zero-end : tie.Need-part-slot-zero-end
+part-slot-zero-end c = slot-end (c .before .before .before .before .before .args .rec .now) (c .before .before .before .before .before .args .bit) _ _ (c .before .before .before .before .before .pre .0) (c .before .before .before .before .before .pre .1) (c .before .before .before .slot-in .ensures .0) (c .before .before .size-in .ensures .0)
 
-all-zero-requires : tie.Need-all-zero-requires
-all-zero-requires c κs = search needs
+slot-zero-requires : tie.Need-slot-zero-requires
+slot-zero-requires c κs = search needs
+
+returns : tie.Need-returns
+returns c = slot-ruled _ _ _ _ (c .before .before .before .before .before .before .before .pre .0) (c .before .before .before .before .before .before .before .pre .1) (c .before .before .before .before .before .slot-in .ensures .0) (c .before .before .before .before .size-in .ensures .0) _ (eq-eqb _ _ (c .before .before .if1 .taken)) (c .rule-good .ensures)
 
 returns-2 : tie.Need-returns-2
-returns-2 c = slot-ruled _ _ _ _ (c .before .before .before .before .before .before .before .before .before .pre .0) (sym (c .before .before .before .before .before .before .before .is-held .ensures) ∙ not-false _ (c .before .before .before .before .before .before .if1 .left)) (c .before .before .before .before .before .slot-at .ensures .0) (c .before .before .before .before .size-of .ensures .0) _ (eq-eqb _ _ (c .before .before .if2 .taken)) (c .rule-at .ensures)
-
-returns-3 : tie.Need-returns-3
-returns-3 c = slot-zero _ _ _ _ (c .before .before .before .before .before .before .before .before .before .pre .0) (sym (c .before .before .before .before .before .before .before .is-held .ensures) ∙ not-false _ (c .before .before .before .before .before .before .if1 .left)) (c .before .before .before .before .before .slot-at .ensures .0) (c .before .before .before .before .size-of .ensures .0) _ (ne-eqb _ _ (c .before .before .if2 .left)) (c .all-zero .ensures)
+returns-2 c = slot-zeroed _ _ _ _ (c .before .before .before .before .before .before .before .pre .0) (c .before .before .before .before .before .before .before .pre .1) (c .before .before .before .before .before .slot-in .ensures .0) (c .before .before .before .before .size-in .ensures .0) _ (ne-eqb _ _ (c .before .before .if1 .left)) (c .slot-zero .ensures)
 
 pub slot-good-spec : {M : Type 1} → statement M
 slot-good-spec =
     tie.close
     (tie.spec
-    is-held-requires
-    returns
-    slot-at-requires
+    slot-in-requires
     add-at
-    size-of-requires
+    size-in-requires
     add-end
     shared-slice-read-held
-    shr-if2
-    mul-rule-at
-    sub-rule-at
-    part-rule-at-start
-    part-rule-at-end
-    rule-at-requires
-    mul-all-zero
-    sub-all-zero
-    part-all-zero-start
-    part-all-zero-end
-    all-zero-requires
-    returns-2
-    returns-3)
+    shr-if1
+    mul-rule-good
+    sub-rule-good
+    part-rule-good-start
+    part-rule-good-end
+    rule-good-requires
+    mul-slot-zero
+    sub-slot-zero
+    part-slot-zero-start
+    part-slot-zero-end
+    slot-zero-requires
+    returns
+    returns-2)

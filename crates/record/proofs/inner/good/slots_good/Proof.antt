@@ -1,30 +1,34 @@
--- `slots_good` meets its promise: the slots of the bits passed are good.
+-- `slots_good` meets its promise: the slots of the bits passed are good, and those of bits below 10 are not looked at.
 use Prim.Native.Nat.{_≤_, _-_}
-use mathlib.Core.Path.{_≡_, sym, _∙_}
+use mathlib.Core.Path.{_≡_, refl, sym, _∙_}
 use mathlib.Core.Bool.{true}
 use borrow.Author.Tests.{not-true, not-false}
 use Rattle.words.specs.All.{all}
-use Rattle.words.proofs.AllLaws.{all-none, all-more, all-fails, all-end}
+use Rattle.words.proofs.AllLaws.{all-more, all-fails, all-end}
+use Rattle.fields.specs.Sizes.{sizeOf}
 use Rattle.record.specs.Good.{slotGood}
+use Rattle.record.proofs.SlotLaws.{held-all, places-tabled}
+use Rattle.record.proofs.GoodLaws.{slots-skipped}
 use native.Mathlib.Omega.{arith}
 use borrow.Author.Needs.{needs}
 use Rattle.record.proofs.inner.good.slots_good.Statement.{statement}
 use Rattle.record.proofs.inner.good.slots_good.Tie as tie
 
 abbrev Inv-loop : tie.InvT-loop
-Inv-loop rec bit₀ bit = (bit ≤ 31) × (all bit (slotGood rec) ≡ true)
+Inv-loop rec sizes places bit₀ bit = (10 ≤ bit) × (bit ≤ 31) × (all bit (slotGood rec) ≡ true)
 
 abbrev μ-loop : tie.MeasureT-loop
-μ-loop rec bit₀ bit = 31 - bit
+μ-loop rec sizes places bit₀ bit = 31 - bit
 
 loop-holds : tie.Need-loop-holds Inv-loop μ-loop
-loop-holds c = (search needs, all-none _)
+loop-holds c = (search needs, search needs, slots-skipped _)
 
 slot-good-requires : tie.Need-slot-good-requires Inv-loop μ-loop
-slot-good-requires c κs = search needs
+unfolding sizeOf all
+slot-good-requires c κs = (c .before .before .before .before .before .pre, held-all _ (c .before .before .before .loop .inv .0) (c .before .before .loop-test .taken), refl, places-tabled)
 
 returns : tie.Need-returns Inv-loop μ-loop
-returns c = sym (all-fails _ _ (c .before .before .before .loop .bit) (c .before .before .loop-test .taken) (sym (c .before .slot-good .ensures) ∙ not-true _ (c .if1 .taken)))
+returns c = sym (all-fails _ _ (c .before .before .before .before .before .loop .bit) (c .before .before .before .before .loop-test .taken) (sym (c .before .slot-good .ensures) ∙ not-true _ (c .if1 .taken)))
 
 add-bit : tie.Need-add-bit Inv-loop μ-loop
 add-bit c = search needs
@@ -33,10 +37,10 @@ loop-less : tie.Need-loop-less Inv-loop μ-loop
 loop-less c = search needs
 
 loop-again : tie.Need-loop-again Inv-loop μ-loop
-loop-again c = (search needs, all-more _ _ (c .before .before .before .loop .inv .1) (sym (c .before .slot-good .ensures) ∙ not-false _ (c .if1 .left)))
+loop-again c = (search needs, search needs, all-more _ _ (c .before .before .before .before .before .loop .inv .2) (sym (c .before .slot-good .ensures) ∙ not-false _ (c .if1 .left)))
 
 returns-2 : tie.Need-returns-2 Inv-loop μ-loop
-returns-2 c = sym (all-end _ _ _ (omega arith) (c .before .loop .inv .1))
+returns-2 c = sym (all-end _ _ _ (omega arith) (c .before .loop .inv .2))
 
 pub slots-good-spec : {M : Type 1} → statement M
 slots-good-spec =

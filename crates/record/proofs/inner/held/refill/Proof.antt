@@ -1,6 +1,10 @@
 -- `refill` meets its promise. The invariant `Holding` says of each slot whether it is filled; its laws carry the turn.
-use mathlib.Core.Path.{sym, _∙_}
+use mathlib.Core.Path.{refl, sym, _∙_}
 use native.Mathlib.Nat.{pos-of-ne-zero}
+use Rattle.words.specs.All.{all}
+use Rattle.fields.specs.Sizes.{sizeOf}
+use Rattle.record.proofs.SlotLaws.{places-tabled}
+use Rattle.record.proofs.CopyLaws.{size-held}
 use Rattle.record.proofs.HoldLaws.{Holding, slot-inside, holding-start, holding-holds, holding-field, holding-turn, holding-end}
 use native.Mathlib.Omega.{arith}
 use borrow.Author.Needs.{needs}
@@ -8,10 +12,10 @@ use Rattle.record.proofs.inner.held.refill.Statement.{statement}
 use Rattle.record.proofs.inner.held.refill.Tie as tie
 
 abbrev Inv-loop : tie.InvT-loop
-Inv-loop slots₀ bits words at rest₀ from₀ slots rest from = Holding bits at words slots₀ slots rest from
+Inv-loop slots₀ bits words at sizes places rest₀ from₀ slots rest from = Holding bits at words slots₀ slots rest from
 
 abbrev μ-loop : tie.MeasureT-loop
-μ-loop slots₀ bits words at rest₀ from₀ slots rest from = rest
+μ-loop slots₀ bits words at sizes places rest₀ from₀ slots rest from = rest
 
 loop-holds : tie.Need-loop-holds Inv-loop μ-loop
 loop-holds c =
@@ -21,38 +25,39 @@ loop-holds c =
 next-field-requires : tie.Need-next-field-requires Inv-loop μ-loop
 next-field-requires c κs = pos-of-ne-zero (c .loop-test .taken)
 
-size-of-requires : tie.Need-size-of-requires Inv-loop μ-loop
-size-of-requires c κs = search needs
+size-in-requires : tie.Need-size-in-requires Inv-loop μ-loop
+unfolding sizeOf all
+size-in-requires c κs = (refl, search needs)
 
-slot-at-requires : tie.Need-slot-at-requires Inv-loop μ-loop
-slot-at-requires c κs = search needs
+slot-in-requires : tie.Need-slot-in-requires Inv-loop μ-loop
+slot-in-requires c κs = (places-tabled, search needs)
 
-copy-part-requires : tie.Need-copy-part-requires Inv-loop μ-loop
-copy-part-requires c κs =
-    let h = c .before .before .before .before .before in
+copy-field-requires : tie.Need-copy-field-requires Inv-loop μ-loop
+copy-field-requires c κs =
+    let h = c .before .before .before .before .before .before .before in
     let b = h .before .before .before in
-    let f = c .before .before .before .next-field in (
-      omega (arith, h .loop .inv .same, c .slot-at .ensures .0, c .before .before .size-of .ensures .0, slot-inside _ (holding-holds (h .loop .inv) (b .pre .1) (b .pre .2) _ _ (f .ensures .0))),
-      omega (arith, c .before .before .size-of .ensures .0, holding-field (h .loop .inv) (b .pre .1) (b .pre .2) _ _ (f .ensures .0)),
-    )
+    let f = c .before .before .before .before .before .next-field in
+    let held = holding-holds (h .loop .inv) (b .pre .1) (b .pre .2) _ _ (f .ensures .0) in
+    let n = c .before .before .before .size-in .ensures .0 in
+    (omega (arith, h .loop .inv .same, c .slot-in .ensures .0, n, slot-inside _ held), omega (arith, n, holding-field (h .loop .inv) (b .pre .1) (b .pre .2) _ _ (f .ensures .0)), size-held _ _ held n)
 
 add-from : tie.Need-add-from Inv-loop μ-loop
 add-from c =
-    let h = c .before .before .before .before .before .before .before .before in
+    let h = c .before .before .before .before .before .before .before .before .before .before in
     let b = h .before .before .before in
-    let f = c .before .before .before .before .before .before .next-field in
-    omega (arith, c .before .before .before .before .before .size-of .ensures .0, holding-field (h .loop .inv) (b .pre .1) (b .pre .2) _ _ (f .ensures .0))
+    let f = c .before .before .before .before .before .before .before .before .next-field in
+    omega (arith, c .before .before .before .before .before .before .size-in .ensures .0, holding-field (h .loop .inv) (b .pre .1) (b .pre .2) _ _ (f .ensures .0))
 
 loop-less : tie.Need-loop-less Inv-loop μ-loop
 loop-less c = search needs
 
 loop-again : tie.Need-loop-again Inv-loop μ-loop
 loop-again c =
-    let h = c .before .before .before .before .before .before .before .before in
+    let h = c .before .before .before .before .before .before .before .before .before .before in
     let b = h .before .before .before in
-    let f = c .before .before .before .before .before .before .next-field in
+    let f = c .before .before .before .before .before .before .before .before .next-field in
     holding-turn (h .loop .inv) (b .pre .1) (b .pre .2) _ _ (f .ensures .0) _ _ _
-    (c .before .before .before .slot-at .ensures .0) (c .before .before .before .before .before .size-of .ensures .0) (c .before .before .copy-part .ensures)
+    (c .before .before .before .slot-in .ensures .0) (c .before .before .before .before .before .before .size-in .ensures .0) (c .before .before .copy-field .ensures)
 
 same-length : tie.Need-same-length Inv-loop μ-loop
 same-length c = c .before .loop .inv .same ∙ sym (c .before .before .before .before .pre .0)
@@ -68,9 +73,9 @@ refill-spec =
     μ-loop
     loop-holds
     next-field-requires
-    size-of-requires
-    slot-at-requires
-    copy-part-requires
+    size-in-requires
+    slot-in-requires
+    copy-field-requires
     add-from
     loop-less
     loop-again

@@ -1,0 +1,68 @@
+-- The words of a field, copied piece by piece. The idea: a piece that stands right behind another, copied after it, makes one longer piece (`copied-then`).
+use mathlib.Core.Path.{_≡_, refl, sym, ap, _∙_}
+use mathlib.Core.Bool.{Bool, true, false}
+use mathlib.Core.Logic.{_⊎_, inl, inr, ⊎-elim}
+use mathlib.Core.List.{List, [], _∷_, _++_, append-assoc}
+use Prim.Native.Nat.{ℕ, _+_, _≤_, _<_}
+use native.Mathlib.Omega.{arith}
+use borrow.Author.Tests.{ne-eqb, eqb-true, le-ltb}
+use lib.Dec.{eqb, ltb}
+use lib.ListN.{length, take, drop, getD, set, length-append}
+use lib.Seq.{drop-cons, drop-drop, take-add, length-take-le}
+use Rattle.words.specs.Tests.{pick, among}
+use Rattle.words.specs.All.{all}
+use Rattle.words.specs.Part.{part, put}
+use Rattle.words.proofs.Cases.{true-or-false, true-is-false}
+use Rattle.words.proofs.AllLaws.{all-at}
+use Rattle.words.proofs.PartLaws.{set-put, put-at, part-length}
+use Rattle.fields.specs.Sizes.{sizeOf}
+use Rattle.record.specs.Held.{holds}
+use Rattle.record.proofs.SlotLaws.{held-low, held-high}
+
+-- one word
+pub copied-one : (d s : ℕ) (ws xs : List ℕ) → d + 1 ≤ length xs → s + 1 ≤ length ws → set xs d (getD ws s 0) ≡ put d 1 (part s 1 ws) xs
+unfolding part
+copied-one d s ws xs h g = rw (drop-cons ws s 0 (omega arith)) (set-put d (getD ws s 0) xs (omega arith))
+
+-- n words, and then m behind them
+pub copied-then : (d s n m : ℕ) (ws xs mid last : List ℕ) → d + (n + m) ≤ length xs → s + (n + m) ≤ length ws → mid ≡ put d n (part s n ws) xs
+    → last ≡ put (d + n) m (part (s + n) m ws) mid → last ≡ put d (n + m) (part s (n + m) ws) xs
+unfolding part put
+copied-then d s n m ws xs mid last h g e f =
+    let p : List ℕ = take d xs in
+    let y : List ℕ = part s n ws in
+    let z : List ℕ = part (s + n) m ws in
+    let q : List ℕ = drop n (drop d xs) in
+    let lp : length (p ++ y) ≡ d + n = simp (length-append, length-take-le d xs (omega arith), part-length s n ws (omega arith)) in
+    let yz : y ++ z ≡ part s (n + m) ws = ap (λ (l : List ℕ). y ++ take m l) (sym (drop-drop n s ws)) ∙ sym (take-add n m (drop s ws)) in
+    f ∙ ap (put (d + n) m z) (e ∙ sym (append-assoc p y q)) ∙ put-at (d + n) m (p ++ y) q z lp ∙ append-assoc p y (z ++ drop m q)
+    ∙ ap (λ (l : List ℕ). p ++ l) (sym (append-assoc y z (drop m q)) ∙ ap (λ (l : List ℕ). l ++ drop m q) yz ∙ ap (λ (l : List ℕ). part s (n + m) ws ++ l) (drop-drop m n (drop d xs)))
+
+-- ---- the sizes of fields that are held
+
+few : ℕ → ℕ → Bool
+few b n = pick (ltb b 10) true (among n (1 ∷ 2 ∷ 11 ∷ 13 ∷ []))
+
+-- a held field has 1, 2, 11 or 13 words
+size-few : (b : ℕ) → 10 ≤ b → b < 31 → among (sizeOf b) (1 ∷ 2 ∷ 11 ∷ 13 ∷ []) ≡ true
+unfolding few sizeOf all
+size-few b h g = rw (le-ltb b 10 h) at (all-at (λ i. few i (sizeOf i)) 31 b g refl)
+
+pub size-held : (b n : ℕ) → holds b ≡ true → n ≡ sizeOf b → among n (1 ∷ 2 ∷ 11 ∷ 13 ∷ []) ≡ true
+size-held b n o e = rw e (size-few b (held-low b o) (held-high b o))
+
+among-one : (n x : ℕ) → among n (x ∷ []) ≡ true → n ≡ x
+among-one n x t = ⊎-elim (λ e. eqb-true n x e) (λ e. absurd (true-is-false (sym t ∙ rw e))) (true-or-false (eqb n x))
+
+-- one that has neither 1 nor 2 has 11 or 13
+eleven-or-more : (n : ℕ) → among n (1 ∷ 2 ∷ 11 ∷ 13 ∷ []) ≡ true → (n ≡ 1 → ⊥) → (n ≡ 2 → ⊥) → (n ≡ 11) ⊎ (n ≡ 13)
+eleven-or-more n t p q =
+    let a : among n (2 ∷ 11 ∷ 13 ∷ []) ≡ true = rw (ne-eqb n 1 p) at t in
+    let b : among n (11 ∷ 13 ∷ []) ≡ true = rw (ne-eqb n 2 q) at a in
+    ⊎-elim (λ x. inl (eqb-true n 11 x)) (λ x. inr (among-one n 13 (rw x at b))) (true-or-false (eqb n 11))
+
+pub size-long : (n : ℕ) → among n (1 ∷ 2 ∷ 11 ∷ 13 ∷ []) ≡ true → (n ≡ 1 → ⊥) → (n ≡ 2 → ⊥) → 11 ≤ n
+size-long n t p q = ⊎-elim (λ (e : n ≡ 11). omega arith) (λ (e : n ≡ 13). omega arith) (eleven-or-more n t p q)
+
+pub size-eleven : (n : ℕ) → among n (1 ∷ 2 ∷ 11 ∷ 13 ∷ []) ≡ true → (n ≡ 1 → ⊥) → (n ≡ 2 → ⊥) → (n ≡ 13 → ⊥) → n ≡ 11
+size-eleven n t p q r = ⊎-elim (λ e. e) (λ e. absurd (r e)) (eleven-or-more n t p q)
