@@ -1,8 +1,15 @@
 -- Where the parts of a packet lie. The idea: each part ends where the next begins, and the last ends at the size; so all lie inside n words as
 -- soon as the required parts fit the size and the size fits n.
-use Prim.Native.Nat.{ℕ, _+_, _-_, _≤_}
+use mathlib.Core.Path.{_≡_, refl, sym}
+use mathlib.Core.Bool.{Bool, true, false, not}
+use mathlib.Core.List.{[], _∷_}
+use Prim.Native.Nat.{ℕ, _+_, _-_, _/_, _%_, _^_, _≤_, _<_}
 use native.Mathlib.Omega.{arith}
-use Rattle.words.specs.Tests.{when}
+use borrow.Author.Tests.{not-true}
+use lib.Dec.{eqb}
+use Rattle.words.specs.Tests.{pick, when, among}
+use Rattle.words.specs.All.{all}
+use Rattle.words.proofs.AllLaws.{all-at}
 use Rattle.words.proofs.Cases.{when-most}
 use Rattle.packet.specs.Header.{classed, trailed, sizeOf}
 use Rattle.packet.specs.Parts.{streamed, hasSeconds, hasFraction, classAt, secondsAt, fractionAt, bodyAt, requiredOf, bodyLength}
@@ -35,3 +42,16 @@ room w n h g = record {
   trailer = omega (arith, when-most (trailed w) 1);
   around = omega arith;
 }
+
+-- ---- the types that have a stream identifier, as the bits of one constant
+
+bit-right : ℕ → Bool
+bit-right k = pick (eqb (58 / 2 ^ k % 2) 1) (among k (1 ∷ 3 ∷ 4 ∷ 5 ∷ [])) (not (among k (1 ∷ 3 ∷ 4 ∷ 5 ∷ [])))
+
+pub streamed-bit : (k : ℕ) → k < 16 → eqb (58 / 2 ^ k % 2) 1 ≡ among k (1 ∷ 3 ∷ 4 ∷ 5 ∷ [])
+unfolding bit-right all
+streamed-bit k h = same-tests (eqb (58 / 2 ^ k % 2) 1) (among k (1 ∷ 3 ∷ 4 ∷ 5 ∷ [])) (all-at bit-right 16 k h refl)
+  where
+    same-tests : (a b : Bool) → pick a b (not b) ≡ true → a ≡ b
+    same-tests true b e = sym e
+    same-tests false b e = sym (not-true b e)

@@ -50,10 +50,11 @@ fn check_prologue(w: u32, words: &[u32]) -> words::Check
     if class.high / 0x100_0000 % 256 != 0 {
         return words::Check::Refused(words::CLASS);
     }
-    if time_over(
-        crate::header::tsf_of(w),
-        crate::prologue::fraction_of(w, words),
-    ) {
+    let tsf = crate::header::tsf_of(w);
+    if tsf != 2 {
+        return words::Check::Fine;
+    }
+    if time_over(tsf, crate::prologue::fraction_of(w, words)) {
         return words::Check::Refused(words::TIME);
     }
     words::Check::Fine

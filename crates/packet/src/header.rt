@@ -74,24 +74,14 @@ pub fn size_of(w: u32) -> usize
     (w % 0x1_0000) as usize
 }
 
-// Whether a stream identifier is there: types 1, 3, 4, 5.
+// A bit for each type that has a stream identifier: 1, 3, 4, 5.
+const STREAMED: u32 = 0x3A;
+
+// Whether a stream identifier is there.
 pub fn has_stream(w: u32) -> bool
     ensures { λ r. ⌜ r ≡ streamed w ⌝ }
 {
-    let kind = type_of(w);
-    if kind == 1 {
-        return true;
-    }
-    if kind == 3 {
-        return true;
-    }
-    if kind == 4 {
-        return true;
-    }
-    if kind == 5 {
-        return true;
-    }
-    false
+    (STREAMED >> type_of(w)) % 2 == 1
 }
 
 pub fn has_seconds(w: u32) -> bool
