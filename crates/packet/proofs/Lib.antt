@@ -4,6 +4,8 @@
 pub mod RoomLaws
 -- what an accepted packet is
 pub mod ReadLaws
+-- reading in two steps: the front, and then the body
+pub mod FrontLaws
 -- words beyond the size are ignored
 pub mod BeyondLaws
 -- two answers that meet a promise are equal

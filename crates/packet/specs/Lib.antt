@@ -6,6 +6,8 @@ pub mod Header
 pub mod Parts
 -- what reading answers
 pub mod Read
+-- what reading refuses before it looks at a body
+pub mod Front
 -- what writing answers and leaves
 pub mod Write
 -- the trailer word

@@ -5,6 +5,7 @@ ghost use lib.ListN.{length};
 ghost use Rattle.words.specs.Outcome.{checked};
 ghost use Rattle.packet.specs.Header.{typeOf, sizeOf};
 ghost use Rattle.packet.specs.Parts.{requiredOf, bodyOf};
+ghost use Rattle.packet.specs.Front.{frontChecks};
 ghost use Rattle.packet.specs.Read.{headerChecks, sizeChecks, timeOver, prologueChecks, bodyChecks, checksOf};
 
 // TYPE and BITS.
@@ -71,7 +72,7 @@ pub fn check_body(kind: u32, body: &[u32]) -> words::Check
 }
 
 // The same, of the body of a packet that fits.
-fn check_context(w: u32, words: &[u32]) -> words::Check
+pub fn check_context(w: u32, words: &[u32]) -> words::Check
     requires { ⌜ (requiredOf w ≤ sizeOf w) × (sizeOf w ≤ length (now words)) ⌝ }
     ensures { λ r. ⌜ checked r ≡ bodyChecks (typeOf w) (bodyOf w (now (words .entry))) ⌝ }
 {
@@ -80,9 +81,9 @@ fn check_context(w: u32, words: &[u32]) -> words::Check
     check_body(crate::header::type_of(w), &words[at..end])
 }
 
-// All of them, in their order.
-pub fn check(w: u32, words: &[u32]) -> words::Check
-    ensures { λ r. ⌜ checked r ≡ checksOf w (now (words .entry)) ⌝ }
+// What is refused before the body is looked at: TYPE, BITS, SHORT, CUT, CLASS and TIME.
+pub fn check_front(w: u32, words: &[u32]) -> words::Check
+    ensures { λ r. ⌜ checked r ≡ frontChecks w (now (words .entry)) ⌝ }
 {
     let header = check_header(w);
     if let words::Check::Refused(n) = header {
@@ -92,8 +93,15 @@ pub fn check(w: u32, words: &[u32]) -> words::Check
     if let words::Check::Refused(n) = size {
         return words::Check::Refused(n);
     }
-    let prologue = check_prologue(w, words);
-    if let words::Check::Refused(n) = prologue {
+    check_prologue(w, words)
+}
+
+// All of them, in their order.
+pub fn check(w: u32, words: &[u32]) -> words::Check
+    ensures { λ r. ⌜ checked r ≡ checksOf w (now (words .entry)) ⌝ }
+{
+    let front = check_front(w, words);
+    if let words::Check::Refused(n) = front {
         return words::Check::Refused(n);
     }
     check_context(w, words)

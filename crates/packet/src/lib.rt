@@ -2,6 +2,7 @@
 mod checks;
 mod fit;
 mod header;
+pub mod inner;
 mod laying;
 mod prologue;
 

@@ -4,7 +4,7 @@ ghost use Prim.Native.Nat.{_+_, _≤_};
 ghost use lib.ListN.{length};
 ghost use Rattle.words.specs.Tests.{when};
 ghost use Rattle.packet.specs.Header.{sizeOf};
-ghost use Rattle.packet.specs.Parts.{requiredOf, bodyLength, wordIf, classHigh, classLow, fractionOf, partsOf, packetOf};
+ghost use Rattle.packet.specs.Parts.{streamed, requiredOf, bodyLength, wordIf, classHigh, classLow, fractionOf, partsOf, packetOf};
 
 // The word at a place, of a part that may be absent.
 fn word_if(present: bool, at: usize, words: &[u32]) -> u32
@@ -33,6 +33,14 @@ fn pair_if(present: bool, at: usize, words: &[u32]) -> Pair
     } else {
         Pair { high: 0, low: 0 }
     }
+}
+
+// The stream identifier.
+pub fn identifier_of(w: u32, words: &[u32]) -> u32
+    requires { ⌜ (requiredOf w ≤ sizeOf w) × (sizeOf w ≤ length (now words)) ⌝ }
+    ensures { λ r. ⌜ r ≡ wordIf (streamed w) 1 (now (words .entry)) ⌝ }
+{
+    word_if(crate::header::has_stream(w), 1, words)
 }
 
 // The class's two words.
@@ -85,7 +93,7 @@ fn parts_of(w: u32, words: &[u32]) -> crate::Parts
         tsi: crate::header::tsi_of(w),
         tsf: crate::header::tsf_of(w),
         count: crate::header::count_of(w),
-        identifier: word_if(crate::header::has_stream(w), 1, words),
+        identifier: identifier_of(w, words),
         oui: high % 0x100_0000,
         information: low / 0x1_0000 % 0x1_0000,
         packet: low % 0x1_0000,

@@ -4,6 +4,8 @@
 pub mod PlayLaws
 -- what play keeps
 pub mod KeepLaws
+-- the entry of one packet
+pub mod EntryLaws
 -- a run of packets
 pub mod RunLaws
 -- two answers that meet a promise are equal

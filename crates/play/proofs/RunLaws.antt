@@ -1,37 +1,38 @@
 -- A run of packets. The idea: a step is play of the words from a place on (`stepped`); after n turns of the run the entries so far, then the walk that is left,
 -- are the whole walk (`Running`), and a turn takes one packet of it (`running-turn`, `running-stop`).
 use mathlib.Core.Path.{_≡_, refl, sym, ap, _∙_}
-use mathlib.Core.Bool.{Bool, true, false}
+use mathlib.Core.Bool.{Bool, true, false, not}
 use mathlib.Core.Logic.{⊎-elim}
 use mathlib.Core.List.{List, [], _∷_, _++_, append-assoc, append-nil}
 use Prim.Native.Nat.{ℕ, zero, suc, _+_, _-_, _*_, _/_, _%_, _^_, _≤_, _<_}
 use native.Mathlib.Nat.{zero-add, add-zero}
 use native.Mathlib.Omega.{arith}
-use borrow.Author.Tests.{le-leb, lt-leb}
+use borrow.Author.Tests.{ne-eqb, le-leb, lt-leb}
 use lib.Dec.{eqb}
-use lib.ListN.{length, take, drop, getD, set, length-append}
+use lib.ListN.{length, take, drop, getD, set, length-append, length-drop}
 use lib.Seq.{drop-drop}
-use Rattle.words.specs.Numbers.{STREAM}
 use Rattle.words.specs.Tests.{pick, when}
 use Rattle.words.specs.Part.{put}
 use Rattle.words.specs.Outcome.{Outcome, refused, accepted, Done, saidOf, leftOf, Meets}
 use Rattle.words.proofs.Cases.{le-or-lt}
 use Rattle.words.proofs.LaidLaws.{sets-all}
 use Rattle.words.proofs.PartLaws.{put-at, put-length}
-use Rattle.fields.proofs.PlaceLaws.{rest-whole}
+use Rattle.fields.proofs.PlaceLaws.{rest-whole, first-word}
+use Rattle.packet.specs.Header.{sizeOf}
 use Rattle.table.specs.Layout.{base}
 use Rattle.table.specs.Well.{wellMade}
-use Rattle.table.proofs.WellLaws.{well-few}
 use Rattle.play.specs.declared.Heard.{Heard}
 use Rattle.play.specs.declared.inner.Happened.{Happened}
 use Rattle.play.specs.declared.Played.{Played}
 use Rattle.play.specs.declared.Played.the-variants.{Accepted, Refused}
+use Rattle.play.specs.declared.run.Entry.{Entry}
 use Rattle.play.specs.declared.run.Reached.{Reached}
 use Rattle.play.specs.declared.run.Ran.the-variants as Ran
-use Rattle.play.specs.Play.{heardOf, stepOf, madeOf, playOf, paper}
-use Rattle.play.specs.Run.{goesOn, saidAt, leftAt, nextOf, Stepped, entryWords, entryOf, entryAt, SmallStream, Walk, ended, before, walkOf, wholeWalk, reachedOf, answersOf, WalkDone, runOf, runPaper}
-use Rattle.play.proofs.PlayLaws.{sought-below, play-step}
-use Rattle.play.proofs.KeepLaws.{step-taken, Kept, nothing-changed, play-keeps}
+use Rattle.play.specs.Play.{stepOf, madeOf, playOf, paper}
+use Rattle.play.specs.Run.{goesOn, saidAt, leftAt, nextOf, Stepped, entryWords, entryOf, entryAt, wordsOf, Walk, ended, before, walkOf, wholeWalk, reachedOf, answersOf, WalkDone, runOf, runPaper}
+use Rattle.play.specs.Entered.{Entered}
+use Rattle.play.proofs.PlayLaws.{play-step}
+use Rattle.play.proofs.KeepLaws.{Kept, nothing-changed, play-keeps}
 
 -- ---- a step
 
@@ -45,30 +46,53 @@ stepped t ws left at next answer on w m g n =
     let h : on ≡ goesOn (saidOf (playOf t (drop at ws))) = g ∙ ap goesOn a in
     record { answer = a; on = h; next = n ∙ ap (λ (b : Bool). at + when b (getD ws at 0 % 2 ^ 16)) h; table = m .buffer ∙ ap (λ (x : Outcome (Done Heard (List ℕ))). leftOf x t) (sym o) }
 
--- a stream's number is small
-small-said : (o : Outcome (Done Heard (List ℕ))) (t ws : List ℕ) → wellMade t ≡ true → stepOf t ws ≡ o → SmallStream (saidOf o)
-unfolding heardOf
-small-said (refused n) t ws w e = tt
-small-said (accepted d) t ws w e =
-    let k = step-taken t ws d e in
-    rw (← k .says) (omega (arith, sought-below t ws (k .packet) (k .reads) (k .stream) (k .seeks), well-few t w))
+-- ---- a step that is given as an entry
 
-pub stepped-small : (t ws : List ℕ) (at : ℕ) (a : Played) → wellMade t ≡ true → paper a ≡ saidAt t ws at → SmallStream (paper a)
-unfolding saidAt
-stepped-small t ws at a w e = rw (e, play-step t (drop at ws) w) (small-said (stepOf t (drop at ws)) t (drop at ws) w refl)
+abbrev pub answerOf : Outcome Heard → Played
+answerOf (refused n) = Refused n
+answerOf (accepted h) = Accepted h
+
+answer-said : (o : Outcome Heard) → paper (answerOf o) ≡ o
+answer-said (refused n) = refl
+answer-said (accepted h) = refl
+
+pub rest-some : (at : ℕ) (ws : List ℕ) → at < length ws → 0 < length (take (length ws - at) (drop at ws))
+rest-some at ws h = omega (arith, ap length (rest-whole at ws), length-drop at ws)
+
+pub goes-on : (k : ℕ) → (k ≡ 0 → ⊥) → not (eqb k 0) ≡ true
+goes-on k n = rw (ne-eqb k 0 n)
+
+pub stops : (k : ℕ) → k ≡ 0 → not (eqb k 0) ≡ false
+stops k e = rw e
+
+module _ (t ws left : List ℕ) (at : ℕ) (x : Entry) (w : wellMade t ≡ true) (y : Entered t (take (length ws - at) (drop at ws)) x left) where
+  abbrev pub happened : Happened
+  happened = record { answer = answerOf (saidAt t ws at); on = not (eqb (x .size) 0); next = at + x .size }
+
+  played : stepOf t (take (length ws - at) (drop at ws)) ≡ playOf t (drop at ws)
+  played = ap (stepOf t) (rest-whole at ws) ∙ sym (play-step t (drop at ws) w)
+
+  said : saidOf (stepOf t (take (length ws - at) (drop at ws))) ≡ saidAt t ws at
+  unfolding saidAt
+  said = ap saidOf played
+
+  header : sizeOf (getD (take (length ws - at) (drop at ws)) 0 0) ≡ sizeOf (getD ws at 0)
+  header = ap sizeOf (ap (λ (l : List ℕ). getD l 0 0) (rest-whole at ws) ∙ first-word at ws)
+
+  pub entered-stepped : Stepped t ws at happened left
+  unfolding nextOf leftAt
+  entered-stepped = record {
+    answer = answer-said (saidAt t ws at);
+    on = y .on ∙ ap goesOn said;
+    next = ap (λ (n : ℕ). at + n) (y .next ∙ ap (λ (o : Outcome Heard). when (goesOn o) (sizeOf (getD (take (length ws - at) (drop at ws)) 0 0))) said ∙ ap (when (goesOn (saidAt t ws at))) header);
+    table = y .table ∙ ap (λ (o : Outcome (Done Heard (List ℕ))). leftOf o t) played;
+  }
+
+  pub entered-entry : wordsOf x ≡ entryOf (paper (answerOf (saidAt t ws at))) (getD ws at 0 % 2 ^ 16)
+  entered-entry = y .entry ∙ ap (λ (o : Outcome Heard). entryOf o (sizeOf (getD (take (length ws - at) (drop at ws)) 0 0))) (said ∙ sym (answer-said (saidAt t ws at)))
+      ∙ ap (entryOf (paper (answerOf (saidAt t ws at)))) header
 
 -- ---- an entry
-
-pub stream-fits : (a : Played) (h : Heard) → SmallStream (paper a) → a ≡ Accepted h → h .stream < 32
-stream-fits a h s e = rw e at s
-
-pub entry-heard : (a : Played) (h : Heard) (size : ℕ) → a ≡ Accepted h → 0 ∷ size ∷ h .kind ∷ h .stream ∷ h .missing ∷ [] ≡ entryOf (paper a) size
-unfolding entryOf
-entry-heard a h size e = rw e
-
-pub entry-refused : (a : Played) (n size k : ℕ) → a ≡ Refused n → k ≡ when (eqb n STREAM) size → n ∷ k ∷ 0 ∷ 0 ∷ 0 ∷ [] ≡ entryOf (paper a) size
-unfolding entryOf
-entry-refused a n size k e f = rw (e, f)
 
 pub entry-stored : (ws : List ℕ) (a b c d e : ℕ) → length ws ≡ entryWords → set (set (set (set (set ws 0 a) 1 b) 2 c) 3 d) 4 e ≡ a ∷ b ∷ c ∷ d ∷ e ∷ []
 entry-stored ws a b c d e l = sets-all (a ∷ b ∷ c ∷ d ∷ e ∷ []) ws l

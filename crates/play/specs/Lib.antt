@@ -4,3 +4,5 @@
 pub mod Play
 -- many, one after the other
 pub mod Run
+-- the entry of one packet, straight from its words
+pub mod Entered

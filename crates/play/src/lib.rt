@@ -1,4 +1,5 @@
 // Packets played on a table of streams.
+mod entries;
 pub mod inner;
 mod run;
 mod streams;

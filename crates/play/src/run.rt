@@ -2,14 +2,10 @@
 ghost use mathlib.Core.Path.{_≡_};
 ghost use mathlib.Core.Bool.{true};
 ghost use Prim.Native.Nat.{_+_, _≤_};
-ghost use lib.Dec.{eqb};
 ghost use lib.ListN.{length};
-ghost use Rattle.words.specs.Numbers.{STREAM};
-ghost use Rattle.words.specs.Tests.{when};
 ghost use Rattle.words.specs.Part.{put};
 ghost use Rattle.table.specs.Well.{wellMade};
-ghost use Rattle.play.specs.Play.{paper};
-ghost use Rattle.play.specs.Run.{entryWords, entryOf, wordsOf, wholeWalk, SmallStream, WalkDone};
+ghost use Rattle.play.specs.Run.{entryWords, wordsOf, wholeWalk, WalkDone};
 
 // The words that are written of each packet.
 pub const ENTRY_WORDS: usize = 5;
@@ -33,36 +29,6 @@ pub struct Reached {
 pub enum Ran {
     Accepted(Reached),
     Refused(u32),
-}
-
-// The words that the walk goes on by behind a refusal: STREAM alone goes on.
-fn skipped(number: u32, size: u32) -> u32
-    ensures { λ r. ⌜ r ≡ when (eqb number STREAM) size ⌝ }
-{
-    if number == words::STREAM { size } else { 0 }
-}
-
-// The entry of an answer, of a packet whose header says this size.
-fn entry_of(answer: crate::Played, size: u32) -> Entry
-    requires { ⌜ SmallStream (paper answer) ⌝ }
-    ensures { λ r. ⌜ wordsOf r ≡ entryOf (paper answer) size ⌝ }
-{
-    match answer {
-        crate::Played::Accepted(h) => Entry {
-            number: 0,
-            size,
-            kind: h.kind,
-            stream: h.stream as u32,
-            missing: h.missing,
-        },
-        crate::Played::Refused(n) => Entry {
-            number: n,
-            size: skipped(n, size),
-            kind: 0,
-            stream: 0,
-            missing: 0,
-        },
-    }
 }
 
 // Stores an entry.
@@ -101,13 +67,11 @@ pub fn run_on(table: &mut [u32], words: &[u32], from: usize, answers: &mut [u32]
                 next: at,
             };
         }
-        let s = crate::inner::step(table, words, at);
-        let answer = s.answer;
-        let e = entry_of(answer, words[at] % 0x1_0000);
+        let e = crate::entries::enter(table, &words[at..]);
         write_entry(answers, ENTRY_WORDS * n, e);
         n += 1;
-        at = s.next;
-        if !s.on {
+        at += e.size as usize;
+        if e.size == 0 {
             return Reached {
                 packets: n,
                 next: at,

@@ -1,14 +1,18 @@
 // The stream of a packet, its record, and the refusals on the way.
 ghost use mathlib.Core.Path.{_≡_};
 ghost use mathlib.Core.Bool.{true};
+ghost use mathlib.Core.List.{[], _∷_};
 ghost use Prim.Native.Nat.{_≤_, _<_};
 ghost use lib.ListN.{length};
-ghost use Rattle.words.specs.Outcome.{numberOf, checked, accepted};
+ghost use Rattle.words.specs.Numbers.{STREAM};
+ghost use Rattle.words.specs.Tests.{pick, among};
+ghost use Rattle.words.specs.Outcome.{numberOf, checked, refused, accepted};
 ghost use Rattle.packet.specs.Read.{paper, readOf};
-ghost use Rattle.record.specs.After.{addedBy};
-ghost use Rattle.table.specs.Layout.{streamsOf, recordAt};
+ghost use Rattle.record.specs.After.{recordAfter, addedBy};
+ghost use Rattle.table.specs.Layout.{streamsOf, recordAt, withRecord};
 ghost use Rattle.table.specs.Well.{wellMade};
 ghost use Rattle.play.specs.Play.{madeOf, soughtOf, soughtPaper, tableAfter};
+ghost use Rattle.play.specs.Entered.{declaredOf};
 
 // The stream of a packet: its number, or the number of the refusal.
 pub enum Sought {
@@ -54,7 +58,36 @@ pub fn made(table: &[u32]) -> words::Check
     words::Check::Refused(words::TABLE)
 }
 
-// STREAM: types 0 and 2 have no identifier, and another's may not be declared.
+// The stream of an identifier; STREAM where it is not declared.
+fn seek_stream(table: &[u32], identifier: u32) -> Sought
+    requires { ⌜ wellMade (now table) ≡ true ⌝ }
+    ensures { λ r. ⌜ soughtPaper r ≡ declaredOf identifier (now (table .entry)) ⌝ }
+{
+    let n = table::inner::streams(table);
+    let mut s = 0;
+    loop {
+        if table[1 + record::inner::RECORD_WORDS * s] == identifier {
+            return Sought::At(s);
+        }
+        s += 1;
+        if s == n {
+            return Sought::Unknown(words::STREAM);
+        }
+    }
+}
+
+// STREAM: a packet may have no identifier, and one that it has may not be declared.
+pub fn seek_streamed(table: &[u32], streamed: bool, identifier: u32) -> Sought
+    requires { ⌜ wellMade (now table) ≡ true ⌝ }
+    ensures { λ r. ⌜ soughtPaper r ≡ pick streamed (declaredOf identifier (now (table .entry))) (refused STREAM) ⌝ }
+{
+    if streamed {
+        return seek_stream(table, identifier);
+    }
+    Sought::Unknown(words::STREAM)
+}
+
+// The same by the type: types 0 and 2 have no identifier.
 pub fn seek(table: &[u32], kind: u32, identifier: u32) -> Sought
     requires { ⌜ wellMade (now table) ≡ true ⌝ }
     ensures { λ r. ⌜ soughtPaper r ≡ soughtOf kind identifier (now (table .entry)) ⌝ }
@@ -65,11 +98,17 @@ pub fn seek(table: &[u32], kind: u32, identifier: u32) -> Sought
     if kind == 2 {
         return Sought::Unknown(words::STREAM);
     }
-    let s = table::inner::find_stream(table, identifier);
-    if table::inner::streams(table) <= s {
-        return Sought::Unknown(words::STREAM);
-    }
-    Sought::At(s)
+    seek_stream(table, identifier)
+}
+
+// Takes an accepted packet of a type other than 4 into the record of its stream. Gives the missing that it adds.
+pub fn hear_data(table: &mut [u32], s: usize, kind: u32, count: u32) -> u32
+    requires { ⌜ (wellMade (now table) ≡ true) × (s < streamsOf (now table)) × (count < 16) × (among kind (1 ∷ 3 ∷ 5 ∷ []) ≡ true) ⌝ }
+    ensures { λ r. ⌜ (r ≡ addedBy kind count (recordAt s (now (table .entry)))) × (now (table .exit) ≡ withRecord s (recordAfter kind count [] (recordAt s (now (table .entry)))) (now (table .entry))) ⌝ }
+{
+    let first = 1 + record::inner::RECORD_WORDS * s;
+    let end = first + record::inner::RECORD_WORDS;
+    record::inner::hear_data(&mut table[first..end], kind, count)
 }
 
 // Takes an accepted packet into the record of its stream. Gives the missing that it adds.

@@ -1,15 +1,20 @@
 -- Counts. The idea: the wrapping difference, reduced modulo 16, is document 01's (`added-next`); a count is three words of a record, lent as a part, so a
 -- record after a count differs in them alone.
-use mathlib.Core.Path.{_≡_, refl, _∙_}
+use mathlib.Core.Path.{_≡_, refl, sym, _∙_}
+use mathlib.Core.Bool.{true, false}
+use mathlib.Core.Logic.{⊎-elim}
 use mathlib.Core.List.{List, [], _∷_, _++_}
 use Prim.Native.Nat.{ℕ, _+_, _-_, _%_, _^_, _≤_, _<_}
 use native.Mathlib.Omega.{arith}
-use borrow.Author.Tests.{eq-eqb, ne-eqb}
+use borrow.Author.Tests.{eq-eqb, ne-eqb, eqb-true}
+use lib.Dec.{eqb}
 use lib.ListN.{length, take, drop, getD, set}
+use Rattle.words.specs.Tests.{among}
 use Rattle.words.specs.Part.{part}
+use Rattle.words.proofs.Cases.{true-or-false, true-is-false}
 use Rattle.words.proofs.LaidLaws.{sets-all}
 use Rattle.words.proofs.PartLaws.{seen, lent-to, part-length}
-use Rattle.record.specs.Layout.{recordWords, countAt, countOf}
+use Rattle.record.specs.Layout.{recordWords, orderOf, countAt, countOf}
 use Rattle.record.specs.Counts.{missedOf, addedOf, countedOf, countRecord}
 
 -- ---- what a packet adds to missing
@@ -51,3 +56,20 @@ module _ (k count : ℕ) (r : List ℕ) (l : length r ≡ recordWords) (h : k < 
       → take (countAt k) r ++ (last ++ drop (countAt k + 3 - countAt k) (drop (countAt k) r)) ≡ countRecord k count r
   unfolding countRecord countOf
   count-lent last e = lent-to (countAt k) (countAt k + 3) 3 (countedOf count) last r refl e
+
+-- ---- the types other than 4 that are counted
+
+abbrev dataKinds : List ℕ
+dataKinds = 1 ∷ 3 ∷ 5 ∷ []
+
+-- their order, as a difference
+pub data-kind : (kind : ℕ) → among kind dataKinds ≡ true → (kind ≡ 1 → ⊥) → (2 ≤ kind) × (kind - 2 ≡ orderOf kind)
+unfolding orderOf
+data-kind kind t n =
+    ⊎-elim (λ x. let e : kind ≡ 3 = eqb-true kind 3 x in rw e (omega arith, refl))
+    (λ (x : eqb kind 3 ≡ false).
+    ⊎-elim (λ y. let e : kind ≡ 5 = eqb-true kind 5 y in rw e (omega arith, refl))
+    (λ (y : eqb kind 5 ≡ false). absurd (true-is-false (sym t ∙ rw (ne-eqb kind 1 n, x, y)))) (true-or-false (eqb kind 5))) (true-or-false (eqb kind 3))
+
+pub data-not : (kind : ℕ) → among kind dataKinds ≡ true → kind ≡ 4 → ⊥
+data-not kind t e = true-is-false (sym t ∙ rw e)

@@ -38,6 +38,11 @@ order-context kind e = rw e
 pub last-most : (r : List ℕ) (k : ℕ) → length r ≡ recordWords → k < 4 → recordGood r ≡ true → lastOf (countOf k r) ≤ 16
 last-most r k l h g = good-of r l g .counts k h .most
 
+-- the body matters to type 4 alone
+pub after-body : (kind count : ℕ) (body other r : List ℕ) → (kind ≡ 4 → ⊥) → recordAfter kind count body r ≡ recordAfter kind count other r
+unfolding recordAfter
+after-body kind count body other r n = rw (ne-eqb kind 4 n)
+
 module _ (kind count : ℕ) (body r : List ℕ) (l : length r ≡ recordWords) (ok : kind ≡ 4 → contextOf body ≡ accepted tt) where
   abbrev counted : List ℕ
   counted = countRecord (orderOf kind) count r

@@ -6,6 +6,7 @@ mod good;
 mod held;
 
 pub use after::hear;
+pub use after::hear_data;
 pub use good::record_good;
 pub use held::HELD;
 pub use held::refill;

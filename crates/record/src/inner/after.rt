@@ -1,13 +1,24 @@
 // A record after an accepted packet.
 ghost use mathlib.Core.Path.{_≡_};
 ghost use mathlib.Core.Bool.{true};
+ghost use mathlib.Core.List.{[], _∷_};
 ghost use Prim.Native.Nat.{_<_};
 ghost use lib.ListN.{length};
+ghost use Rattle.words.specs.Tests.{among};
 ghost use Rattle.words.specs.Outcome.{accepted};
 ghost use Rattle.fields.specs.Layout.{contextOf};
 ghost use Rattle.record.specs.Layout.{recordWords};
 ghost use Rattle.record.specs.After.{recordAfter, addedBy};
 ghost use Rattle.record.specs.Good.{recordGood};
+
+// Takes an accepted packet of a type other than 4 into the record of its stream: its type is counted. Gives the missing that it adds.
+pub fn hear_data(rec: &mut [u32], kind: u32, count: u32) -> u32
+    requires { ⌜ (length (now rec) ≡ recordWords) × (recordGood (now rec) ≡ true) × (count < 16) × (among kind (1 ∷ 3 ∷ 5 ∷ []) ≡ true) ⌝ }
+    ensures { λ r. ⌜ (r ≡ addedBy kind count (now (rec .entry))) × (now (rec .exit) ≡ recordAfter kind count [] (now (rec .entry))) ⌝ }
+{
+    let order = crate::inner::counts::data_order(kind);
+    crate::inner::counts::count(rec, order, count)
+}
 
 // Takes an accepted packet into the record of its stream: its type is counted, and a Context packet's fields are held. Gives the missing that it adds.
 pub fn hear(rec: &mut [u32], kind: u32, count: u32, body: &[u32]) -> u32

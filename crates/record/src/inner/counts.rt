@@ -1,7 +1,10 @@
 // The counts of a record, one for each of types 1, 3, 4 and 5.
 ghost use mathlib.Core.Path.{_≡_};
+ghost use mathlib.Core.Bool.{true};
+ghost use mathlib.Core.List.{[], _∷_};
 ghost use Prim.Native.Nat.{_+_, _*_, _≤_, _<_};
 ghost use lib.ListN.{length, getD};
+ghost use Rattle.words.specs.Tests.{among};
 ghost use Rattle.record.specs.Layout.{recordWords, orderOf, countOf, lastOf};
 ghost use Rattle.record.specs.Counts.{addedOf, countedOf, countRecord, addedTo};
 
@@ -19,6 +22,17 @@ pub fn order_of(kind: u32) -> usize
         return 2;
     }
     3
+}
+
+// The same of the types other than 4 that are counted: 1, 3, 5.
+pub fn data_order(kind: u32) -> usize
+    requires { ⌜ among kind (1 ∷ 3 ∷ 5 ∷ []) ≡ true ⌝ }
+    ensures { λ r. ⌜ (r ≡ orderOf kind) × (r < 4) ⌝ }
+{
+    if kind == 1 {
+        return 0;
+    }
+    (kind - 2) as usize
 }
 
 // The missing that a packet of this count adds: nothing for the first, else (count - last - 1) modulo 16. Last is given as last plus one, or 0.

@@ -35,11 +35,8 @@ tsf-of-requires c κs = search needs
 count-of-requires : tie.Need-count-of-requires
 count-of-requires c κs = search needs
 
-has-stream-requires : tie.Need-has-stream-requires
-has-stream-requires c κs = search needs
-
-word-if-requires : tie.Need-word-if-requires
-word-if-requires c κs = rw (c .has-stream .ensures) (inside (c .before .before .before .before .before .before .before .before .before .before) .identifier)
+identifier-of-requires : tie.Need-identifier-of-requires
+identifier-of-requires c κs = search needs
 
 has-seconds-requires : tie.Need-has-seconds-requires
 has-seconds-requires c κs = search needs
@@ -47,8 +44,8 @@ has-seconds-requires c κs = search needs
 seconds-at-requires : tie.Need-seconds-at-requires
 seconds-at-requires c κs = search needs
 
-word-if-requires-2 : tie.Need-word-if-requires-2
-word-if-requires-2 c κs = rw (c .seconds-at .ensures .0, c .before .has-seconds .ensures) (inside (c .before .before .before .before .before .before .before .before .before .before .before .before .before) .seconds)
+word-if-requires : tie.Need-word-if-requires
+word-if-requires c κs = rw (c .seconds-at .ensures .0, c .before .has-seconds .ensures) (inside (c .before .before .before .before .before .before .before .before .before .before .before .before) .seconds)
 
 fraction-of-requires : tie.Need-fraction-of-requires
 fraction-of-requires c κs = search needs
@@ -60,33 +57,32 @@ size-of-requires : tie.Need-size-of-requires
 size-of-requires c κs = search needs
 
 sub-word-if : tie.Need-sub-word-if
-sub-word-if c = rw (c .size-of .ensures .0) (inside (c .before .before .before .before .before .before .before .before .before .before .before .before .before .before .before .before .before) .header)
+sub-word-if c = rw (c .size-of .ensures .0) (inside (c .before .before .before .before .before .before .before .before .before .before .before .before .before .before .before .before) .header)
 
-word-if-requires-3 : tie.Need-word-if-requires-3
-word-if-requires-3 c κs = rw (c .size-of .ensures .0, c .before .has-trailer2 .ensures) (inside (c .before .before .before .before .before .before .before .before .before .before .before .before .before .before .before .before .before) .trailer)
+word-if-requires-2 : tie.Need-word-if-requires-2
+word-if-requires-2 c κs = rw (c .size-of .ensures .0, c .before .has-trailer2 .ensures) (inside (c .before .before .before .before .before .before .before .before .before .before .before .before .before .before .before .before) .trailer)
 
 returns : tie.Need-returns
 unfolding partsOf
 returns c =
     simp (
-      c .word-if3 .ensures,
+      c .word-if2 .ensures,
       c .before .size-of .ensures .0,
       c .before .before .has-trailer2 .ensures,
       c .before .before .before .fraction-of .ensures,
-      c .before .before .before .before .word-if2 .ensures,
+      c .before .before .before .before .word-if .ensures,
       c .before .before .before .before .before .seconds-at .ensures .0,
       c .before .before .before .before .before .before .has-seconds .ensures,
-      c .before .before .before .before .before .before .before .word-if .ensures,
-      c .before .before .before .before .before .before .before .before .has-stream .ensures,
-      c .before .before .before .before .before .before .before .before .before .count-of .ensures,
-      c .before .before .before .before .before .before .before .before .before .before .tsf-of .ensures,
-      c .before .before .before .before .before .before .before .before .before .before .before .tsi-of .ensures,
-      c .before .before .before .before .before .before .before .before .before .before .before .before .tsm-of .ensures,
-      c .before .before .before .before .before .before .before .before .before .before .before .before .before .has-trailer .ensures,
-      c .before .before .before .before .before .before .before .before .before .before .before .before .before .before .has-class .ensures,
-      c .before .before .before .before .before .before .before .before .before .before .before .before .before .before .before .type-of .ensures,
-      c .before .before .before .before .before .before .before .before .before .before .before .before .before .before .before .before .class-of .ensures .1,
-      c .before .before .before .before .before .before .before .before .before .before .before .before .before .before .before .before .class-of .ensures .0,
+      c .before .before .before .before .before .before .before .identifier-of .ensures,
+      c .before .before .before .before .before .before .before .before .count-of .ensures,
+      c .before .before .before .before .before .before .before .before .before .tsf-of .ensures,
+      c .before .before .before .before .before .before .before .before .before .before .tsi-of .ensures,
+      c .before .before .before .before .before .before .before .before .before .before .before .tsm-of .ensures,
+      c .before .before .before .before .before .before .before .before .before .before .before .before .has-trailer .ensures,
+      c .before .before .before .before .before .before .before .before .before .before .before .before .before .has-class .ensures,
+      c .before .before .before .before .before .before .before .before .before .before .before .before .before .before .type-of .ensures,
+      c .before .before .before .before .before .before .before .before .before .before .before .before .before .before .before .class-of .ensures .1,
+      c .before .before .before .before .before .before .before .before .before .before .before .before .before .before .before .class-of .ensures .0,
     )
 
 pub parts-of-spec : {M : Type 1} → statement M
@@ -101,14 +97,13 @@ parts-of-spec =
     tsi-of-requires
     tsf-of-requires
     count-of-requires
-    has-stream-requires
-    word-if-requires
+    identifier-of-requires
     has-seconds-requires
     seconds-at-requires
-    word-if-requires-2
+    word-if-requires
     fraction-of-requires
     has-trailer-requires-2
     size-of-requires
     sub-word-if
-    word-if-requires-3
+    word-if-requires-2
     returns)

@@ -1,0 +1,115 @@
+-- `enter` meets its promise: a refusal of the front or of a body is given, and else the packet is entered.
+use mathlib.Core.Path.{refl, sym, ap, _∙_}
+use denote.Ref.{now}
+use Rattle.words.specs.declared.Check.{Check}
+use Rattle.words.specs.Outcome.{numberOf, checked, accepted}
+use Rattle.packet.specs.declared.Packet.{Packet}
+use Rattle.packet.proofs.FrontLaws.{front-sized, front-refuses, body-refuses, body-accepted}
+use Rattle.play.proofs.EntryLaws.{entered-unread}
+use borrow.Author.Needs.{needs}
+use Rattle.play.proofs.entries.enter.Statement.{statement}
+use Rattle.play.proofs.entries.enter.Tie as tie
+
+shared-slice-read-w : tie.Need-shared-slice-read-w
+shared-slice-read-w c = search needs
+
+check-front-requires : tie.Need-check-front-requires
+check-front-requires c κs = search needs
+
+enum-told : tie.Need-enum-told
+enum-told c = search needs
+
+enum-told-2 : tie.Need-enum-told-2
+enum-told-2 c = search needs
+
+unmade-requires : tie.Need-unmade-requires
+unmade-requires c κs = search needs
+
+unheard-requires : tie.Need-unheard-requires
+unheard-requires c κs = search needs
+
+returns : tie.Need-returns
+returns c =
+    let b = c .before .before .before .before .before .before .before .before in
+    let told = c .before .before .enum-told2 .given .1 in
+    rw (c .unheard .ensures)
+    (entered-unread _ (now (b .args .words)) _ _ (front-refuses _ (now (b .args .words)) (b .pre .1) refl _ (sym (c .before .before .before .before .check-front .ensures) ∙ ap checked told))
+    (c .before .unmade .ensures ∙ ap (λ (o : Check). numberOf (checked o)) told))
+
+type-of-requires : tie.Need-type-of-requires
+type-of-requires c κs = search needs
+
+enter-data-requires : tie.Need-enter-data-requires
+enter-data-requires c κs =
+    let b = c .before .before .before .before .before .before .before .before .before in
+    (b .pre .0, b .pre .1, refl, (sym (c .before .before .before .before .before .check-front .ensures) ∙ ap checked (c .before .before .before .enum-told .given .1)), λ k. c .before .if1 .taken (c .before .before .type-of .ensures ∙ k))
+
+same-length : tie.Need-same-length
+same-length c = search needs
+
+returns-2 : tie.Need-returns-2
+returns-2 c = search needs
+
+check-context-requires : tie.Need-check-context-requires
+check-context-requires c κs = front-sized _ _ (sym (c .before .before .before .before .check-front .ensures) ∙ ap checked (c .before .before .enum-told .given .1))
+
+enum-told-3 : tie.Need-enum-told-3
+enum-told-3 c = search needs
+
+enum-told-4 : tie.Need-enum-told-4
+enum-told-4 c = search needs
+
+unmade-requires-2 : tie.Need-unmade-requires-2
+unmade-requires-2 c κs = search needs
+
+unheard-requires-2 : tie.Need-unheard-requires-2
+unheard-requires-2 c κs = search needs
+
+returns-3 : tie.Need-returns-3
+returns-3 c =
+    let b = c .before .before .before .before .before .before .before .before .before .before .before .before .before in
+    let told = c .before .before .enum-told4 .given .1 in
+    rw (c .unheard2 .ensures)
+    (entered-unread _ (now (b .args .words)) _ _ (body-refuses _ (now (b .args .words)) (b .pre .1) refl (sym (c .before .before .before .before .before .before .before .before .before .check-front .ensures) ∙ ap checked (c .before .before .before .before .before .before .before .enum-told .given .1)) _ (sym (c .before .before .before .before .check-context .ensures) ∙ ap checked told))
+    (c .before .unmade2 .ensures ∙ ap (λ (o : Check). numberOf (checked o)) told))
+
+packet-of-requires : tie.Need-packet-of-requires
+packet-of-requires c κs = front-sized _ _ (sym (c .before .before .before .before .before .before .before .before .check-front .ensures) ∙ ap checked (c .before .before .before .before .before .before .enum-told .given .1))
+
+enter-read-requires : tie.Need-enter-read-requires
+enter-read-requires c κs =
+    let b = c .before .before .before .before .before .before .before .before .before .before .before .before .before in
+    let e = body-accepted _ (now (b .args .words)) (b .pre .1) refl (sym (c .before .before .before .before .before .before .before .before .before .check-front .ensures) ∙ ap checked (c .before .before .before .before .before .before .before .enum-told .given .1)) (sym (c .before .before .before .before .check-context .ensures) ∙ ap checked (c .before .before .enum-told3 .given .1)) in
+    (b .pre .0, e ∙ ap (λ (p : Packet). accepted p) (sym (c .packet-of .ensures)))
+
+same-length-2 : tie.Need-same-length-2
+same-length-2 c = search needs
+
+returns-4 : tie.Need-returns-4
+returns-4 c = search needs
+
+pub enter-spec : {M : Type 1} → statement M
+enter-spec =
+    tie.close
+    (tie.spec
+    shared-slice-read-w
+    check-front-requires
+    enum-told
+    enum-told-2
+    unmade-requires
+    unheard-requires
+    returns
+    type-of-requires
+    enter-data-requires
+    same-length
+    returns-2
+    check-context-requires
+    enum-told-3
+    enum-told-4
+    unmade-requires-2
+    unheard-requires-2
+    returns-3
+    packet-of-requires
+    enter-read-requires
+    same-length-2
+    returns-4)

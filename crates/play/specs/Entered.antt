@@ -1,0 +1,28 @@
+-- What a run writes of one packet, straight from its words. It is what play says of the packet, as words: that is `entryOf` of specs/Run.antt.
+use mathlib.Core.Path.{_≡_}
+use Prim.Native.Nat.{ℕ}
+use mathlib.Core.Bool.{not}
+use mathlib.Core.List.{List}
+use lib.Dec.{eqb, leb}
+use lib.ListN.{getD}
+use Rattle.words.specs.Numbers.{STREAM}
+use Rattle.words.specs.Tests.{pick, when}
+use Rattle.words.specs.Outcome.{Outcome, refused, accepted, saidOf, leftOf}
+use Rattle.packet.specs.Header.{sizeOf}
+use Rattle.table.specs.Layout.{streamsOf}
+use Rattle.table.specs.Identifiers.{streamOf}
+use Rattle.play.specs.declared.run.Entry.{Entry}
+use Rattle.play.specs.Play.{stepOf}
+use Rattle.play.specs.Run.{goesOn, entryOf, wordsOf}
+
+-- the stream of an identifier; STREAM: "one not declared"
+abbrev pub declaredOf : ℕ → List ℕ → Outcome ℕ
+declaredOf identifier t = pick (leb (streamsOf t) (streamOf identifier t)) (refused STREAM) (accepted (streamOf identifier t))
+
+-- the entry r of the packet at the front of the words, played on a table that is well made, and the table afterwards
+pub record Entered (t ws : List ℕ) (r : Entry) (left : List ℕ) : Type 0 where
+  pub entry : wordsOf r ≡ entryOf (saidOf (stepOf t ws)) (sizeOf (getD ws 0 0))
+  -- the words that the walk goes on by are none exactly where it stops
+  pub next : r .size ≡ when (goesOn (saidOf (stepOf t ws))) (sizeOf (getD ws 0 0))
+  pub on : not (eqb (r .size) 0) ≡ goesOn (saidOf (stepOf t ws))
+  pub table : left ≡ leftOf (stepOf t ws) t
