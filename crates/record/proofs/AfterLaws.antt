@@ -20,7 +20,7 @@ use Rattle.words.proofs.BitLaws.{has-and, has-or, word-same}
 use Rattle.words.proofs.SetBitLaws.{above-agree}
 use Rattle.words.proofs.PartLaws.{seen, lent-to, part-length, put-length, part-put, part-put-before, part-put-after, part-set-before, getD-put-before}
 use Rattle.fields.specs.Sizes.{sizeOf, sizesOf}
-use Rattle.fields.specs.Layout.{carried, indicatorOf, fieldOf, contextOf}
+use Rattle.fields.specs.Layout.{carried, indicatorOf, bodyWords, fieldOf, contextOf}
 use Rattle.fields.proofs.SizeLaws.{words-fixed}
 use Rattle.fields.proofs.BodyLaws.{context-fits, fromField, field-inside, field-length, place-fixed, field-fixed}
 use Rattle.record.specs.Held.{heldMask, holds, heldBits, slotAt}
@@ -89,6 +89,11 @@ module _ (body : List ℕ) (ok : contextOf body ≡ accepted tt) where
     pub slots-at : (b : ℕ) → holds b ≡ true → slotIn b (slotsAfter body slots) ≡ slotAfter (has (indicatorOf body) b) (fieldOf b body) (slotIn b slots)
     unfolding slotsAfter heldBits slotAt slotIn holds
     slots-at b o = in-order-at 31 heldMask b _ (λ x h e. slot-sized x e) (held-high b o) o
+
+-- it has its indicator
+pub body-some : (body : List ℕ) → contextOf body ≡ accepted tt → 0 < length body
+unfolding bodyWords
+body-some body e = omega (arith, context-fits body e .whole)
 
 -- ---- a record whose slots are lent
 

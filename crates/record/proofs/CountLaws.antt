@@ -4,7 +4,7 @@ use mathlib.Core.Path.{_≡_, refl, sym, _∙_}
 use mathlib.Core.Bool.{true, false}
 use mathlib.Core.Logic.{⊎-elim}
 use mathlib.Core.List.{List, [], _∷_, _++_}
-use Prim.Native.Nat.{ℕ, _+_, _-_, _%_, _^_, _≤_, _<_}
+use Prim.Native.Nat.{ℕ, _+_, _-_, _*_, _/_, _%_, _^_, _≤_, _<_}
 use native.Mathlib.Omega.{arith}
 use borrow.Author.Tests.{eq-eqb, ne-eqb, eqb-true}
 use lib.Dec.{eqb}
@@ -62,14 +62,16 @@ module _ (k count : ℕ) (r : List ℕ) (l : length r ≡ recordWords) (h : k < 
 abbrev dataKinds : List ℕ
 dataKinds = 1 ∷ 3 ∷ 5 ∷ []
 
--- their order, as a difference
-pub data-kind : (kind : ℕ) → among kind dataKinds ≡ true → (kind ≡ 1 → ⊥) → (2 ≤ kind) × (kind - 2 ≡ orderOf kind)
+-- their order, by the square
+pub data-kind : (kind : ℕ) → among kind dataKinds ≡ true → (kind * kind ≤ 25) × (kind * kind / 8 ≡ orderOf kind)
 unfolding orderOf
-data-kind kind t n =
-    ⊎-elim (λ x. let e : kind ≡ 3 = eqb-true kind 3 x in rw e (omega arith, refl))
-    (λ (x : eqb kind 3 ≡ false).
-    ⊎-elim (λ y. let e : kind ≡ 5 = eqb-true kind 5 y in rw e (omega arith, refl))
-    (λ (y : eqb kind 5 ≡ false). absurd (true-is-false (sym t ∙ rw (ne-eqb kind 1 n, x, y)))) (true-or-false (eqb kind 5))) (true-or-false (eqb kind 3))
+data-kind kind t =
+    ⊎-elim (λ x. let e : kind ≡ 1 = eqb-true kind 1 x in rw e (omega arith, refl))
+    (λ (x : eqb kind 1 ≡ false).
+    ⊎-elim (λ y. let e : kind ≡ 3 = eqb-true kind 3 y in rw e (omega arith, refl))
+    (λ (y : eqb kind 3 ≡ false).
+    ⊎-elim (λ z. let e : kind ≡ 5 = eqb-true kind 5 z in rw e (omega arith, refl))
+    (λ (z : eqb kind 5 ≡ false). absurd (true-is-false (sym t ∙ rw (x, y, z)))) (true-or-false (eqb kind 5))) (true-or-false (eqb kind 3))) (true-or-false (eqb kind 1))
 
 pub data-not : (kind : ℕ) → among kind dataKinds ≡ true → kind ≡ 4 → ⊥
 data-not kind t e = true-is-false (sym t ∙ rw e)

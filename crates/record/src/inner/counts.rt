@@ -24,15 +24,12 @@ pub fn order_of(kind: u32) -> usize
     3
 }
 
-// The same of the types other than 4 that are counted: 1, 3, 5.
+// The same of the types other than 4 that are counted: for 1, 3 and 5 it is an eighth of the square, rounded down.
 pub fn data_order(kind: u32) -> usize
     requires { ⌜ among kind (1 ∷ 3 ∷ 5 ∷ []) ≡ true ⌝ }
     ensures { λ r. ⌜ (r ≡ orderOf kind) × (r < 4) ⌝ }
 {
-    if kind == 1 {
-        return 0;
-    }
-    (kind - 2) as usize
+    (kind * kind / 8) as usize
 }
 
 // The missing that a packet of this count adds: nothing for the first, else (count - last - 1) modulo 16. Last is given as last plus one, or 0.

@@ -91,7 +91,7 @@ pub fn hold(rec: &mut [u32], body: &[u32])
     requires { ⌜ (length (now rec) ≡ recordWords) × (contextOf (now body) ≡ accepted tt) ⌝ }
     ensures { λ _. ⌜ now (rec .exit) ≡ holdRecord (now (body .entry)) (now (rec .entry)) ⌝ }
 {
-    let bits = words::inner::word_at(body, 0) & HELD;
+    let bits = body[0] & HELD;
     let held = rec[1];
     refill(
         &mut rec[crate::inner::HEAD_WORDS..crate::inner::RECORD_WORDS],

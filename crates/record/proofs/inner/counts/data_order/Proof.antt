@@ -1,28 +1,20 @@
--- `data_order` meets its promise: the order of types 3 and 5 is a difference.
-use Rattle.words.proofs.Cases.{cases}
-use Rattle.record.specs.Layout.{orderOf}
-use mathlib.Core.Path.{_∙_}
+-- `data_order` meets its promise: the order of types 1, 3 and 5 follows from the square.
 use native.Mathlib.Omega.{arith}
 use Rattle.record.proofs.CountLaws.{data-kind}
 use Rattle.record.proofs.PacketLaws.{order-small}
-use borrow.Author.Needs.{needs}
 use Rattle.record.proofs.inner.counts.data_order.Statement.{statement}
 use Rattle.record.proofs.inner.counts.data_order.Tie as tie
 
-returns : tie.Need-returns
-unfolding orderOf
-returns c = search cases
-
-sub-result : tie.Need-sub-result
-sub-result c = data-kind _ (c .before .pre) (c .if1 .left) .0
+mul-result : tie.Need-mul-result
+mul-result c = omega (arith, data-kind (c .args .kind) (c .pre) .0)
 
 cast-result : tie.Need-cast-result
-cast-result c = search needs
+cast-result c = omega (arith, data-kind (c .args .kind) (c .pre) .0)
 
-returns-2 : tie.Need-returns-2
-returns-2 c =
-    let k = data-kind (c .before .args .kind) (c .before .pre) (c .if1 .left) .1 in
-    (k, omega (arith, k, order-small (c .before .args .kind)))
+returns : tie.Need-returns
+returns c =
+    let k = data-kind (c .args .kind) (c .pre) .1 in
+    (k, omega (arith, k, order-small (c .args .kind)))
 
 pub data-order-spec : {M : Type 1} → statement M
-data-order-spec = tie.close (tie.spec returns sub-result cast-result returns-2)
+data-order-spec = tie.close (tie.spec mul-result cast-result returns)

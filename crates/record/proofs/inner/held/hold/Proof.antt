@@ -1,12 +1,13 @@
 -- `hold` meets its promise: the slots are lent to `refill`, and `slots-lent` says what that leaves.
+use mathlib.Core.Path.{refl}
 use Rattle.record.specs.Held.{heldMask}
-use Rattle.record.proofs.AfterLaws.{slots-asked, slots-lent}
+use Rattle.record.proofs.AfterLaws.{body-some, slots-asked, slots-lent}
 use borrow.Author.Needs.{needs}
 use Rattle.record.proofs.inner.held.hold.Statement.{statement}
 use Rattle.record.proofs.inner.held.hold.Tie as tie
 
-word-at-requires : tie.Need-word-at-requires
-word-at-requires c κs = search needs
+shared-slice-read-bits : tie.Need-shared-slice-read-bits
+shared-slice-read-bits c = body-some _ (c .before .before .before .pre .1)
 
 slice-read-held : tie.Need-slice-read-held
 slice-read-held c = search needs
@@ -24,7 +25,7 @@ refill-requires : tie.Need-refill-requires
 unfolding heldMask
 refill-requires c κs =
     let b = c .before .before .before .before .before in
-    slots-asked _ (b .args .body .now) (b .args .rec .now) (c .before .before .word-at .ensures) (b .pre .0) (b .pre .1)
+    slots-asked _ (b .args .body .now) (b .args .rec .now) refl (b .pre .0) (b .pre .1)
 
 slice-write-rec : tie.Need-slice-write-rec
 slice-write-rec c = search needs
@@ -36,13 +37,13 @@ returns : tie.Need-returns
 unfolding heldMask
 returns c =
     let b = c .before .before .before .before .before .before .before .before in
-    slots-lent _ _ _ (c .before .before .before .before .before .word-at .ensures) (b .pre .0) (b .pre .1) _ (c .before .before .refill .ensures)
+    slots-lent _ (b .args .body .now) (b .args .rec .now) refl (b .pre .0) (b .pre .1) _ (c .before .before .refill .ensures)
 
 pub hold-spec : {M : Type 1} → statement M
 hold-spec =
     tie.close
     (tie.spec
-    word-at-requires
+    shared-slice-read-bits
     slice-read-held
     sub-refill
     part-refill-start
