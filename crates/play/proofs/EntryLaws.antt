@@ -2,17 +2,15 @@
 -- goes on by are none exactly where it stops, since a refusal of reading is never STREAM (`read-number`) and a packet that is read has a word.
 use mathlib.Core.Path.{_≡_, refl, sym, ap, _∙_}
 use mathlib.Core.Bool.{Bool, true, false, not}
-use mathlib.Core.Logic.{⊎-elim}
 use mathlib.Core.List.{List, [], _∷_, _++_}
 use Prim.Native.Nat.{ℕ, _+_, _-_, _%_, _^_, _≤_, _<_}
 use native.Mathlib.Omega.{arith}
-use borrow.Author.Tests.{eq-eqb, ne-eqb, ltb-false, le-leb, lt-leb, leb-false}
+use borrow.Author.Tests.{ne-eqb, ltb-false, le-leb, lt-leb, leb-false}
 use lib.Dec.{eqb, leb, ltb}
 use lib.ListN.{length, take, drop, getD}
 use Rattle.words.specs.Numbers.{STREAM}
 use Rattle.words.specs.Tests.{pick, when, among}
 use Rattle.words.specs.All.{all}
-use Rattle.words.specs.Part.{part}
 use Rattle.words.specs.Outcome.{Outcome, refused, accepted}
 use Rattle.words.proofs.Cases.{passed, after-passed, accepted-same, true-is-false}
 use Rattle.words.proofs.AllLaws.{all-at}

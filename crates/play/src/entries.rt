@@ -7,7 +7,6 @@ ghost use lib.ListN.{length, getD};
 ghost use Rattle.words.specs.Outcome.{accepted};
 ghost use Rattle.packet.specs.Header.{typeOf};
 ghost use Rattle.packet.specs.Read.{readOf};
-ghost use Rattle.packet.specs.Parts.{packetOf};
 ghost use Rattle.packet.specs.Front.{frontChecks};
 ghost use Rattle.table.specs.Well.{wellMade};
 ghost use Rattle.play.specs.Entered.{Entered};

@@ -9,7 +9,7 @@ use native.Mathlib.Numerals.{add-one}
 use native.Mathlib.Omega.{arith}
 use borrow.Author.Tests.{eqb-true, lt-ltb, le-ltb}
 use lib.Dec.{eqb, ltb}
-use lib.ListN.{length, getD}
+use lib.ListN.{getD}
 use Rattle.words.specs.Tests.{pick}
 use Rattle.words.specs.All.{all, firstOf, tabled}
 use Rattle.words.proofs.Cases.{le-or-lt, true-is-false, both-left, both-right, both-no}
@@ -44,9 +44,6 @@ all-at f (suc n) i h a =
 -- a table's rule, at each entry by one test that computes
 pub tabled-at : (n : ℕ) (xs : List ℕ) (f : ℕ → ℕ) (k : ℕ) → tabled n f xs ≡ true → k < n → getD xs k 0 ≡ f k
 tabled-at n xs f k e h = eqb-true (getD xs k 0) (f k) (all-at (λ i. eqb (getD xs i 0) (f i)) n k h e)
-
-pub table-at : (xs : List ℕ) (f : ℕ → ℕ) (k : ℕ) → tabled (length xs) f xs ≡ true → k < length xs → getD xs k 0 ≡ f k
-table-at xs f k e h = tabled-at (length xs) xs f k e h
 
 pub all-intro : (f : ℕ → Bool) (n : ℕ) → ((i : ℕ) → i < n → f i ≡ true) → all n f ≡ true
 unfolding all

@@ -1,6 +1,6 @@
 -- `size_in` meets its promise: the table has the rows of document 01 at each bit.
 use mathlib.Core.Path.{_≡_}
-use Prim.Native.Nat.{ℕ, _≤_}
+use Prim.Native.Nat.{_≤_}
 use native.Mathlib.Omega.{arith}
 use lib.ListN.{getD}
 use Rattle.words.proofs.AllLaws.{tabled-at}

@@ -1,7 +1,7 @@
 -- `slot_good` meets its promise: the slot is lent to the test that its held bit asks for.
 use native.Mathlib.Omega.{arith}
 use borrow.Author.Tests.{eq-eqb, ne-eqb}
-use Rattle.record.proofs.SlotLaws.{held-low, held-high}
+use Rattle.record.proofs.SlotLaws.{held-high}
 use Rattle.record.proofs.GoodLaws.{slot-end, slot-there, slot-ruled, slot-zeroed}
 use borrow.Author.Needs.{needs}
 use Rattle.record.proofs.inner.good.slot_good.Statement.{statement}
