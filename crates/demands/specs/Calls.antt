@@ -4,10 +4,9 @@
 use mathlib.Core.Path.{_≡_}
 use Prim.Native.Nat.{ℕ}
 use mathlib.Core.List.{List, [], _∷_}
-use lib.ListN.{length}
 use Rattle.words.specs.Outcome.{Outcome, refused, checked, Done, Meets}
 use Rattle.fields.specs.Answers.{foundPaper}
-use Rattle.fields.specs.Layout.{carried, foundOf, contextOf}
+use Rattle.fields.specs.Layout.{fieldCount, foundOf, contextOf}
 use Rattle.packet.specs.declared.Parts.{Parts}
 use Rattle.packet.specs.Read as Read
 use Rattle.packet.specs.Trailer.{trailerOf, trailerWordOf, trailerPaper}
@@ -55,7 +54,7 @@ plain a = a
 unfoldable pub calls : List {1} Call
 calls =
     -- fields::field_count, check_body, find
-    answers plain (λ (indicator : ℕ). length (carried indicator))
+    answers plain fieldCount
     ∷ answers checked contextOf
     ∷ answers foundPaper (λ (h : ℕ × List ℕ). foundOf (h .0) (h .1))
     -- packet::read, write, trailer_parts, trailer_word

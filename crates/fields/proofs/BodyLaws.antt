@@ -114,9 +114,9 @@ module _ (b : ℕ) (body : List ℕ) (h : b < 31) (carries : has (indicatorOf bo
         (both-right (obeyed before (drop 1 body)) (both (ruleOf b (fromField b body)) (obeyed later (pastField b body))) (sym rules-split ∙ fine .obeys))
 
     -- it is found
-    pub field-found : foundOf b body ≡ placeOf b body ∷ wordsOf b (fromField b body) ∷ []
+    pub field-found : 8 ≤ b → foundOf b body ≡ placeOf b body ∷ wordsOf b (fromField b body) ∷ []
     unfolding foundOf insideOf
-    field-found = rw (le-ltb 30 b (omega arith), carries, le-leb (placeOf b body + own) (length body) field-inside)
+    field-found g = rw (le-ltb 30 b (omega arith), le-ltb b 8 g, carries, le-leb (placeOf b body + own) (length body) field-inside)
 
     pub field-length : length (fieldOf b body) ≡ wordsOf b (fromField b body)
     unfolding fieldOf

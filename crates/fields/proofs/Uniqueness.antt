@@ -3,16 +3,15 @@
 use mathlib.Core.Path.{_≡_, refl}
 use mathlib.Core.List.{List, [], _∷_}
 use Prim.Native.Nat.{ℕ}
-use lib.ListN.{length}
 use Rattle.words.specs.declared.Check.{Check}
 use Rattle.words.specs.Outcome.{checked}
 use Rattle.words.proofs.Once.{once, checked-once}
-use Rattle.fields.specs.Layout.{carried, contextOf, foundOf}
+use Rattle.fields.specs.Layout.{fieldCount, contextOf, foundOf}
 use Rattle.fields.specs.Answers.{foundPaper}
 use Rattle.fields.specs.declared.places.Found.{Found}
 use Rattle.fields.specs.declared.places.Found.the-variants.{At, Absent}
 
-pub field-count-once : (indicator m n : ℕ) → m ≡ length (carried indicator) → n ≡ length (carried indicator) → m ≡ n
+pub field-count-once : (indicator m n : ℕ) → m ≡ fieldCount indicator → n ≡ fieldCount indicator → m ≡ n
 field-count-once indicator m n = once (λ k. k) (λ k. k) (λ k. refl)
 
 pub check-body-once : (body : List ℕ) (r s : Check) → checked r ≡ contextOf body → checked s ≡ contextOf body → r ≡ s

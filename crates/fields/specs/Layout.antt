@@ -17,6 +17,10 @@ use Rattle.fields.specs.Rules.{ruleOf}
 abbrev pub carried : ℕ → List ℕ
 carried indicator = bitsOf 31 indicator
 
+-- how many fields an indicator carries: the set bits of 30 to 8. Bits 7-0 have none; a body that carries one is refused
+unfoldable pub fieldCount : ℕ → ℕ
+fieldCount indicator = length (bitsOf 23 (indicator / 2 ^ 8))
+
 -- the words that the fields of these bits take, one after the other from the front of ws
 unfoldable pub spanOf : List ℕ → List ℕ → ℕ
 spanOf [] ws = 0
@@ -50,10 +54,9 @@ fieldOf b body = take (wordsOf b (drop (placeOf b body) body)) (drop (placeOf b 
 unfoldable pub insideOf : ℕ → ℕ → List ℕ → List ℕ
 insideOf b at body = pick (leb (at + wordsOf b (drop at body)) (length body)) (at ∷ wordsOf b (drop at body) ∷ []) []
 
--- the place and the words of the field of bit b of a body; nothing where b is above 30, or the indicator does not carry it.
--- (Bits 7-0 have fields of no words; a body that carries one is refused.)
+-- the place and the words of the field of bit b of a body; nothing where b is not 30 to 8, or the indicator does not carry it
 unfoldable pub foundOf : ℕ → List ℕ → List ℕ
-foundOf b body = pick (ltb 30 b) [] (pick (has (indicatorOf body) b) (insideOf b (placeOf b body) body) [])
+foundOf b body = pick (ltb 30 b) [] (pick (ltb b 8) [] (pick (has (indicatorOf body) b) (insideOf b (placeOf b body) body) []))
 
 -- ---- the refusals, in their order
 

@@ -5,15 +5,14 @@ mod places;
 pub use places::Found;
 pub use places::find;
 ghost use mathlib.Core.Path.{_≡_};
-ghost use lib.ListN.{length};
-ghost use Rattle.fields.specs.Layout.{carried, contextOf};
+ghost use Rattle.fields.specs.Layout.{fieldCount, contextOf};
 ghost use Rattle.words.specs.Outcome.{checked};
 
-// The number of fields that an indicator carries, those of bits 30 down: count of ones.
+// The number of fields that an indicator carries, those of bits 30 to 8: count of ones.
 pub fn field_count(indicator: u32) -> u32
-    ensures { λ r. ⌜ r ≡ length (carried indicator) ⌝ }
+    ensures { λ r. ⌜ r ≡ fieldCount indicator ⌝ }
 {
-    u32::count_ones(indicator % 0x8000_0000)
+    u32::count_ones(indicator / 256 % 0x80_0000)
 }
 
 // Whether a type 4 body is as document 01 says: INDICATOR, LAYOUT or FIELD where it is not.

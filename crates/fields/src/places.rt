@@ -25,12 +25,15 @@ fn inside(bit: u32, body: &[u32], at: usize) -> Found
     Found::At(at, n)
 }
 
-// Where the field of a bit stands in a type 4 body: after the indicator and the fields of the bits above it. It is absent for a bit above 30,
-// for one that the indicator does not carry, and where the field does not lie wholly inside the body.
+// Where the field of a bit stands in a type 4 body: after the indicator and the fields of the bits above it. It is absent for a bit that is
+// not 30 to 8, for one that the indicator does not carry, and where the field does not lie wholly inside the body.
 pub fn find(body: &[u32], bit: u32) -> Found
     ensures { λ r. ⌜ foundPaper r ≡ foundOf bit (now (body .entry)) ⌝ }
 {
     if 30 < bit {
+        return Found::Absent;
+    }
+    if bit < 8 {
         return Found::Absent;
     }
     let indicator = words::inner::word_at(body, 0);

@@ -3,10 +3,9 @@ use mathlib.Core.Path.{_≡_, sym, _∙_}
 use mathlib.Core.List.{List}
 use Prim.Native.Nat.{ℕ}
 use lib.IntN.{ℤ}
-use lib.ListN.{length}
 use Rattle.words.specs.Tests.{when}
 use Rattle.words.specs.Outcome.{Outcome, numberOf, Done}
-use Rattle.fields.specs.Layout.{carried, contextOf}
+use Rattle.fields.specs.Layout.{fieldCount, contextOf}
 use Rattle.payload.specs.Unpack.{Buffers, unpackOf}
 use Rattle.table.specs.Well.{wellMade}
 use Rattle.vrt49.specs.Answers.{Gives}
@@ -40,8 +39,8 @@ trailer-parts-once word answer = gives-once (trailerGives word answer) answer
 pub trailer-word-once : (enables indicators e associated : ℕ) (answer : List ℕ) → Once (trailerWordGives enables indicators e associated answer) answer
 trailer-word-once enables indicators e associated answer = gives-once (trailerWordGives enables indicators e associated answer) answer
 
-pub field-count-once : (indicator r s : ℕ) → r ≡ length (carried indicator) → s ≡ length (carried indicator) → r ≡ s
-field-count-once indicator = number-once (length (carried indicator))
+pub field-count-once : (indicator r s : ℕ) → r ≡ fieldCount indicator → s ≡ fieldCount indicator → r ≡ s
+field-count-once indicator = number-once (fieldCount indicator)
 
 pub check-body-once : (body : List ℕ) (r s : ℕ) → r ≡ numberOf (contextOf body) → s ≡ numberOf (contextOf body) → r ≡ s
 check-body-once body = number-once (numberOf (contextOf body))

@@ -3,7 +3,7 @@ ghost use mathlib.Core.Path.{_≡_};
 ghost use Prim.Native.Nat.{_+_, _≤_};
 ghost use lib.ListN.{length};
 ghost use Rattle.words.specs.Outcome.{numberOf, checked, Meets};
-ghost use Rattle.fields.specs.Layout.{carried, contextOf};
+ghost use Rattle.fields.specs.Layout.{fieldCount, contextOf};
 ghost use Rattle.packet.specs.Write.{writtenPaper};
 ghost use Rattle.vrt49.specs.Answers.{Gives, front};
 ghost use Rattle.vrt49.specs.Packets.{packetValues, wordsChecks, partsOf, writeWordsOf, readGives, writeGives, trailerGives, trailerWordGives, findGives};
@@ -179,7 +179,7 @@ pub extern "C" fn vrt49_trailer_word(
 // How many fields an indicator word carries: the answer itself.
 #[no_mangle]
 pub extern "C" fn vrt49_field_count(indicator: u32) -> u32
-    ensures { λ r. ⌜ r ≡ length (carried indicator) ⌝ }
+    ensures { λ r. ⌜ r ≡ fieldCount indicator ⌝ }
 {
     fields::field_count(indicator)
 }

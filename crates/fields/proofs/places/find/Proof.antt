@@ -12,15 +12,19 @@ returns : tie.Need-returns
 unfolding foundOf
 returns c = search cases
 
+returns-2 : tie.Need-returns-2
+unfolding foundOf
+returns-2 c = search cases
+
 word-at-requires : tie.Need-word-at-requires
 word-at-requires c κs = search needs
 
-shr-if2 : tie.Need-shr-if2
-shr-if2 c = search needs
+shr-if3 : tie.Need-shr-if3
+shr-if3 c = search needs
 
-returns-2 : tie.Need-returns-2
+returns-3 : tie.Need-returns-3
 unfolding foundOf
-returns-2 c = search (cases, ← c .before .word-at .ensures)
+returns-3 c = search (cases, ← c .before .word-at .ensures)
 
 add-above : tie.Need-add-above
 add-above c = search needs
@@ -40,11 +44,11 @@ walk-requires c κs = search needs
 inside-requires : tie.Need-inside-requires
 inside-requires c κs = search needs
 
-returns-3 : tie.Need-returns-3
+returns-4 : tie.Need-returns-4
 unfolding foundOf
-returns-3 c =
+returns-4 c =
     let w = c .before .before .before .word-at in
-    let a = c .before .before .before .before .before .before .args in
+    let a = c .before .before .before .before .before .before .before .args in
     let e : c .before .walk .result .end ≡ placeOf (a .bit) (now (a .body)) =
     place-above (w .result) (a .bit) _ (now (a .body)) (w .ensures) (search needs) (c .before .walk .ensures .0) in
     search (cases, ← w .ensures, ← e, c .inside .ensures)
@@ -54,13 +58,14 @@ find-spec =
     tie.close
     (tie.spec
     returns
-    word-at-requires
-    shr-if2
     returns-2
+    word-at-requires
+    shr-if3
+    returns-3
     add-above
     shr-above
     add-above-2
     shl-above
     walk-requires
     inside-requires
-    returns-3)
+    returns-4)
