@@ -30,3 +30,8 @@ vectors:
 	python3 -B tools/reference/panel_vectors.py crates/panel_vectors/stdin crates/panel_vectors/stdout
 	python3 -B tools/reference/sample_packets.py samples/packets
 	python3 -B tools/reference/recordings.py samples/recordings
+
+# holds the library for C to the reference, to UHD and to tshark, and vrtplay to its recordings
+.PHONY: compare
+compare:
+	@tools/compare/compare.sh

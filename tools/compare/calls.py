@@ -1,0 +1,659 @@
+"""The calls of include/vrt49.h: for each, cases and what the reference says of
+them.
+
+A case is what the call is lent, in the order of the header, and what is expected:
+the number, and the entries afterwards of the buffers that change.  What document
+01 leaves to the header is said here in its words.
+"""
+
+from array import array
+from collections import namedtuple
+
+import making
+import page
+import panel
+import payload
+import table
+import vrt49
+import vrt49_write
+from making import ONES
+from table import ROOM
+
+COUNT = 17
+MOST_ITEMS = 2_097_120
+
+# Buffers that a call writes begin as noise, the same words in drive.c.
+NOISE = 65536
+CONTENTS_FOLLOW = 0xFFFFFFFF
+
+
+def noise_words():
+    made, x = [], 1
+    for _ in range(NOISE):
+        x = (x * 1664525 + 1013904223) & ONES
+        made.append(x ^ x >> 16)
+    return made
+
+
+_noise = noise_words()
+NOISE_OF = {
+    "I": array("I", _noise),
+    "Q": array("Q", [w << 32 | w ^ ONES for w in _noise]),
+    "H": array("H", [w & 0xFFFF for w in _noise]),
+    "B": array("B", [w & 0xFF for w in _noise]),
+}
+
+Buffer = namedtuple("Buffer", "entries place")
+
+
+def given(entries, code="I"):
+    """A buffer with these contents."""
+    return Buffer(array(code, entries), CONTENTS_FOLLOW)
+
+
+def noisy(r, n, code="I"):
+    """A buffer of n entries of noise."""
+    place = r.randrange(NOISE)
+    noise = NOISE_OF[code]
+    if place + n > NOISE:
+        noise = noise * (2 + n // NOISE)
+    return Buffer(noise[place : place + n], place)
+
+
+def put(buffer, front):
+    """The entries of a buffer when its first ones are these."""
+    return array(buffer.entries.typecode, front) + buffer.entries[len(front) :]
+
+
+# What a case lends, the number, and {place among the lent: entries afterwards}.
+Case = namedtuple("Case", "lent number after")
+
+
+def refused(lent, number):
+    return Case(lent, number, {})
+
+
+def answers(r, n, code="I"):
+    """A buffer for n entries of answer: as many, some more, or too few."""
+    kind = r.randrange(40)
+    if kind < 2 and n:
+        return noisy(r, r.randrange(n) if kind else n - 1, code)
+    return noisy(r, n if kind < 20 else n + r.randrange(1, 4), code)
+
+
+def around(r, n):
+    """A number of entries that is enough or just not."""
+    return max(0, n + r.choice((0, 0, 0, 0, 1, 2, 5, 20, -1, -1, -r.randrange(n + 1))))
+
+
+# Packets.
+
+
+def read_of(words, answer):
+    lent = [words, answer]
+    if len(answer.entries) < 18:
+        return refused(lent, ROOM)
+    said, p = vrt49.read(list(words.entries))
+    if said == "refused":
+        return refused(lent, p)
+    return Case(lent, 0, {1: put(answer, [
+        p.type, p.class_flag, p.trailer_flag, p.tsm, p.tsi, p.tsf, p.count, p.size, p.identifier,
+        p.oui, p.information, p.packet, p.seconds, p.fraction >> 32, p.fraction & ONES, p.body,
+        p.length, p.trailer,
+    ])})
+
+
+def read(r):
+    if r.randrange(500) == 0:
+        return read_of(given(long_packet(r)), answers(r, 18))
+    return read_of(given(making.some_packet(r)), answers(r, 18))
+
+
+def long_packet(r):
+    """A packet of about as many words as a size can say."""
+    made = making.parts(r, r.choice((1, 2, 4)))
+    made.trailer_flag = 0
+    room = r.choice((65535, 65535, 65534, 65000)) - vrt49.body_place(vrt49_write.without_size(made))
+    words = vrt49_write.packet_words(made, long_body(r, made.type, room))
+    return r.choice((words, words, words[:-1], words + [0, 1]))
+
+
+def long_body(r, kind, n):
+    if kind == 4:
+        # GPS ASCII, or lists that vectors fill
+        front = [1 << 9, 7, n - 3]
+        if n - 3 < 65536 and r.randrange(2):
+            front = [1 << 8, 0, (n - 3) << 16]
+        return front + list(noisy(r, n - 3).entries)
+    return list(noisy(r, n).entries)
+
+
+def parts_words(p):
+    return [
+        p.type, p.class_flag, p.trailer_flag, p.tsm, p.tsi, p.tsf, p.count, p.identifier, p.oui,
+        p.information, p.packet, p.seconds, p.fraction >> 32, p.fraction & ONES, p.trailer,
+    ]
+
+
+def write_of(parts, body, out, at, answer):
+    lent = [parts, body, out, at, answer]
+    if len(answer.entries) < 1:
+        return refused(lent, ROOM)
+    # "another number of parts is 17 (COUNT), before what the list has for writing"
+    if len(parts.entries) != 15:
+        return refused(lent, COUNT)
+    p = parts.entries
+    # "VALUE (also for C, T or TSM above 1)"
+    if p[0] <= 5 and max(p[1:4]) > 1:
+        return refused(lent, vrt49_write.VALUE)
+    asked = vrt49_write.Parts(*p[:12], p[12] << 32 | p[13], p[14])
+    (said, number), after = vrt49_write.write(
+        asked, list(body.entries), list(out.entries), at
+    )
+    if said == "refused":
+        return refused(lent, number)
+    return Case(lent, 0, {2: array("I", after), 4: put(answer, [number])})
+
+
+def write(r):
+    p = making.parts(r)
+    body = making.body_for(r, p.type)
+    if r.randrange(4) == 0:
+        body = making.some_body(r)
+    if r.randrange(12) == 0:
+        p.type = r.choice((0, 1, 2, 3, 4, 5, 6, 7, 15, 16, making.word(r)))
+    if r.randrange(300) == 0:
+        # about 65,535 words
+        size = vrt49_write.packet_size(p, []) if p.type < 6 else 7
+        n = 65535 - size + r.choice((-1, 0, 0, 1, 1, 2, 50))
+        body = long_body(r, p.type, n)
+    parts = parts_words(p)
+    if r.randrange(6) == 0:
+        # a number that may not fit, and now and then its flag
+        which = r.choice((1, 2, 3, 4, 5, 6, 8, 9, 10))
+        bits = {1: 1, 2: 1, 3: 1, 4: 2, 5: 2, 6: 4, 8: 24, 9: 16, 10: 16}[which]
+        parts[which] = r.choice((1 << bits, (1 << bits) - 1, (1 << bits) + 1, 1 << 31, ONES, making.word(r)))
+    if r.randrange(40) == 0:
+        parts = r.choice((parts[:-1], parts + [0], [], making.words(r, r.randrange(30))))
+    size = 20 + len(body)
+    if len(parts) == 15 and parts[0] < 6 and max(parts[1:7]) < 16:
+        size = vrt49_write.packet_size(vrt49_write.Parts(*parts[:12], 0, 0), body)
+    at = r.choice((0, 0, 1, 3, r.randrange(20)))
+    room = max(0, at + size + r.choice((0, 0, 0, 1, 7, r.randrange(30))))
+    if r.randrange(6) == 0:
+        room = r.choice((max(0, at + size - 1), r.randrange(at + size), at, max(0, at - 1)))
+    if r.randrange(20) == 0:
+        at = r.choice((room, room + 1, 2**32 - 1, 2**32, 2**63, 2**64 - 1, 2**64 - size))
+    return write_of(given(parts), given(body), noisy(r, room), at, answers(r, 1))
+
+
+def trailer_parts(r):
+    word, answer = making.word(r), answers(r, 4)
+    if len(answer.entries) < 4:
+        return refused([word, answer], ROOM)
+    return Case([word, answer], 0, {1: put(answer, vrt49.trailer_parts(word))})
+
+
+def trailer_word(r):
+    numbers = [r.getrandbits(bits) for bits in (12, 12, 1, 7)]
+    if r.randrange(3) == 0:
+        place = r.randrange(4)
+        edge = 1 << (12, 12, 1, 7)[place]
+        numbers[place] = r.choice((edge, edge - 1, edge + 1, ONES, making.word(r)))
+    answer = answers(r, 1)
+    lent = numbers + [answer]
+    if len(answer.entries) < 1:
+        return refused(lent, ROOM)
+    said, what = vrt49_write.trailer_word(*numbers)
+    if said == "refused":
+        return refused(lent, what)
+    return Case(lent, 0, {4: put(answer, [what])})
+
+
+# Fields.
+
+
+def carried(indicator):
+    """The bits of an indicator that have a field, from bit 30 downwards."""
+    # bits 7 to 0 have none: document 01's table of words ends with bit 8
+    return vrt49.carried_bits(indicator)
+
+
+def field_count_of(indicator):
+    return Case([indicator], len(carried(indicator)), {})
+
+
+def field_count(r):
+    return field_count_of(r.choice((making.word, making.indicator))(r))
+
+
+def check_body_of(body):
+    if len(body.entries) == 0:
+        # the indicator word is not there: more words are needed than it has
+        return refused([body], vrt49.LAYOUT)
+    # as the body of a packet of type 4
+    words = [4 << 28 | 2 + len(body.entries), 0] + list(body.entries)
+    for number, applies in (
+        (vrt49.INDICATOR, vrt49.indicator_refused),
+        (vrt49.LAYOUT, vrt49.layout_refused),
+        (vrt49.FIELD, vrt49.field_refused),
+    ):
+        if applies(words):
+            return refused([body], number)
+    return Case([body], 0, {})
+
+
+def check_body(r):
+    if r.randrange(500) == 0:
+        return check_body_of(given(long_body(r, 4, r.choice((1000, 65533)))))
+    return check_body_of(given(making.some_body(r)))
+
+
+def found(body, bit):
+    """Where a field stands: there, place and words.
+
+    docs/DECISIONS.md has what document 01 does not say: words past the end of the
+    body read as 0, bits 7 to 0 have no field, and a field that does not lie wholly
+    inside the body is not there.
+    """
+
+    def word(place):
+        return body[place] if place < len(body) else 0
+
+    place = 1
+    for there in carried(word(0)):
+        if there == 9:
+            count = vrt49.gps_ascii_words(word(place), word(place + 1))
+        elif there == 8:
+            count = vrt49.lists_words(word(place), word(place + 1))
+        else:
+            count = vrt49.FIXED_WORDS.get(there, 0)
+        if there == bit and place + count <= len(body):
+            return [1, place, count]
+        place += count
+    return [0, 0, 0]
+
+
+def find(r):
+    body = given(making.some_body(r))
+    there = carried(body.entries[0]) if body.entries else []
+    bit = r.choice(there) if there and r.randrange(3) else r.choice((r.randrange(40), making.word(r)))
+    answer = answers(r, 3, "Q")
+    lent = [body, bit, answer]
+    if len(answer.entries) < 3:
+        return refused(lent, ROOM)
+    return Case(lent, 0, {2: put(answer, found(body.entries, bit))})
+
+
+# Packed samples.
+
+
+def some_count(r, first, second):
+    """A number of items, mostly one that the format takes."""
+    unit = payload.unit(first, second)
+    if unit > 1000 or (unit > 100 and r.randrange(8)):
+        return 0 if r.randrange(3) else r.randrange(100)
+    n = unit * r.choice((0, 1, 1, 2, 3, r.randrange(max(1, 100 // unit) + 1)))
+    return n + r.choice((-1, 1, r.randrange(5))) if r.randrange(12) == 0 and n else n
+
+
+def unpack_of(first, second, n, words, outs):
+    lent = [first, second, n, words, *outs]
+    said, what = payload.unpack(
+        first, second, n, list(words.entries), [len(out.entries) for out in outs]
+    )
+    if said == "refused":
+        return refused(lent, what)
+    return Case(lent, 0, {4 + k: put(out, what[k]) for k, out in enumerate(outs)})
+
+
+def unpack(r):
+    first, second = making.payload_format(r)
+    n = some_count(r, first, second)
+    needed = 3 if payload.format_refused(first, second) else payload.words_for(first, n)
+    if r.randrange(12) == 0:
+        needed = around(r, needed)
+    if r.randrange(60) == 0:
+        n = r.choice((MOST_ITEMS, MOST_ITEMS + 1, 2**32, 2**64 - 1, making.word(r)))
+    room = min(n, 5000)
+    outs = [noisy(r, room + r.choice((0, 0, 1, 3)), code) for code in "QBH"]
+    if r.randrange(10) == 0:
+        place = r.randrange(3)
+        outs[place] = noisy(r, r.choice((max(0, room - 1), r.randrange(room + 1))), "QBH"[place])
+    return unpack_of(first, second, n, given(making.words(r, needed)), outs)
+
+
+def pack_of(first, second, items, events, channels, out, answer):
+    lent = [first, second, items, events, channels, out, answer]
+    if len(answer.entries) < 1:
+        return refused(lent, ROOM)
+    said, what = payload.pack(
+        first, second, items.entries, events.entries, channels.entries, len(out.entries)
+    )
+    if said == "refused":
+        return refused(lent, what)
+    return Case(lent, 0, {5: put(out, what), 6: put(answer, [len(what)])})
+
+
+def pack(r):
+    first, second = making.payload_format(r)
+    n = some_count(r, first, second)
+    sizes = (payload.item_size(first), payload.event_size(first), payload.channel_size(first))
+    numbers = [[r.getrandbits(size) if r.randrange(8) else (1 << size) - 1 for _ in range(n)] for size in sizes]
+    if r.randrange(10) == 0 and n:
+        # one that may not fit
+        place = r.randrange(3)
+        most = (64, 8, 16)[place]
+        edge = r.choice((1 << sizes[place], 1 << most - 1, (1 << most) - 1, r.getrandbits(most)))
+        numbers[place][r.randrange(n)] = edge % (1 << most)
+    if r.randrange(15) == 0:
+        place = r.randrange(3)
+        numbers[place] = numbers[place][:-1] if r.randrange(2) else numbers[place] + [0]
+    needed = 3 if payload.format_refused(first, second) else payload.words_for(first, n)
+    room = needed + r.choice((0, 0, 1, 4))
+    if r.randrange(10) == 0:
+        room = around(r, needed)
+    lent = [given(entries, code) for entries, code in zip(numbers, "QBH")]
+    return pack_of(first, second, *lent, noisy(r, room), answers(r, 1))
+
+
+def words_needed(r):
+    first, second = making.payload_format(r)
+    unit = payload.unit(first, second)
+    n = r.choice((
+        some_count(r, first, second), MOST_ITEMS // unit * unit, (MOST_ITEMS // unit + 1) * unit,
+        unit * r.randrange(MOST_ITEMS // unit + 1), making.word(r),
+    ))
+    if r.randrange(10) == 0:
+        n = r.choice((n + 1, max(0, n - 1), MOST_ITEMS, MOST_ITEMS + 1, unit * 2**32, 2**64 - 1, r.getrandbits(64)))
+    answer = answers(r, 1)
+    lent = [first, second, n, answer]
+    if len(answer.entries) < 1:
+        return refused(lent, ROOM)
+    said, what = payload.words_needed(first, second, n)
+    if said == "refused":
+        return refused(lent, what)
+    return Case(lent, 0, {3: put(answer, [what])})
+
+
+def signed(r):
+    width = r.randint(1, 64) if r.randrange(10) else r.choice((0, 1, 64, 65, ONES, making.word(r)))
+    bits = min(width, 64)
+    item = r.choice((r.getrandbits(64), r.getrandbits(bits) if bits else 0, (1 << bits) - 1, 1 << max(0, bits - 1)))
+    if r.randrange(5) == 0:
+        item = (1 << bits) % 2**64
+    elif r.randrange(8):
+        item %= 1 << bits
+    value = answers(r, 1, "Q")
+    lent = [width, item, value]
+    if len(value.entries) < 1:
+        return refused(lent, ROOM)
+    said, what = payload.signed(width, item)
+    if said == "refused":
+        return refused(lent, what)
+    return Case(lent, 0, {2: put(value, [what % 2**64])})
+
+
+# Tables.
+
+
+def start_of(ids, lent_table, answer):
+    lent = [ids, lent_table, answer]
+    if len(answer.entries) < 1:
+        return refused(lent, ROOM)
+    (said, what), after = table.start_lent(list(ids.entries), list(lent_table.entries))
+    if said == "refused":
+        return refused(lent, what)
+    return Case(lent, 0, {1: array("I", after), 2: put(answer, [what])})
+
+
+def start(r):
+    n = r.choice((making.streams(r), r.randrange(36), 0, 31, 32, 33))
+    ids = making.identifiers(r, n)
+    if n > 1 and r.randrange(6) == 0:
+        ids[r.randrange(n)] = ids[r.randrange(n)]
+    room = table.layout_length(n) + r.choice((0, 0, 0, 1, 5, 100))
+    if r.randrange(8) == 0:
+        room = around(r, table.layout_length(n))
+    return start_of(given(ids), noisy(r, room), answers(r, 1))
+
+
+def well_made(r):
+    lent = making.some_table(r)
+    if r.randrange(3) == 0 and lent[0:1] and 1 <= lent[0] <= 32 and len(lent) > 88:
+        lent = making.bend_table(r, lent)
+    if r.randrange(60) == 0:
+        lent = making.words(r, r.choice((0, 1, 2, 88, 89, 90, 200)))
+    return Case([given(lent)], 1 if table.well_made(lent) else 0, {})
+
+
+def declared(r, lent):
+    """An identifier that a table has, mostly."""
+    if r.randrange(12) and lent and 1 <= lent[0] <= (len(lent) - 1) // 88:
+        return lent[1 + 88 * r.randrange(lent[0])]
+    return making.word(r)
+
+
+def lent_table(r):
+    """A table for playing, saving and reading: mostly good."""
+    if r.randrange(10) == 0:
+        return making.some_table(r)
+    return table.layout(making.some_streams(r)) + making.words(r, r.choice((0, 0, 0, 2)))
+
+
+def play_of(lent_words, words, answer):
+    lent = [lent_words, words, answer]
+    if len(answer.entries) < 4:
+        return refused(lent, ROOM)
+    said, after = table.play_lent(list(lent_words.entries), list(words.entries))
+    if said[0] == "refused":
+        return refused(lent, said[1])
+    return Case(lent, 0, {0: array("I", after), 2: put(answer, said[1:])})
+
+
+def play(r):
+    lent = lent_table(r)
+    kind = r.choice((1, 3, 4, 4, 4, 5)) if r.randrange(10) else None
+    identifier = declared(r, lent)
+    words = (making.packet if r.randrange(3) else making.some_packet)(r, kind, identifier)
+    if r.randrange(60) == 0:
+        words = []
+    return play_of(given(lent), given(words), answers(r, 4))
+
+
+def run(lent, words, start_at, entries):
+    """Plays packets from a place on: ('refused', number), or ('ran', packets, place
+    reached) with five words for each packet; and the table afterwards.
+
+    It stops when no word is left, when there is no room for another entry, and at
+    a refusal other than STREAM, which goes on by the size.
+    """
+    if not table.well_made(lent):
+        return ("refused", table.TABLE), [], list(lent)
+    made, place, written = table.table_of(lent), start_at, []
+    while place < len(words) and len(written) < 5 * entries:
+        answer = table.play(made, words[place:])
+        if answer[0] == "played":
+            _, size, kind, stream, missing = answer
+            written += [0, size, kind, stream, missing]
+        else:
+            size = vrt49.size_of(words[place]) if answer[1] == table.STREAM else 0
+            written += [answer[1], size, 0, 0, 0]
+        place += size
+        if size == 0:
+            break
+    after = table.layout(made)
+    return ("ran", len(written) // 5, place), written, after + lent[len(after) :]
+
+
+def play_run(r):
+    lent = lent_table(r)
+    words, places = [], []
+    for _ in range(r.choice((0, 1, 2, 3, 5, 8, r.randrange(20)))):
+        places.append(len(words))
+        made = making.packet(r, r.choice((0, 1, 1, 3, 4, 4, 5, 2)), declared(r, lent))
+        words += making.bent_packet(r, made) if r.randrange(10) == 0 else made
+    if r.randrange(12) == 0:
+        words = making.bent(r, words)
+    start_at = 0 if r.randrange(3) else r.choice(places or [0])
+    if r.randrange(20) == 0:
+        start_at = r.choice((len(words), len(words) + 1, 2**32, 2**64 - 1, r.randrange(len(words) + 1)))
+    room = r.choice((5 * len(places), 5 * len(places) + r.randrange(12), r.randrange(5 * len(places) + 1), 500))
+    answer, reached = noisy(r, room), answers(r, 2, "Q")
+    lent_args = [given(lent), given(words), start_at, answer, reached]
+    if len(reached.entries) < 2:
+        return refused(lent_args, ROOM)
+    said, written, after = run(lent, words, start_at, room // 5)
+    if said[0] == "refused":
+        return refused(lent_args, said[1])
+    return Case(lent_args, 0, {0: array("I", after), 3: put(answer, written), 4: put(reached, said[1:])})
+
+
+# Pages.
+
+
+def page_length(r):
+    lent, answer = lent_table(r), answers(r, 1)
+    args = [given(lent), answer]
+    if len(answer.entries) < 1:
+        return refused(args, ROOM)
+    said, what = page.page_length(lent)
+    if said == "refused":
+        return refused(args, what)
+    return Case(args, 0, {1: put(answer, [what])})
+
+
+def save(r):
+    lent, answer = lent_table(r), answers(r, 1)
+    said, length = page.page_length(lent)
+    room = 100 if said == "refused" else length + r.choice((0, 0, 1, 3, 50))
+    if r.randrange(8) == 0:
+        room = around(r, room)
+    out = noisy(r, room)
+    args = [given(lent), out, answer]
+    if len(answer.entries) < 1:
+        return refused(args, ROOM)
+    (said, what), after = page.save(lent, list(out.entries))
+    if said == "refused":
+        return refused(args, what)
+    return Case(args, 0, {1: array("I", after), 2: put(answer, [what])})
+
+
+def put_back(r):
+    made = page.page_of(making.some_streams(r))
+    streams = made[0]
+    if r.randrange(2):
+        made = making.bend_page(r, made)
+    if r.randrange(40) == 0:
+        made = making.words(r, r.choice((0, 1, 2, 17, 18, 19, 34)))
+    room = table.layout_length(streams) + r.choice((0, 0, 1, 4, 88))
+    if r.randrange(8) == 0:
+        room = around(r, table.layout_length(streams))
+    out, answer = noisy(r, room), answers(r, 1)
+    args = [given(made), out, answer]
+    if len(answer.entries) < 1:
+        return refused(args, ROOM)
+    (said, what), after = page.put_back(made, list(out.entries))
+    if said == "refused":
+        return refused(args, what)
+    return Case(args, 0, {1: array("I", after), 2: put(answer, [what])})
+
+
+# The panel.
+
+
+def some_place(r, lent):
+    """A stream and a bit, mostly of a field that the table holds."""
+    streams = lent[0] if lent and 1 <= lent[0] <= 32 else 1
+    stream = r.randrange(streams)
+    held = lent[2 + 88 * stream] if len(lent) > 2 + 88 * stream else 0
+    bits = [bit for bit in table.HELD_BITS if held >> bit & 1]
+    bit = r.choice(bits) if bits and r.randrange(6) else r.randrange(10, 31)
+    if r.randrange(15) == 0:
+        stream = r.choice((streams, streams + 1, 32, 2**32, 2**32 + stream, 2**64 - 1))
+    if r.randrange(15) == 0:
+        bit = r.choice((0, 8, 9, 31, 32, 32 + bit, 256 + bit, ONES, making.word(r)))
+    return stream, bit
+
+
+def panel_table(r):
+    """A table for readings: the fields that are shown are held more often."""
+    if r.randrange(3):
+        return lent_table(r)
+    made = making.some_streams(r, r.choice((1, 1, 2)))
+    for stream in made:
+        if stream["counts"][4]["last"] is not None:
+            for bit in r.sample((29, 28, 27, 26, 25, 21, 24, 23, 18), 4):
+                stream["held"][bit] = making.field(r, bit)
+    return table.layout(made)
+
+
+KINDS = {"frequency": 1, "level": 2, "gain": 3, "temperature": 4, "other": 5, "absent": 6}
+
+
+def float_word(value):
+    """The word of the f32 that a value is exactly."""
+    sign, exponent, fraction = panel.single(value)
+    return sign << 31 | exponent << 23 | fraction
+
+
+def reading(r):
+    lent = panel_table(r)
+    stream, bit = some_place(r, lent)
+    answer, hertz, levels = answers(r, 2), answers(r, 1, "Q"), answers(r, 2)
+    args = [given(lent), stream, bit, answer, hertz, levels]
+    if len(answer.entries) < 2 or len(hertz.entries) < 1 or len(levels.entries) < 2:
+        return refused(args, ROOM)
+    said = panel.reading(lent, stream, bit)
+    if said[0] == "refused":
+        return refused(args, said[1])
+    whole, parts, shown = 0, 0, [0, 0]
+    if said[0] == "frequency":
+        whole, parts = said[1:]
+    else:
+        shown[: len(said) - 1] = [float_word(value) for value in said[1:]]
+    after = {3: put(answer, [KINDS[said[0]], parts]), 4: put(hertz, [whole % 2**64]), 5: put(levels, shown)}
+    return Case(args, 0, after)
+
+
+def held_words(r):
+    lent = panel_table(r)
+    stream, bit = some_place(r, lent)
+    out, answer = noisy(r, r.choice((0, 1, 2, 2, 13, 13, 13, 14, 20))), answers(r, 1)
+    args = [given(lent), stream, bit, out, answer]
+    if len(answer.entries) < 1:
+        return refused(args, ROOM)
+    (said, what), after = panel.held_words(lent, stream, bit, list(out.entries))
+    if said == "refused":
+        return refused(args, what)
+    return Case(args, 0, {3: array("I", after), 4: put(answer, [what])})
+
+
+# The calls in drive.c's order: what each takes (its letters, as there), how many
+# cases, and the answers that must occur.  SIZE does not occur for a page: it has at
+# most 2,882 words.
+
+Call = namedtuple("Call", "name takes make cases occur")
+
+CALLS = (
+    Call("vrt49_read", "iI", read, 100000, (*range(11), 13)),
+    Call("vrt49_write", "iiIqI", write, 50000, (0, 2, 4, 7, 8, 9, 10, 13, 14, 15, 17)),
+    Call("vrt49_trailer_parts", "wI", trailer_parts, 5000, (0, 13)),
+    Call("vrt49_trailer_word", "wwwwI", trailer_word, 20000, (0, 13, 14)),
+    Call("vrt49_field_count", "w", field_count, 5000, tuple(range(24))),
+    Call("vrt49_check_body", "i", check_body, 60000, (0, 8, 9, 10)),
+    Call("vrt49_find", "iwL", find, 40000, (0, 13)),
+    Call("vrt49_unpack", "wwqiLBH", unpack, 15000, (0, 13, 16, 17)),
+    Call("vrt49_pack", "wwlbhII", pack, 15000, (0, 13, 14, 16, 17)),
+    Call("vrt49_words_needed", "wwqI", words_needed, 30000, (0, 13, 16, 17)),
+    Call("vrt49_signed", "wqL", signed, 20000, (0, 13, 14, 16)),
+    Call("vrt49_start", "iII", start, 10000, (0, 12, 13)),
+    Call("vrt49_well_made", "i", well_made, 30000, (0, 1)),
+    Call("vrt49_play", "IiI", play, 40000, (*range(12), 13, 18)),
+    Call("vrt49_play_run", "IiqIL", play_run, 15000, (0, 13, 18)),
+    Call("vrt49_page_length", "iI", page_length, 6000, (0, 13, 18)),
+    Call("vrt49_save", "iII", save, 10000, (0, 13, 18)),
+    Call("vrt49_put_back", "iII", put_back, 20000, (0, 13, 19)),
+    Call("vrt49_reading", "iqwILI", reading, 30000, (0, 11, 13, 14, 18)),
+    Call("vrt49_held_words", "iqwII", held_words, 15000, (0, 11, 13, 14, 18)),
+)

@@ -1,0 +1,213 @@
+"""Runs cases of every call of include/vrt49.h and holds the answers against the
+reference.
+
+    python3 tools/compare/cases.py [--seed N] [--few] [--only CALL [NUMBER]] -- DRIVE ..
+
+DRIVE is the command that runs drive.c's program.  Each call's cases are made in
+lots of 500, each from the seed, the call's name and the lot's number alone, so
+that a case is the same however many processes make them (JOBS, 2 if not set).
+--few makes one lot of 100 for each call; --only runs one call, or prints one case
+of it.  The first difference ends the program with status 1.
+"""
+
+import os
+import random
+import subprocess
+import sys
+from array import array
+from collections import Counter
+from multiprocessing import Pool
+from pathlib import Path
+
+sys.dont_write_bytecode = True
+sys.path.insert(0, str(Path(__file__).resolve().parent.parent / "reference"))
+
+from calls import CALLS, CONTENTS_FOLLOW, Buffer
+from edges import edges
+
+assert sys.byteorder == "little"
+
+SEED = 4900
+LOT = 500
+WHICH = {call.name: place for place, call in enumerate(CALLS)}
+
+
+# The words that drive.c reads and writes.
+
+
+def whole_words(entries):
+    """The bytes of entries, filled up with zeros to whole words."""
+    made = entries.tobytes()
+    return made + bytes(-len(made) % 4)
+
+
+def asked(call, case):
+    """The words of one case."""
+    made = [array("I", [WHICH[call.name]]).tobytes()]
+    for letter, lent in zip(call.takes, case.lent):
+        if letter == "w":
+            made.append(array("I", [lent]).tobytes())
+        elif letter == "q":
+            made.append(array("Q", [lent]).tobytes())
+        else:
+            made.append(array("I", [len(lent.entries), lent.place]).tobytes())
+            if lent.place == CONTENTS_FOLLOW:
+                made.append(whole_words(lent.entries))
+    return b"".join(made)
+
+
+def written(call, case):
+    """The places of the buffers that the call writes, among what it is lent."""
+    return [place for place, letter in enumerate(call.takes) if letter.isupper()]
+
+
+def expected(call, case):
+    """The words of the answer to one case."""
+    made = [array("I", [case.number]).tobytes()]
+    for place in written(call, case):
+        made.append(whole_words(case.after.get(place, case.lent[place].entries)))
+    return b"".join(made)
+
+
+# What a difference looks like.
+
+
+def shown(lent):
+    if not isinstance(lent, Buffer):
+        return f"{lent} (0x{lent:x})"
+    digits = 2 * lent.entries.itemsize
+    front = " ".join(f"{entry:0{digits}x}" for entry in lent.entries[:200])
+    return f"{len(lent.entries)} entries: {front}{' ..' if len(lent.entries) > 200 else ''}"
+
+
+def difference(call, case, number, given):
+    """The lines for a case whose answer is not the expected one."""
+    lines = [f"{call.name}, case {number}:"]
+    lines += [f"  lent {shown(lent)}" for lent in case.lent]
+    answered = array("I", given[:4])[0]
+    lines.append(f"  the reference answers {case.number}, the library {answered}")
+    at = 4
+    for place in written(call, case):
+        before = case.lent[place].entries
+        wanted = case.after.get(place, before)
+        had = array(before.typecode, given[at : at + len(before) * before.itemsize])
+        at += len(whole_words(before))
+        for entry, (one, other) in enumerate(zip(wanted, had)):
+            if one != other:
+                lines.append(
+                    f"  lent {place + 1}, entry {entry}: the reference has 0x{one:x}, "
+                    f"the library 0x{other:x}, before it was 0x{before[entry]:x}"
+                )
+                break
+    return "\n".join(lines)
+
+
+# Lots of cases.
+
+
+def made_lot(call, seed, lot, size):
+    """The first cases of one lot."""
+    r = random.Random(f"{seed} {call.name} {lot}")
+    return [call.make(r) for _ in range(size)]
+
+
+def run_cases(call, cases, first, drive):
+    """None, or the lines of the first difference."""
+    answer = subprocess.run(
+        [*drive, str(first)], input=b"".join(asked(call, case) for case in cases), capture_output=True
+    )
+    at = 0
+    for place, case in enumerate(cases):
+        wanted = expected(call, case)
+        given = answer.stdout[at : at + len(wanted)]
+        at += len(wanted)
+        if given != wanted:
+            if len(given) == len(wanted):
+                return difference(call, case, first + place, given)
+            break
+    if answer.returncode != 0 or at != len(answer.stdout):
+        said = answer.stderr.decode(errors="replace").strip()
+        return said or f"{call.name}, case {first + place}: drive ended with {answer.returncode}"
+    return None
+
+
+def run_lot(job):
+    name, seed, lot, size, drive = job
+    call = CALLS[WHICH[name]]
+    if lot == "edges":
+        # with numbers after all others
+        cases, first = edges(call.name), call.cases
+    else:
+        cases, first = made_lot(call, seed, lot, size), lot * LOT
+    try:
+        wrong = run_cases(call, cases, first, drive)
+    except OSError as problem:
+        wrong = str(problem)
+    return name, Counter(case.number for case in cases), wrong
+
+
+def options(words):
+    """The seed, whether few, what only, and the command."""
+    seed, few, only, drive = SEED, False, None, None
+    words = list(words)
+    while words:
+        word = words.pop(0)
+        if word == "--seed":
+            seed = int(words.pop(0))
+        elif word == "--few":
+            few = True
+        elif word == "--only":
+            only = [words.pop(0)]
+            if words[0] != "--":
+                only.append(int(words.pop(0)))
+        elif word == "--":
+            drive, words = words, []
+        else:
+            sys.exit(__doc__)
+    if not drive:
+        sys.exit(__doc__)
+    return seed, few, only, drive
+
+
+def one_case(seed, name, number, drive):
+    """Prints one case and what the library answers to it."""
+    call = CALLS[WHICH[name]]
+    if number < call.cases:
+        case = made_lot(call, seed, number // LOT, LOT)[number % LOT]
+    else:
+        case = edges(name)[number - call.cases]
+    answer = subprocess.run([*drive, str(number)], input=asked(call, case), stdout=subprocess.PIPE)
+    if answer.stdout:
+        print(difference(call, case, number, answer.stdout))
+
+
+def main():
+    seed, few, only, drive = options(sys.argv[1:])
+    if only and len(only) == 2:
+        return one_case(seed, *only, drive)
+    calls = [call for call in CALLS if not only or call.name == only[0]]
+    jobs = [(call.name, seed, "edges", 0, drive) for call in calls if not few]
+    for call in calls:
+        lots = 1 if few else call.cases // LOT
+        jobs += [(call.name, seed, lot, 100 if few else LOT, drive) for lot in range(lots)]
+    print(f"seed {seed}", flush=True)
+    counted = {call.name: Counter() for call in calls}
+    with Pool(int(os.environ.get("JOBS", "2"))) as pool:
+        for name, counts, wrong in pool.imap(run_lot, jobs):
+            if wrong:
+                pool.terminate()
+                print(wrong, flush=True)
+                sys.exit(1)
+            counted[name] += counts
+    for call in calls:
+        numbers = " ".join(f"{number}:{times}" for number, times in sorted(counted[call.name].items()))
+        print(f"{call.name} {sum(counted[call.name].values())} cases, answers {numbers}")
+        absent = [number for number in call.occur if not counted[call.name][number]]
+        if absent and not few:
+            print(f"{call.name}: no case has the answer {absent}")
+            sys.exit(1)
+    print(f"{sum(sum(counts.values()) for counts in counted.values())} cases, no difference")
+
+
+if __name__ == "__main__":
+    main()

@@ -1,0 +1,246 @@
+// Runs the calls of libvrt49.a over cases from standard input and writes what they answer; README.md has the form of both.
+//     drive FIRST    FIRST is the number of the first case, for messages
+// Every lent buffer stands between guard bytes. After each call the guards and the buffers that are only read must be as
+// they were, and after a refusal all buffers must. A change ends the program with a line that names call, case and buffer.
+// BEND=1 to 5 spoils one answer, to see that the comparison fails: see bend.
+#include "vrt49.h"
+#include <stdio.h>
+#include <stdlib.h>
+#include <string.h>
+
+enum { GUARD = 64, ARENA = 64 << 20, NOISE = 65536, MOST = 8, CONTENTS_FOLLOW = 0xFFFFFFFF };
+
+// What a call takes, in the order of the header: w a word, q two words (a size or a 64-bit number), and buffers: i of words,
+// l of 64-bit, h of 16-bit and b of 8-bit numbers, in capitals where the call writes them. Floats count as words.
+static const struct {
+    const char *name, *takes, *buffers[MOST];
+} calls[] = {
+    {"vrt49_read", "iI", {"words", "answer"}},
+    {"vrt49_write", "iiIqI", {"parts", "body", "out", "answer"}},
+    {"vrt49_trailer_parts", "wI", {"answer"}},
+    {"vrt49_trailer_word", "wwwwI", {"answer"}},
+    {"vrt49_field_count", "w", {0}},
+    {"vrt49_check_body", "i", {"body"}},
+    {"vrt49_find", "iwL", {"body", "answer"}},
+    {"vrt49_unpack", "wwqiLBH", {"words", "items", "events", "channels"}},
+    {"vrt49_pack", "wwlbhII", {"items", "events", "channels", "out", "answer"}},
+    {"vrt49_words_needed", "wwqI", {"answer"}},
+    {"vrt49_signed", "wqL", {"value"}},
+    {"vrt49_start", "iII", {"ids", "table", "answer"}},
+    {"vrt49_well_made", "i", {"table"}},
+    {"vrt49_play", "IiI", {"table", "words", "answer"}},
+    {"vrt49_play_run", "IiqIL", {"table", "words", "answers", "reached"}},
+    {"vrt49_page_length", "iI", {"table", "answer"}},
+    {"vrt49_save", "iII", {"table", "page", "answer"}},
+    {"vrt49_put_back", "iII", {"page", "table", "answer"}},
+    {"vrt49_reading", "iqwILI", {"table", "answer", "hertz", "levels"}},
+    {"vrt49_held_words", "iqwII", {"table", "out", "answer"}},
+};
+enum { CALLS = sizeof calls / sizeof *calls };
+
+struct buffer {
+    void *at;
+    size_t n, size;
+    int written;
+};
+static struct buffer b[MOST];
+static uint64_t s[MOST];
+static size_t buffers, scalars, used;
+
+// All buffers of a case with their guards, and a copy from before the call.
+static unsigned char *now, *before;
+static uint32_t noise[NOISE];
+
+static uint32_t call(uint32_t which) {
+#define B(k) b[k].at, b[k].n
+    switch (which) {
+    case 0: return vrt49_read(B(0), B(1));
+    case 1: return vrt49_write(B(0), B(1), B(2), s[0], B(3));
+    case 2: return vrt49_trailer_parts(s[0], B(0));
+    case 3: return vrt49_trailer_word(s[0], s[1], s[2], s[3], B(0));
+    case 4: return vrt49_field_count(s[0]);
+    case 5: return vrt49_check_body(B(0));
+    case 6: return vrt49_find(B(0), s[0], B(1));
+    case 7: return vrt49_unpack(s[0], s[1], s[2], B(0), B(1), B(2), B(3));
+    case 8: return vrt49_pack(s[0], s[1], B(0), B(1), B(2), B(3), B(4));
+    case 9: return vrt49_words_needed(s[0], s[1], s[2], B(0));
+    case 10: return vrt49_signed(s[0], s[1], B(0));
+    case 11: return vrt49_start(B(0), B(1), B(2));
+    case 12: return vrt49_well_made(B(0));
+    case 13: return vrt49_play(B(0), B(1), B(2));
+    case 14: return vrt49_play_run(B(0), B(1), s[0], B(2), B(3));
+    case 15: return vrt49_page_length(B(0), B(1));
+    case 16: return vrt49_save(B(0), B(1), B(2));
+    case 17: return vrt49_put_back(B(0), B(1), B(2));
+    case 18: return vrt49_reading(B(0), s[0], s[1], B(1), B(2), B(3));
+    default: return vrt49_held_words(B(0), s[0], s[1], B(1), B(2));
+    }
+#undef B
+}
+
+static void fail(const char *what) {
+    fprintf(stderr, "drive: %s\n", what);
+    exit(2);
+}
+
+static void take(void *to, size_t bytes) {
+    if (fread(to, 1, bytes, stdin) != bytes)
+        fail("the input ends inside a case");
+}
+
+static uint32_t word(void) {
+    uint32_t w;
+    take(&w, 4);
+    return w;
+}
+
+static uint64_t two_words(void) {
+    uint64_t low = word();
+    return low | (uint64_t)word() << 32;
+}
+
+static void guard(size_t upto) {
+    for (; used < upto; used++)
+        now[used] = 0xC3 ^ used * 29;
+}
+
+static uint64_t noise_at(size_t i, size_t size) {
+    uint64_t w = noise[i % NOISE];
+    return size == 8 ? w << 32 | (w ^ 0xFFFFFFFF) : w;
+}
+
+// One buffer: its entries, then a place in the noise or the mark that the contents follow, filled up to whole words.
+static void buffer(size_t size, int written) {
+    struct buffer *x = &b[buffers++];
+    x->n = word();
+    x->size = size;
+    x->written = written;
+    size_t bytes = x->n * size, place = word();
+    guard((used + GUARD + 7) / 8 * 8);
+    if (used + bytes + 2 * GUARD > ARENA)
+        fail("a case is too long");
+    x->at = now + used;
+    if (place == CONTENTS_FOLLOW)
+        take(x->at, (bytes + 3) / 4 * 4);
+    else
+        for (size_t i = 0; i < x->n; i++) {
+            uint64_t entry = noise_at(place + i, size);
+            memcpy((unsigned char *)x->at + i * size, &entry, size); // the low bytes
+        }
+    used += bytes;
+    guard(used + GUARD);
+}
+
+static void argument(char kind) {
+    switch (kind) {
+    case 'w': s[scalars++] = word(); break;
+    case 'q': s[scalars++] = two_words(); break;
+    case 'i': buffer(4, 0); break;
+    case 'I': buffer(4, 1); break;
+    case 'l': buffer(8, 0); break;
+    case 'L': buffer(8, 1); break;
+    case 'h': buffer(2, 0); break;
+    case 'H': buffer(2, 1); break;
+    case 'b': buffer(1, 0); break;
+    default: buffer(1, 1); break;
+    }
+}
+
+static size_t place_of(const struct buffer *x) { return (unsigned char *)x->at - now; }
+static size_t end_of(const struct buffer *x) { return place_of(x) + x->n * x->size; }
+
+// Says where the first change between two places is, and ends.
+static void changed(uint32_t which, unsigned long number, uint32_t answer, size_t from, size_t to) {
+    while (from < to && now[from] == before[from])
+        from++;
+    fprintf(stderr, "%s, case %lu, answered %u: ", calls[which].name, number, answer);
+    for (size_t k = 0; k < buffers; k++) {
+        const char *name = calls[which].buffers[k];
+        if (from < place_of(&b[k])) {
+            fprintf(stderr, "wrote before %s\n", name);
+            exit(1);
+        }
+        if (from < end_of(&b[k])) {
+            fprintf(stderr, "changed entry %zu of %s, which %s\n", (from - place_of(&b[k])) / b[k].size, name,
+                    b[k].written ? "a refusal leaves alone" : "is only read");
+            exit(1);
+        }
+        if (k + 1 == buffers || from < end_of(&b[k]) + GUARD) {
+            fprintf(stderr, "wrote past the end of %s\n", name);
+            exit(1);
+        }
+    }
+    exit(1);
+}
+
+static void look(uint32_t which, unsigned long number, uint32_t answer) {
+    size_t from = 0;
+    for (size_t k = 0; k < buffers; k++)
+        if (b[k].written && answer == 0) {
+            if (memcmp(now + from, before + from, place_of(&b[k]) - from))
+                changed(which, number, answer, from, place_of(&b[k]));
+            from = end_of(&b[k]);
+        }
+    if (memcmp(now + from, before + from, used - from))
+        changed(which, number, answer, from, used);
+}
+
+// Spoils one answer, and gives what is still to be spoilt: 1 the number of the third case, 2 an entry written by an accepted
+// case, 3 the byte past a buffer, 4 an entry that is only read, 5 an entry that a refusal should leave alone.
+static int bend(int how, unsigned long done, uint32_t *answer) {
+    if (how == 1 && done == 2) {
+        *answer ^= 1;
+        return 0;
+    }
+    for (size_t k = 0; k < buffers; k++) {
+        unsigned char *at = b[k].at;
+        if (how == 3) {
+            at[b[k].n * b[k].size] ^= 1;
+            return 0;
+        }
+        if (b[k].n && ((how == 2 && b[k].written && *answer == 0) || (how == 4 && !b[k].written) ||
+                       (how == 5 && b[k].written && *answer != 0))) {
+            *at ^= 1;
+            return 0;
+        }
+    }
+    return how;
+}
+
+int main(int argc, char **argv) {
+    unsigned long first = argc > 1 ? strtoul(argv[1], 0, 10) : 0;
+    int bent = getenv("BEND") ? atoi(getenv("BEND")) : 0;
+    now = malloc(ARENA);
+    before = malloc(ARENA);
+    if (!now || !before)
+        fail("no memory");
+    uint32_t x = 1;
+    for (size_t i = 0; i < NOISE; i++) {
+        x = x * 1664525 + 1013904223;
+        noise[i] = x ^ x >> 16;
+    }
+    uint32_t which;
+    for (unsigned long done = 0; fread(&which, 1, 4, stdin) == 4; done++) {
+        if (which >= CALLS)
+            fail("no such call");
+        buffers = scalars = used = 0;
+        for (const char *kind = calls[which].takes; *kind; kind++)
+            argument(*kind);
+        memcpy(before, now, used);
+        uint32_t answer = call(which);
+        if (bent > 2)
+            bent = bend(bent, done, &answer);
+        look(which, first + done, answer);
+        if (bent == 1 || bent == 2)
+            bent = bend(bent, done, &answer);
+        fwrite(&answer, 4, 1, stdout);
+        for (size_t k = 0; k < buffers; k++)
+            if (b[k].written) {
+                static const uint32_t zero;
+                size_t bytes = b[k].n * b[k].size;
+                fwrite(b[k].at, 1, bytes, stdout);
+                fwrite(&zero, 1, (4 - bytes % 4) % 4, stdout);
+            }
+    }
+    return 0;
+}

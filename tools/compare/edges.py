@@ -1,0 +1,401 @@
+"""Cases at the edges of document 01's rules, for each call: the samples of document
+01 with the number it states, every choice of optional parts, every bit of a field
+with a rule, every bit of a table and a page, every pair of counts."""
+
+import random
+
+import calls
+import making
+import page
+import payload
+import table
+import vrt49
+from calls import MOST_ITEMS, given, noisy
+from making import ONES, TERA
+
+
+def sure(case, number):
+    """A case whose number document 01 states."""
+    assert case.number == number, (case, number)
+    return case
+
+
+# The body of the sample 0x21200000 and one with every field of bits 30 to 8.
+SAMPLE_BODY = [0x21200000, 0, 0, 0xFF80, 0, 0x00100000]
+DATA = [0x140F0005, 7, 0xABCDEF12, 0x30000000, 0]
+FORMAT = 0xA00003CF
+
+
+def full_field(bit):
+    """A field whose words keep its rule, all of them different from zero."""
+    if bit == 9:
+        return [0x123456, 2, 0x41424344, 0x45000000]
+    if bit == 8:
+        return [0x00010002, 0x00018001, 1, 2, 3, 4, 5, 6]
+    if bit == 15:
+        return [FORMAT, 0x00010002]
+    return [bit * 5 + place for place in range(vrt49.FIXED_WORDS[bit])]
+
+
+def body_of(*bits):
+    made = [sum(1 << bit for bit in bits)]
+    for bit in sorted(bits, reverse=True):
+        made += full_field(bit)
+    return made
+
+
+ALL_FIELDS = body_of(*range(8, 31))
+
+
+def context(body):
+    return [4 << 28 | 2 + len(body), 7] + body
+
+
+def bits_of(words, places):
+    """The words with one bit changed, for each bit of the words at these places."""
+    for place in places:
+        for bit in range(32):
+            yield words[:place] + [words[place] ^ 1 << bit] + words[place + 1 :]
+
+
+def bodies():
+    """Bodies of every field alone, longer, shorter, and with each bit of its first
+    two words changed."""
+    yield from ([], [0], SAMPLE_BODY, ALL_FIELDS)
+    yield from bits_of(ALL_FIELDS, [0])
+    for bit in range(8, 31):
+        made = body_of(bit)
+        yield from (made, made[:-1], made[:2], made[:1], made + [0])
+        yield from bits_of(made, range(1, min(3, len(made))))
+    # sizes that pass 2^32 when summed
+    for second in (ONES, ONES - 1, 0x7FFFFFFF):
+        yield [1 << 9, 0, second, 0]
+        yield [3 << 8, 0, second, 0, 0]
+        yield [1 << 8, 0x01FF01FF, second, 0]
+    # field 9 would have one word, and the layout fit, if its size were cut to 32 bits
+    yield [3 << 8, 0, ONES, 0] + [0] * 1022
+
+
+def read(r):
+    def ask(words):
+        return calls.read_of(given(words), noisy(r, 18))
+
+    yield sure(ask([]), 1)
+    yield sure(ask([0x4065000B, 7, 1, 0, 0] + SAMPLE_BODY), 0)
+    yield sure(ask(DATA), 0)
+    yield sure(ask(DATA[:4]), 5)
+    yield sure(ask([0x140F0002] + DATA[1:]), 4)
+    yield sure(ask([0x140F0003] + DATA[1:]), 0)
+    for tsf, fraction, number in ((2, TERA - 1, 0), (2, TERA, 7), (1, TERA, 0), (3, TERA, 0)):
+        yield sure(ask([1 << 28 | tsf << 20 | 4, 7, fraction >> 32, fraction & ONES]), number)
+    for header in range(0, 1 << 32, 1 << 20):
+        # every choice of the header's upper bits: with as many words as are required,
+        # one more, a size of one fewer, and a word too few
+        kind = header >> 28
+        needed = vrt49.required_words(header) if kind < 6 else 9
+        filled = [0] * needed
+        yield ask([header | needed] + filled[1:])
+        yield ask([header | needed + 1] + filled)
+        if kind < 6:
+            yield ask([header | needed - 1] + filled)
+            yield ask([header | needed] + filled[1:-1])
+    yield from map(ask, bits_of([0x18000004, 7, 0, 0], [2]))
+    for body in bodies():
+        yield ask(context(body))
+    for n in (65534, 65535):
+        yield sure(ask([2 << 28 | 65535] + [1] * (n - 1)), 5 if n == 65534 else 0)
+
+
+def write(r):
+    def ask(parts, body, room=None, at=0):
+        room = len(body) + 9 if room is None else room
+        return calls.write_of(given(parts), given(body), noisy(r, room), at, noisy(r, 1))
+
+    yield sure(ask([1, 0, 1, 0, 0, 0, 15, 7] + [0] * 7, DATA[2:4], 5), 0)
+    yield sure(ask([1, 0, 1, 0, 0, 0, 15, 7] + [0] * 7, DATA[2:4], 4), 13)
+    for kind in range(7):
+        for flags in range(8):
+            for tsi in range(5):
+                for tsf in range(5):
+                    parts = [kind, flags & 1, flags >> 1 & 1, flags >> 2, tsi, tsf, 3, 7, 8, 9, 10, 11, 12, 13, 14]
+                    yield ask(parts, [0] if kind == 4 else [])
+    for place, bits in ((1, 1), (2, 1), (3, 1), (4, 2), (5, 2), (6, 4), (8, 24), (9, 16), (10, 16)):
+        for c in range(2):
+            for number in ((1 << bits) - 1, 1 << bits, (1 << bits) + 1, ONES):
+                parts = [1, c, 0, 0, 1, 1, 0, 7, 0, 0, 0, 0, 0, 0, 0]
+                parts[place] = number
+                yield ask(parts, [1, 2])
+    for n in range(17):
+        yield sure(ask([1] * n, []), 17 if n != 15 else 14)
+    for fraction in (TERA - 1, TERA):
+        parts = [1, 0, 0, 0, 0, 2, 0, 7, 0, 0, 0, 0, fraction >> 32, fraction & ONES, 0]
+        yield sure(ask(parts, []), 0 if fraction < TERA else 7)
+    for n in (65532, 65533, 65534, 65535):
+        yield sure(ask([1] + [0] * 14, [5] * n), 0 if n < 65534 else 15)
+    for at in (0, 1, 2, 3, 4, 2**32, 2**63, 2**64 - 2, 2**64 - 1):
+        yield sure(ask([1] + [0] * 14, [], 3, at), 0 if at < 2 else 13)
+    for body in bodies():
+        yield ask([4] + [0] * 14, body)
+
+
+def trailer_parts(r):
+    for word in [0, ONES, 0x40040000] + [1 << bit for bit in range(32)]:
+        answer = noisy(r, 4)
+        yield calls.Case([word, answer], 0, {1: calls.put(answer, vrt49.trailer_parts(word))})
+
+
+def field_count(r):
+    some = [0, ONES, 0x21200000, 0x7FFFFC00, 1 << 31]
+    for word in some + [1 << bit for bit in range(32)] + [ONES << bit & ONES for bit in range(32)]:
+        yield calls.field_count_of(word)
+
+
+def check_body(r):
+    for body in bodies():
+        yield calls.check_body_of(given(body))
+
+
+def find(r):
+    for body in [*bodies()][::7] + [[], [0], ALL_FIELDS, ALL_FIELDS[:-1], ALL_FIELDS[:40], SAMPLE_BODY]:
+        for bit in [*range(34), ONES]:
+            lent = [given(body), bit, noisy(r, 3, "Q")]
+            yield calls.Case(lent, 0, {2: calls.put(lent[2], calls.found(body, bit))})
+
+
+def formats():
+    """Formats of every size of packing field and of item, in both packings, and one
+    with each bit changed."""
+    for link in (0, 1):
+        for f in range(1, 65):
+            yield link << 31 | (f - 1) << 6 | (f - 1), 0
+            yield link << 31 | (f - 1) << 6, 0
+    for bit in range(32):
+        yield FORMAT ^ 1 << bit, 0
+        yield FORMAT, 1 << bit
+        yield 0x007F0FE3 ^ 1 << bit, 0
+    for code in range(32):
+        yield code << 24 | 0xFFF, 0
+        yield code << 24 | 0x7DF, 0
+
+
+def unpack(r):
+    def ask(first, second, n, words, room):
+        return calls.unpack_of(first, second, n, given(words), [noisy(r, room, code) for code in "QBH"])
+
+    yield sure(ask(0x800002CB, 0, 3, [0xABCDEF12, 0x30000000], 3), 0)
+    yield sure(ask(0x000002CB, 0, 3, [0xABCDEF00, 0x12300000], 3), 0)
+    yield sure(ask(0x801203CB, 0, 1, [0xABC60000], 1), 0)
+    yield sure(ask(0x80000000, 0, MOST_ITEMS + 1, [0] * 65536, 3), 17)
+    for first, second in formats():
+        for n in (0, 1, 2, 3, 33):
+            needed = 2 if payload.format_refused(first, second) else payload.words_for(first, n)
+            yield ask(first, second, n, making.words(r, needed), n)
+            yield ask(first, second, n, making.words(r, needed + 1), n)
+    # the most items, of one bit
+    yield sure(ask(0x80000000, 0, MOST_ITEMS, list(noisy(r, 65535).entries), MOST_ITEMS), 0)
+
+
+def pack(r):
+    def ask(first, second, items, events, channels, room):
+        lent = (given(items, "Q"), given(events, "B"), given(channels, "H"))
+        return calls.pack_of(first, second, *lent, noisy(r, room), noisy(r, 1))
+
+    yield sure(ask(0x800002CB, 0, [0xABC, 0xDEF, 0x123], [0] * 3, [0] * 3, 2), 0)
+    yield sure(ask(0x000002CB, 0, [0xABC, 0xDEF, 0x123], [0] * 3, [0] * 3, 2), 0)
+    yield sure(ask(0x801203CB, 0, [0xABC], [1], [2], 1), 0)
+    yield sure(ask(0x801203CB, 0, [0xABC], [2], [2], 1), 14)
+    yield sure(ask(0x801203CB, 0, [0xABC], [1], [4], 1), 14)
+    yield sure(ask(0x801203CB, 0, [0x1ABC], [1], [2], 1), 14)
+    for first, second in formats():
+        for n in (0, 1, 2, 3, 33):
+            refused = payload.format_refused(first, second)
+            needed = 2 if refused else payload.words_for(first, n)
+            items = [r.getrandbits(payload.item_size(first)) for _ in range(n)]
+            events = [r.getrandbits(payload.event_size(first)) for _ in range(n)]
+            channels = [r.getrandbits(payload.channel_size(first)) for _ in range(n)]
+            yield ask(first, second, items, events, channels, needed)
+            if n:
+                yield ask(first, second, items, events, channels, needed - 1)
+                yield ask(first, second, items, events[1:], channels, needed)
+                # one number of a bit more than fits, where its type can say it
+                for place, (numbers, most) in enumerate(((items, 64), (events, 8), (channels, 16))):
+                    size = (payload.item_size, payload.event_size, payload.channel_size)[place](first)
+                    if size < most:
+                        wrong = numbers[:-1] + [1 << size]
+                        yield ask(first, second, *[wrong if k == place else x for k, x in enumerate((items, events, channels))], needed)
+    # one item too many, and the most items, of one bit
+    n = MOST_ITEMS + 1
+    lent = [noisy(r, n, code) for code in "QBH"]
+    yield sure(calls.pack_of(0x80000FFF, 0, *lent, noisy(r, 3), noisy(r, 1)), 17)
+    items = [word & 1 for word in noisy(r, MOST_ITEMS).entries]
+    yield sure(ask(0x80000000, 0, items, bytes(MOST_ITEMS), [0] * MOST_ITEMS, 65535), 0)
+
+
+def words_needed(r):
+    for first, second in [*formats(), (FORMAT, 0), (FORMAT, 2), (0xFFF, 0xFFFF)]:
+        unit = payload.unit(first, second)
+        for n in (0, 1, 31, 32, 33, MOST_ITEMS - 1, MOST_ITEMS, MOST_ITEMS + 1, MOST_ITEMS // unit * unit, 2**32, 2**64 - 1):
+            answer = noisy(r, 1)
+            said, what = payload.words_needed(first, second, n)
+            lent = [first, second, n, answer]
+            yield calls.refused(lent, what) if said == "refused" else calls.Case(lent, 0, {3: calls.put(answer, [what])})
+
+
+def signed(r):
+    for width in [*range(67), ONES]:
+        for item in (0, 1, 0x800, 2**64 - 1, *[(1 << min(width, 64)) + k for k in (-1, 0)], 1 << max(0, min(width, 64) - 1)):
+            value = noisy(r, 1, "Q")
+            said, what = payload.signed(width, item % 2**64)
+            lent = [width, item % 2**64, value]
+            yield calls.refused(lent, what) if said == "refused" else calls.Case(lent, 0, {2: calls.put(value, [what % 2**64])})
+
+
+def start(r):
+    def ask(ids, room):
+        return calls.start_of(given(ids), noisy(r, room), noisy(r, 1))
+
+    for n in range(41):
+        room = table.layout_length(n)
+        yield sure(ask(range(n), room), 0 if 1 <= n <= 32 else 12)
+        yield sure(ask(range(n), room - 1), 13 if 1 <= n <= 32 else 12)
+        yield sure(ask(range(n), 0), 13 if 1 <= n <= 32 else 12)
+    for place in range(32):
+        for other in range(place):
+            ids = [*range(32)]
+            ids[other] = ids[place]
+            yield sure(ask(ids, 2817), 12)
+
+
+def full_stream(identifier):
+    """A stream that has started all its counts and holds every field."""
+    counts = {kind: {"seen": kind, "missing": 9, "last": kind} for kind in table.COUNTED_TYPES}
+    return {"identifier": identifier, "counts": counts, "held": {bit: full_field(bit) for bit in table.HELD_BITS}}
+
+
+def tables():
+    """Tables of one stream, fresh, started and full, of some and of 32."""
+    yield table.layout([table.fresh_stream(7)])
+    yield table.layout([full_stream(7)])
+    yield table.layout([table.fresh_stream(7), full_stream(8), table.fresh_stream(9)])
+    yield table.layout([full_stream(i) for i in range(32)])
+
+
+def well_made(r):
+    def ask(lent):
+        return calls.Case([given(lent)], 1 if table.well_made(lent) else 0, {})
+
+    for lent in tables():
+        yield sure(ask(lent), 1)
+        yield sure(ask(lent + [5]), 1)
+        yield sure(ask(lent[:-1]), 0)
+    one, full, three, _ = tables()
+    for made in (one, full):
+        yield from map(ask, bits_of(made, range(len(made))))
+    yield from map(ask, bits_of(three, [0, 1, 2, 90, 178, 264]))
+
+
+def played_table(last, seen=1, missing=0):
+    stream = table.fresh_stream(7)
+    for kind in table.COUNTED_TYPES:
+        stream["counts"][kind] = {"seen": seen, "missing": missing, "last": last}
+    return table.layout([table.fresh_stream(5), stream])
+
+
+def play(r):
+    def ask(lent, words):
+        return calls.play_of(given(lent), given(words), noisy(r, 4))
+
+    def packet(kind, count):
+        return [kind << 28 | count << 16 | (3 if kind == 4 else 2), 7] + ([0] if kind == 4 else [])
+
+    for kind in table.COUNTED_TYPES:
+        for count in range(16):
+            yield sure(ask(table.layout([table.fresh_stream(7)]), packet(kind, count)), 0)
+            for last in range(16):
+                case = ask(played_table(last, ONES, ONES - count), packet(kind, count))
+                assert case.after[2][3] == (count - last - 1) % 16
+                yield sure(case, 0)
+    assert ask(played_table(14), packet(1, 2)).after[2][3] == 3
+    assert ask(played_table(2), packet(1, 2)).after[2][3] == 15
+    for lent in tables():
+        for body in [*bodies()][::11]:
+            yield ask(lent, context(body))
+        for bit in range(8, 31):
+            yield ask(lent, context(body_of(bit)))
+    for kind in (0, 2):
+        yield sure(ask(played_table(1), [kind << 28 | 1]), 11)
+    yield sure(ask(played_table(1), [1 << 28 | 2, 8]), 11)
+    # both a table that is not well made and a packet that is refused
+    yield sure(ask([0], []), 18)
+    yield sure(ask([], [ONES]), 18)
+
+
+def play_run(r):
+    recording = [*DATA, 0x14020005, 7, 0, 0, 0]
+    for n in range(len(recording) + 1):
+        for entries in (0, 4, 5, 10, 14, 15):
+            for start_at in (0, 5, 10, 11):
+                lent = table.layout([table.fresh_stream(7)])
+                said, written, after = calls.run(lent, recording[:n], start_at, entries // 5)
+                answer, reached = noisy(r, entries), noisy(r, 2, "Q")
+                args = [given(lent), given(recording[:n]), start_at, answer, reached]
+                yield calls.Case(args, 0, {
+                    0: calls.array("I", after), 3: calls.put(answer, written), 4: calls.put(reached, said[1:]),
+                })
+
+
+def page_length(r):
+    for streams in range(1, 33):
+        for made, length in (
+            ([table.fresh_stream(i) for i in range(streams)], 2 + 16 * streams),
+            ([full_stream(i) for i in range(streams)], 2 + 90 * streams),
+        ):
+            answer = noisy(r, 1)
+            assert page.page_length(table.layout(made)) == ("length", length)
+            yield calls.Case([given(table.layout(made)), answer], 0, {1: calls.put(answer, [length])})
+
+
+def save(r):
+    for streams in (1, 2, 31, 32):
+        made = [full_stream(i) for i in range(streams)]
+        lent = table.layout(made)
+        length = 2 + 90 * streams
+        for room in (length, length + 1, length - 1, 0):
+            out, answer = noisy(r, room), noisy(r, 1)
+            (said, what), after = page.save(lent, list(out.entries))
+            args = [given(lent), out, answer]
+            if room < length:
+                yield sure(calls.refused(args, what), 13)
+            else:
+                yield calls.Case(args, 0, {1: calls.array("I", after), 2: calls.put(answer, [length])})
+
+
+def put_back(r):
+    def ask(words, room=177):
+        out, answer = noisy(r, room), noisy(r, 1)
+        args = [given(words), out, answer]
+        (said, what), after = page.put_back(words, list(out.entries))
+        if said == "refused":
+            return calls.refused(args, what)
+        return calls.Case(args, 0, {1: calls.array("I", after), 2: calls.put(answer, [what])})
+
+    fresh, full = page.page_of([table.fresh_stream(7)]), page.page_of([full_stream(7)])
+    yield sure(ask([]), 19)
+    for made in (fresh, full):
+        yield sure(ask(made), 0)
+        yield sure(ask(made, 89), 0)
+        yield sure(ask(made, 88), 13)
+        yield sure(ask(made + [0]), 19)
+        yield sure(ask(made[:-1]), 19)
+        yield from map(ask, bits_of(made, range(len(made))))
+    three = page.page_of([table.fresh_stream(7), full_stream(8), table.fresh_stream(9)])
+    yield from (ask(words, 265) for words in bits_of(three, range(9)))
+    for streams in (31, 32):
+        yield sure(ask(page.page_of([full_stream(i) for i in range(streams)]), 2817), 0)
+
+
+def edges(name):
+    """The edges of a call, the same each time; trailer_word, reading and held_words
+    have theirs among the others."""
+    make = globals().get(name.removeprefix("vrt49_"))
+    return list(make(random.Random(f"edges {name}"))) if make else []

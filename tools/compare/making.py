@@ -1,0 +1,419 @@
+"""Makes packets, bodies, formats, tables and pages for the cases: good ones, and
+bent ones.
+
+Every function takes a random.Random first.  What is made here need not be as
+document 01 says; what it should give is asked of the reference.
+"""
+
+import table
+import vrt49
+import vrt49_write
+from vrt49 import FIXED_WORDS, ITEM_CODES
+
+ONES = 0xFFFFFFFF
+TERA = 10**12
+
+# Words at the edges of what the rules look at.
+EDGES = (
+    0, 1, 2, 15, 16, 17, 32, 0x7F, 0x80, 0xFF80, 0xFFFF, 0x10000, 0xFFFFFF,
+    0x1000000, 0x7FFFFFFF, 0x80000000, 0xFFFFFF00, ONES,
+)
+
+
+def word(r):
+    kind = r.randrange(8)
+    if kind < 4:
+        return r.getrandbits(32)
+    if kind == 4:
+        return r.getrandbits(r.randrange(33))
+    if kind == 5:
+        return 1 << r.randrange(32)
+    return r.choice(EDGES)
+
+
+def words(r, n):
+    return [word(r) for _ in range(n)]
+
+
+# Bending.
+
+
+def bend_bit(r, made):
+    """A bit changed, often one of the first words."""
+    if not made:
+        return [word(r)]
+    bent = list(made)
+    place = r.randrange(min(len(bent), 8) if r.randrange(2) else len(bent))
+    bent[place] ^= 1 << r.randrange(32)
+    return bent
+
+
+def bend_word(r, made):
+    if not made:
+        return [word(r)]
+    bent = list(made)
+    place = r.randrange(min(len(bent), 8) if r.randrange(2) else len(bent))
+    if r.randrange(3) == 0:
+        bent[place] = (bent[place] + r.choice((1, ONES))) & ONES
+    else:
+        bent[place] = word(r)
+    return bent
+
+
+def bend_length(r, made):
+    """Words taken away or put in, at the end or inside."""
+    bent = list(made)
+    kind = r.randrange(5)
+    if kind == 0:
+        return bent[: r.randrange(len(bent) + 1)]
+    if kind == 1:
+        return bent[:-1]
+    if kind == 2:
+        return bent + words(r, r.randrange(1, 4))
+    place = r.randrange(len(bent) + 1)
+    if kind == 3:
+        return bent[:place] + bent[place + 1 :]
+    return bent[:place] + [word(r)] + bent[place:]
+
+
+def bent(r, made):
+    return r.choice((bend_bit, bend_bit, bend_word, bend_length))(r, made)
+
+
+# Formats.
+
+
+def format_first(r):
+    """The first word of a format that keeps its rule."""
+    code = r.choice(ITEM_CODES)
+    item = {14: 32, 15: 64}.get(code) or r.choice((1, r.randint(1, 64), r.randint(1, 16), 16, 32))
+    event = min(r.choice((0, 0, r.randrange(8))), 64 - item)
+    channel = min(r.choice((0, 0, r.randrange(16))), 64 - item - event)
+    least = item + event + channel
+    packing = r.choice((least, least, r.randint(least, 64), min(64, least + r.randrange(4))))
+    link = r.randrange(2)
+    if not link and 33 <= packing <= 63:
+        # mostly one that packing takes
+        packing, link = r.choice(((packing, 1), (64, 0), (64, 0), (packing, 0)))
+    return (
+        link * 2**31
+        + r.randrange(3) * 2**29
+        + code * 2**24
+        + event * 2**20
+        + channel * 2**16
+        + (packing - 1) * 2**6
+        + (item - 1)
+    )
+
+
+def format_second(r):
+    vector = r.choice((0, 0, 0, 1, 2, r.randrange(8), r.randrange(200), r.getrandbits(16)))
+    return vector if r.randrange(16) else vector + r.choice((1 << 16, r.getrandbits(16) << 16))
+
+
+def payload_format(r):
+    """The two words of a format, now and then bent."""
+    pair = [format_first(r), format_second(r)]
+    if r.randrange(10) == 0:
+        pair[r.randrange(2)] ^= 1 << r.randrange(32)
+    if r.randrange(50) == 0:
+        pair = words(r, 2)
+    return pair
+
+
+# Fields and bodies.
+
+
+def field(r, bit):
+    """The words of a field of bits 30 to 10 that keeps its rule."""
+    made = words(r, FIXED_WORDS[bit])
+    if bit in (29, 21):
+        made[0] &= 0x7FFFFFFF
+    if bit in (24, 18):
+        made[0] &= 0xFFFF
+    if bit == 17:
+        made = [made[0] & 0xFFFFFF, made[1] & 0xFFFF]
+    if bit == 16:
+        made[0] &= ~0x00F00F00 & ONES
+    if bit == 15:
+        made[0] = format_first(r) | r.randrange(2) << 23
+    return made
+
+
+def gps_ascii(r):
+    n = r.choice((0, 1, 2, r.randrange(12)))
+    return [word(r) & 0xFFFFFF, n] + words(r, n)
+
+
+def lists(r):
+    source, system, vector, asynchronous = (r.choice((0, 0, 1, r.randrange(6))) for _ in range(4))
+    twice = r.randrange(2)
+    n = source + system + vector + asynchronous * (1 + twice)
+    return [source * 2**16 + system, vector * 2**16 + twice * 2**15 + asynchronous] + words(r, n)
+
+
+def indicator(r):
+    """An indicator word with few, some, many or all of the bits 31 to 8."""
+    kind = r.randrange(10)
+    made = r.getrandbits(32)
+    if kind < 6:
+        made &= r.getrandbits(32) & r.getrandbits(32)
+    elif kind == 6:
+        made = r.choice((0, 1 << 31, 0x7FFFFC00, 0x7FFFFF00, ONES, 1 << 9, 1 << 8, 3 << 8))
+    elif kind == 7:
+        made = 1 << r.randrange(8, 31)
+    return made & 0xFFFFFF00
+
+
+def context_body(r):
+    """A type 4 body as document 01 says."""
+    body = [indicator(r)]
+    for bit in range(30, 7, -1):
+        if body[0] >> bit & 1:
+            body += gps_ascii(r) if bit == 9 else lists(r) if bit == 8 else field(r, bit)
+    return body
+
+
+def break_rule(r, body):
+    """A bit set in the first two words of one of the fields, often one that its
+    rule forbids; the layout mostly stays."""
+    found = vrt49.fields(body) if body else None
+    if not found:
+        return bent(r, body)
+    _, place, count = r.choice([f for f in found if f[0] in vrt49.FIELD_RULES] or found)
+    broken = list(body)
+    broken[place + r.randrange(min(count, 2))] ^= 1 << r.choice((r.randrange(32), 31, 24, 16, 12, 23, 25, 9))
+    return broken
+
+
+def some_body(r):
+    """A type 4 body, good or not."""
+    kind = r.randrange(10)
+    if kind < 4:
+        return context_body(r)
+    if kind < 6:
+        return break_rule(r, context_body(r))
+    if kind < 9:
+        return bent(r, context_body(r))
+    made = words(r, r.randrange(12))
+    if made and r.randrange(3):
+        made[0] &= 0xFFFFFF00
+    return made
+
+
+# Packets.
+
+
+def fraction(r, tsf):
+    kind = r.randrange(8)
+    if kind == 0:
+        return r.choice((0, TERA - 1, TERA, TERA + 1, 2**32 - 1, 2**32, 2**64 - 1, 232 * 2**32, 233 * 2**32))
+    if kind == 1:
+        return r.getrandbits(64)
+    return r.randrange(TERA) if tsf == 2 else r.getrandbits(64)
+
+
+def parts(r, kind=None, identifier=None):
+    """The parts of a packet that writing takes, but for the time, mostly."""
+    kind = r.choice((0, 1, 1, 2, 3, 4, 4, 4, 5)) if kind is None else kind
+    tsi, tsf = r.randrange(4), r.randrange(4)
+    return vrt49_write.Parts(
+        type=kind,
+        class_flag=r.randrange(2),
+        trailer_flag=r.randrange(2) if kind < 4 else 0,
+        tsm=r.randrange(2) if kind > 3 else 0,
+        tsi=tsi,
+        tsf=tsf,
+        count=r.randrange(16),
+        identifier=word(r) if identifier is None else identifier,
+        oui=word(r) & 0xFFFFFF,
+        information=word(r) & 0xFFFF,
+        packet=word(r) & 0xFFFF,
+        seconds=word(r),
+        fraction=fraction(r, tsf),
+        trailer=word(r),
+    )
+
+
+def body_for(r, kind):
+    if kind == 4:
+        return context_body(r)
+    return words(r, r.choice((0, 0, 1, 2, r.randrange(9), r.randrange(40))))
+
+
+def packet(r, kind=None, identifier=None):
+    """The words of a packet, good but for the time, now and then."""
+    made = parts(r, kind, identifier)
+    return vrt49_write.packet_words(made, body_for(r, made.type))
+
+
+def resized(made, size):
+    """The same words with another size in the header."""
+    return [made[0] & 0xFFFF0000 | size % 65536] + made[1:]
+
+
+def bent_packet(r, made):
+    """A packet bent in one way, or in two."""
+    kind = r.randrange(10)
+    if kind == 0:
+        return resized(made, len(made) + r.choice((-2, -1, 1, 2, -len(made), r.randrange(65536))))
+    if kind == 1:
+        # its size cut to few words, so that parts are missing
+        return resized(made, r.randrange(min(len(made), 10) + 1))
+    if kind == 2:
+        # longer or shorter inside, with a size that says so
+        other = bend_length(r, made)
+        return resized(other, len(other)) if other else other
+    if kind == 3 and made[0] >> 28 == 4:
+        place = vrt49.body_place(made[0])
+        other = made[:place] + break_rule(r, made[place:])
+        return resized(other, len(other))
+    if kind == 4 and made[0] >> 27 & 1:
+        other = list(made)
+        other[vrt49.class_place(made[0])] |= 1 << r.randrange(24, 32)
+        return other
+    if kind == 5:
+        return bent(r, bent(r, made))
+    if kind == 6:
+        return bend_bit(r, [made[0]]) + made[1:]
+    return bent(r, made)
+
+
+def random_packet(r):
+    """Words without a plan, with a header whose size is not far off."""
+    made = words(r, r.randrange(1, 40))
+    if r.randrange(2):
+        made[0] = r.randrange(6) << 28 | r.getrandbits(12) << 16 | len(made)
+    return resized(made, max(0, len(made) - r.choice((0, 0, 1, 3)))) if r.randrange(2) else made
+
+
+def some_packet(r, kind=None, identifier=None):
+    """A packet, good or not, with words past it, now and then."""
+    how = r.randrange(20)
+    if how < 8:
+        made = packet(r, kind, identifier)
+    elif how < 18:
+        made = bent_packet(r, packet(r, kind, identifier))
+    else:
+        made = random_packet(r)
+    return made + words(r, r.choice((0, 0, 0, 1, 5)))
+
+
+# Tables and pages.
+
+
+def streams(r):
+    return r.choice((1, 1, 1, 1, 2, 2, 3, r.randint(1, 5), r.choice((1, 2, r.randint(1, 32), 32))))
+
+
+def identifiers(r, n):
+    made = []
+    while len(made) < n:
+        identifier = word(r) if r.randrange(2) else r.randrange(64)
+        if identifier not in made:
+            made.append(identifier)
+    return made
+
+
+def count(r):
+    if r.randrange(3) == 0:
+        return {"seen": 0, "missing": 0, "last": None}
+    return {"seen": word(r), "missing": word(r), "last": r.randrange(16)}
+
+
+def stream(r, identifier):
+    """One stream of a table that is well made."""
+    counts = {kind: count(r) for kind in table.COUNTED_TYPES}
+    held = {}
+    if counts[4]["last"] is not None and r.randrange(5):
+        carried = indicator(r)
+        held = {bit: field(r, bit) for bit in table.HELD_BITS if carried >> bit & 1}
+    return {"identifier": identifier, "counts": counts, "held": held}
+
+
+def some_streams(r, n=None):
+    """A well-made table, as dictionaries."""
+    return [stream(r, i) for i in identifiers(r, n or streams(r))]
+
+
+# Where a bend of a record is worth while: identifier, held indicator, counts.
+FRONT_WORDS = 14
+
+
+def bend_table(r, made):
+    """The words of a table, bent where a rule looks."""
+    bent_words = list(made)
+    kind = r.randrange(9)
+    record = 1 + 88 * r.randrange((len(made) - 1) // 88)
+    if kind == 0:
+        return bend_length(r, made)
+    if kind == 1:
+        bent_words[0] = r.choice((0, 33, made[0] + 1, made[0] - 1, word(r)))
+    elif kind == 2:
+        # one identifier twice, or another
+        other = 1 + 88 * r.randrange((len(made) - 1) // 88)
+        bent_words[record] = bent_words[other]
+    elif kind == 3:
+        bent_words[record + 1] ^= 1 << r.randrange(32)
+    elif kind == 4:
+        place = record + 2 + r.randrange(12)
+        bent_words[place] = r.choice((0, 0, 1, 15, 16, 17, word(r)))
+    elif kind == 5:
+        # a slot, by a bit or a word
+        place = record + FRONT_WORDS + r.randrange(74)
+        bent_words[place] = bent_words[place] ^ 1 << r.randrange(32) if r.randrange(2) else word(r)
+    elif kind == 6:
+        # a slot that has a rule
+        place = record + r.choice((15, 25, 28, 33, 34, 35, 36, 37))
+        bent_words[place] ^= 1 << r.randrange(32)
+    elif kind == 7:
+        # type 4 not started
+        bent_words[record + 8 : record + 11] = [0, 0, 0]
+    else:
+        return bent(r, made)
+    return bent_words
+
+
+def some_table(r, n=None):
+    """The words of a table, good or bent, with words past it, now and then."""
+    made = table.layout(some_streams(r, n))
+    if r.randrange(3) == 0:
+        made = bend_table(r, made)
+    return made + words(r, r.choice((0, 0, 0, 1, 7, 90)))
+
+
+def bend_page(r, made):
+    """The words of a page, bent where a rule looks."""
+    bent_words = list(made)
+    n = made[0]
+    kind = r.randrange(10)
+    at = made[2 + 2 * r.randrange(n)]
+    if kind == 0:
+        return bend_length(r, made)
+    if kind == 1:
+        # another length, said in word 1 as well
+        other = bend_length(r, made)
+        return other[:1] + [len(other)] + other[2:] if len(other) > 1 else other
+    if kind == 2:
+        bent_words[r.randrange(2)] = r.choice((0, 33, n + 1, n - 1, len(made) + 1, word(r)))
+    elif kind == 3:
+        place = 2 + r.randrange(2 * n)
+        bent_words[place] = (bent_words[place] + r.choice((1, ONES, 88, word(r)))) & ONES
+    elif kind == 4:
+        bent_words[at + 1] ^= 1 << r.randrange(32)
+    elif kind == 5:
+        bent_words[at + 2 + r.randrange(12)] = r.choice((0, 0, 1, 15, 16, 17, word(r)))
+    elif kind == 6:
+        bent_words[at] = made[made[2 + 2 * r.randrange(n)]]
+    elif kind == 7:
+        bent_words[at + 8 : at + 11] = [0, 0, 0]
+    elif kind == 8:
+        # one word moved from a body to its neighbour
+        place = r.randrange(n)
+        bent_words[3 + 2 * place] += 1
+        if place + 1 < n:
+            bent_words[4 + 2 * place] += 1
+            bent_words[5 + 2 * place] -= 1
+    else:
+        return bent(r, made)
+    return bent_words
