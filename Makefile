@@ -1,5 +1,5 @@
-# The two commands of the README: make play, make test; and for C: make lib, make example.
-.PHONY: play test lib example vectors
+# make play, make test; for C: make lib, make example; make compare, make speed; make vectors.
+.PHONY: play test lib example compare speed vectors
 
 # plays the sample survey and prints a line for each packet
 play:
@@ -20,6 +20,14 @@ lib:
 example: lib
 	@tools/run_c examples/c/survey.c
 
+# holds the library for C to the reference, to UHD and to tshark, and vrtplay to its recordings
+compare:
+	@tools/compare/compare.sh
+
+# counts executed instructions against C by hand, and against UHD
+speed: lib
+	@bench/measure.sh
+
 # makes the vectors and what they should give again, from the reference
 vectors:
 	python3 -B tools/reference/read_vectors.py crates/read_vectors/stdin crates/read_vectors/stdout
@@ -30,8 +38,3 @@ vectors:
 	python3 -B tools/reference/panel_vectors.py crates/panel_vectors/stdin crates/panel_vectors/stdout
 	python3 -B tools/reference/sample_packets.py samples/packets
 	python3 -B tools/reference/recordings.py samples/recordings
-
-# holds the library for C to the reference, to UHD and to tshark, and vrtplay to its recordings
-.PHONY: compare
-compare:
-	@tools/compare/compare.sh

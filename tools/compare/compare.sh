@@ -16,18 +16,7 @@ if [ "$(uname -m)" != x86_64 ]; then
     cc=x86_64-linux-gnu-gcc
     run=qemu-x86_64
 fi
-echo "make compare uses these packages of Debian and installs those that are missing: $needed"
-missing=
-for package in $needed; do
-    [ "$(dpkg-query -W -f '${db:Status-Status}' "$package" 2>/dev/null)" = installed ] || missing="$missing $package"
-done
-if [ -n "$missing" ]; then
-    echo "installing:$missing"
-    root=
-    [ "$(id -u)" = 0 ] || root=sudo
-    { $root apt-get update -q && $root env DEBIAN_FRONTEND=noninteractive apt-get install -y -q --no-install-recommends $missing; } \
-        >"$work/install.log" 2>&1 || { tail -5 "$work/install.log"; exit 2; }
-fi
+tools/from_debian 'make compare' $needed
 
 summary=$work/summary
 : >"$summary"

@@ -1,0 +1,21 @@
+#!/bin/sh
+# Executed instructions of the proved calls against C by hand, and of reading against UHD: what `make speed` runs.
+# It builds everything for x86-64 and counts under qemu, so that the numbers are the same on every machine.
+set -eu
+cd "$(dirname "$0")/.."
+if [ "$(uname -m)" = x86_64 ]; then
+    tools/from_debian 'make speed' g++ qemu-user libuhd-dev libboost-dev
+    export CC=gcc CXX=g++
+else
+    tools/from_debian 'make speed' gcc-x86-64-linux-gnu g++-x86-64-linux-gnu qemu-user libuhd-dev libboost-dev
+fi
+for part in calls play payload; do
+    echo
+    echo "bench/$part/measure.sh"
+    "bench/$part/measure.sh"
+done
+echo
+echo 'bench/uhd/measure.sh'
+LIBRARY=target/staticlib/libvrt49.a bench/uhd/measure.sh
+echo
+echo 'counted: read, write, play, save, put_back; play_run and the table test; unpack and pack by width; reading a header by UHD'
