@@ -1,7 +1,7 @@
 -- The walk over a recording. Document 01, of `vrtplay`: it "stops when no word is left"; "STREAM goes on by the size, any other ends at W". What a walk does is
 -- what play does, packet by packet.
 use mathlib.Core.Path.{_≡_}
-use Prim.Native.Nat.{ℕ, zero, suc, _+_, _-_, _/_, _<_}
+use Prim.Native.Nat.{ℕ, zero, suc, _+_, _-_, _/_}
 use mathlib.Core.Bool.{Bool, true}
 use mathlib.Core.List.{List, [], _∷_, _++_}
 use lib.Dec.{eqb, leb}
@@ -52,11 +52,6 @@ entryWords = 5
 unfoldable pub entryOf : Outcome Heard → ℕ → List ℕ
 entryOf (refused n) size = n ∷ when (eqb n STREAM) size ∷ 0 ∷ 0 ∷ 0 ∷ []
 entryOf (accepted h) size = 0 ∷ size ∷ h .kind ∷ h .stream ∷ h .missing ∷ []
-
--- a stream's number is small
-abbrev pub SmallStream : Outcome Heard → Type 0
-SmallStream (refused n) = Unit
-SmallStream (accepted h) = h .stream < 32
 
 unfoldable pub entryAt : List ℕ → List ℕ → ℕ → List ℕ
 entryAt t ws at = entryOf (saidAt t ws at) (sizeOf (getD ws at 0))
