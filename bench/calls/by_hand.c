@@ -106,8 +106,7 @@ u32 c_write(const u32 *q, size_t qn, const u32 *body, size_t n, u32 *out, size_t
         *w++ = q[12];
         *w++ = q[13];
     }
-    for (size_t i = 0; i < n; i++)
-        w[i] = body[i];
+    memcpy(w, body, n * 4);
     if (trailed)
         w[n] = q[14];
     a[0] = size;
