@@ -14,8 +14,12 @@ for part in calls play payload; do
     echo "bench/$part/measure.sh"
     "bench/$part/measure.sh"
 done
+export LIBRARY=target/staticlib/libvrt49.a
+echo
+echo 'bench/play/measure.sh, of the whole library'
+bench/play/measure.sh
 echo
 echo 'bench/uhd/measure.sh'
-LIBRARY=target/staticlib/libvrt49.a bench/uhd/measure.sh
+bench/uhd/measure.sh
 echo
 echo 'counted: read, write, play, save, put_back; play_run and the table test; unpack and pack by width; reading a header by UHD'

@@ -2,21 +2,28 @@
 # Instructions executed for each packet of a run, the proved play_run against C by hand, 10,000 packets; and those of the test of the table, for each stream.
 # Run it at the project's root: bench/play/measure.sh. It needs x86_64-linux-gnu-gcc (or CC set) and Debian's qemu-user.
 # BY_HAND=by_hand_tighter.c measures against the tighter C.
-# The call is exported by a crate that is made in a temporary folder from calls.txt.
+# The call is exported by a crate that is made in a temporary folder from calls.txt; LIBRARY=target/staticlib/libvrt49.a measures that of the
+# whole library.
 set -eu
 here=$(cd "$(dirname "$0")" && pwd)
 CC=${CC:-x86_64-linux-gnu-gcc}
 INSNCOUNT=${INSNCOUNT:-tools/insncount}
 case $INSNCOUNT in /*) ;; *) INSNCOUNT=$PWD/$INSNCOUNT ;; esac
 work=${WORK:-$(mktemp -d)}
-mkdir -p "$work/crates/play_c/src"
-for c in words fields packet record table play; do rm -rf "$work/crates/$c"; cp -R "crates/$c" "$work/crates/"; rm -rf "$work/crates/$c/must-fail"; done
-cp "$here/calls.txt" "$work/crates/play_c/src/lib.rt"
-{ grep -E '^(words|fields|packet|record|table|play):' crates.txt; echo 'play_c: words fields packet record table play'; } >"$work/crates.txt"
-(cd "$work" && rt staticlib play_c >"$work/log" 2>&1) || { tail -5 "$work/log"; exit 1; }
+mkdir -p "$work"
+if [ -z "${LIBRARY:-}" ]; then
+    mkdir -p "$work/crates/play_c/src"
+    for c in words fields packet record table play; do rm -rf "$work/crates/$c"; cp -R "crates/$c" "$work/crates/"; rm -rf "$work/crates/$c/must-fail"; done
+    cp "$here/calls.txt" "$work/crates/play_c/src/lib.rt"
+    { grep -E '^(words|fields|packet|record|table|play):' crates.txt; echo 'play_c: words fields packet record table play'; } >"$work/crates.txt"
+    (cd "$work" && rt staticlib play_c >"$work/log" 2>&1) || { tail -5 "$work/log"; exit 1; }
+    set -- "$work/target/staticlib/libplay_c.a"
+else
+    set -- -Iinclude "$here/library.c" "$LIBRARY"
+fi
 $CC -O2 -c "$here/${BY_HAND:-by_hand.c}" -o "$work/by_hand.o"
 $CC -O2 -static -DFN=c_play_run "$here/drive.c" "$work/by_hand.o" -o "$work/c"
-$CC -O2 -static -DFN=r_play_run "$here/drive.c" "$work/target/staticlib/libplay_c.a" -o "$work/r"
+$CC -O2 -static -DFN=r_play_run "$here/drive.c" "$@" -o "$work/r"
 n=10000
 counted() { "$INSNCOUNT" "$@" $n 2>&1 | sed -n 's/^instructions //p'; }
 between() { # PROGRAM MODE MODE KIND STREAMS: the instructions of one mode of drive.c without those of another
