@@ -1,6 +1,6 @@
 -- The field rules as the program asks them: a limit of the first word, and what else a rule says. That both together are document 01's rules is the law
 -- `rule-limit` of `proofs/RuleLaws.antt`; no promise of a public call speaks of these.
-use Prim.Native.Nat.{ℕ, suc, _-_, _/_, _%_, _^_}
+use Prim.Native.Nat.{ℕ, _^_}
 use mathlib.Core.Bool.{Bool, true}
 use mathlib.Core.List.{List, [], _∷_}
 use lib.Dec.{eqb, ltb}

@@ -1,5 +1,5 @@
 -- Document 01, 'The packet': "Field rules". Each rule is of a field whose own words are the first of ws.
-use Prim.Native.Nat.{ℕ, suc, _-_, _/_, _%_, _^_}
+use Prim.Native.Nat.{ℕ}
 use mathlib.Core.Bool.{Bool, true}
 use mathlib.Core.List.{List, [], _∷_}
 use lib.Dec.{eqb}

@@ -1,6 +1,6 @@
 -- Document 01, 'Numbers given back': "The first that applies is given, in these orders. Read: 1 to 10 as listed; words beyond the size are
 -- ignored." w is the header word, ws the words that were handed in.
-use Prim.Native.Nat.{ℕ, zero, suc, _-_, _/_, _%_, _^_}
+use Prim.Native.Nat.{ℕ, _^_}
 use mathlib.Core.Bool.{Bool, not}
 use mathlib.Core.List.{List}
 use lib.Dec.{eqb, ltb, leb}

@@ -1,6 +1,6 @@
 -- Document 01, 'The packet': "Trailer: enables 31-20, indicators 19-8, E 7, associated count 6-0; no bit combination is refused (ours)."
-use Prim.Native.Nat.{ℕ, zero, suc, _-_, _/_, _%_, _^_}
-use mathlib.Core.Bool.{Bool, not}
+use Prim.Native.Nat.{ℕ, _^_}
+use mathlib.Core.Bool.{not}
 use mathlib.Core.List.{[], _∷_}
 use lib.Dec.{ltb}
 use Rattle.words.specs.Numbers.{VALUE}

@@ -1,9 +1,9 @@
 -- What writing a packet does. Document 01, 'Numbers given back': "Write: TYPE, VALUE, SHORT, SIZE, TIME, INDICATOR, LAYOUT, FIELD, ROOM";
 -- "A packet, its body given as words, is written into a part of a longer buffer that starts at the caller's chosen word."
-use Prim.Native.Nat.{ℕ, zero, suc, _+_, _*_, _/_, _%_, _^_}
+use Prim.Native.Nat.{ℕ, _+_, _/_, _%_, _^_}
 use mathlib.Core.Bool.{Bool, true, false, not}
 use mathlib.Core.List.{List, [], _∷_, _++_}
-use lib.Dec.{eqb, ltb, leb}
+use lib.Dec.{eqb, ltb}
 use lib.ListN.{length, take, drop}
 use Rattle.words.specs.Numbers.{TYPE, VALUE, SHORT, SIZE, TIME, ROOM}
 use Rattle.words.specs.Tests.{pick, when, both}

@@ -2,9 +2,8 @@
 ghost use mathlib.Core.Path.{_≡_};
 ghost use Prim.Native.Nat.{_≤_, _<_, _^_};
 ghost use mathlib.Core.Bool.{true};
-ghost use lib.ListN.{length};
 ghost use Rattle.words.specs.Outcome.{checked};
-ghost use Rattle.packet.specs.Write.{sizeFor, codesFit, flagsFit, classFits, partsFit, partsChecks, measureChecks, roomChecks, writeChecks};
+ghost use Rattle.packet.specs.Write.{codesFit, flagsFit, classFits, partsFit, partsChecks, measureChecks, roomChecks, writeChecks};
 
 // Whether TSI, TSF and the count fit their bits.
 fn codes_fit(tsi: u32, tsf: u32, count: u32) -> bool

@@ -1,7 +1,6 @@
 // Reads the cases of standard input with `packet::read` and writes what it answers. A case is a word n and then n words.
 use packet::Packet;
 use packet::Parsed;
-ghost use mathlib.Core.Path.{_≡_};
 ghost use Prim.Native.Nat.{_+_, _≤_};
 ghost use lib.ListN.{length};
 

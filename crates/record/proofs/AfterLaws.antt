@@ -20,7 +20,7 @@ use Rattle.words.proofs.BitLaws.{has-and, has-or, word-same}
 use Rattle.words.proofs.SetBitLaws.{above-agree}
 use Rattle.words.proofs.PartLaws.{seen, lent-to, part-length, put-length, part-put, part-put-before, part-put-after, part-set-before, getD-put-before}
 use Rattle.fields.specs.Sizes.{sizeOf, sizesOf}
-use Rattle.fields.specs.Layout.{carried, indicatorOf, bodyWords, fieldOf, contextOf}
+use Rattle.fields.specs.Layout.{indicatorOf, bodyWords, fieldOf, contextOf}
 use Rattle.fields.proofs.SizeLaws.{words-fixed}
 use Rattle.fields.proofs.BodyLaws.{context-fits, fromField, field-inside, field-length, place-fixed, field-fixed}
 use Rattle.record.specs.Held.{heldMask, holds, heldBits, slotAt}

@@ -1,6 +1,6 @@
 -- A record after an accepted packet: its type is counted, and the fields that a Context packet carries are held.
 use mathlib.Core.Path.{_≡_}
-use Prim.Native.Nat.{ℕ, _+_, _-_, _≤_}
+use Prim.Native.Nat.{ℕ, _+_, _≤_}
 use mathlib.Core.Bool.{Bool, true}
 use mathlib.Core.List.{List}
 use lib.Bits.{bitAnd, bitOr}

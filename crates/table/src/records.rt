@@ -4,7 +4,6 @@ ghost use mathlib.Core.List.{_++_};
 ghost use Prim.Native.Nat.{_+_, _*_, _≤_, _<_};
 ghost use lib.ListN.{length, take, drop};
 ghost use Rattle.words.specs.All.{all};
-ghost use Rattle.record.specs.Layout.{recordWords};
 ghost use Rattle.table.specs.Layout.{base, Has, withRecord};
 ghost use Rattle.table.specs.Well.{recordGoodAt};
 ghost use Rattle.table.specs.Start.{freshRecord, freshRecords};

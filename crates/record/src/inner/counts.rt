@@ -3,7 +3,7 @@ ghost use mathlib.Core.Path.{_≡_};
 ghost use mathlib.Core.Bool.{true};
 ghost use mathlib.Core.List.{[], _∷_};
 ghost use Prim.Native.Nat.{_+_, _*_, _≤_, _<_};
-ghost use lib.ListN.{length, getD};
+ghost use lib.ListN.{length};
 ghost use Rattle.words.specs.Tests.{among};
 ghost use Rattle.record.specs.Layout.{recordWords, orderOf, countOf, lastOf};
 ghost use Rattle.record.specs.Counts.{addedOf, countedOf, countRecord, addedTo};

@@ -1,12 +1,11 @@
 // The fields that a record holds, each in its slot.
 ghost use mathlib.Core.Path.{_≡_};
 ghost use mathlib.Core.Bool.{true};
-ghost use Prim.Native.Nat.{ℕ, _+_, _≤_, _<_};
+ghost use Prim.Native.Nat.{_+_, _≤_, _<_};
 ghost use lib.Bits.{bitAnd};
 ghost use lib.ListN.{length};
 ghost use Rattle.words.specs.Outcome.{accepted};
 ghost use Rattle.words.specs.All.{tabled};
-ghost use Rattle.words.specs.Word.{has};
 ghost use Rattle.fields.specs.Layout.{contextOf};
 ghost use Rattle.record.specs.Held.{heldMask, slotAt};
 ghost use Rattle.record.specs.Layout.{slotWords, recordWords};
