@@ -47,8 +47,7 @@ fn check_prologue(w: u32, words: &[u32]) -> words::Check
     requires { ⌜ (requiredOf w ≤ sizeOf w) × (sizeOf w ≤ length (now words)) ⌝ }
     ensures { λ r. ⌜ checked r ≡ prologueChecks w (now (words .entry)) ⌝ }
 {
-    let class = crate::prologue::class_of(w, words);
-    if class.high / 0x100_0000 % 256 != 0 {
+    if crate::prologue::class_high(w, words) / 0x100_0000 % 256 != 0 {
         return words::Check::Refused(words::CLASS);
     }
     let tsf = crate::header::tsf_of(w);
@@ -76,9 +75,12 @@ pub fn check_context(w: u32, words: &[u32]) -> words::Check
     requires { ⌜ (requiredOf w ≤ sizeOf w) × (sizeOf w ≤ length (now words)) ⌝ }
     ensures { λ r. ⌜ checked r ≡ bodyChecks (typeOf w) (bodyOf w (now (words .entry))) ⌝ }
 {
+    if crate::header::type_of(w) != 4 {
+        return words::Check::Fine;
+    }
     let at = crate::header::body_at(w);
-    let end = at + crate::prologue::body_length(w);
-    check_body(crate::header::type_of(w), &words[at..end])
+    let end = crate::prologue::body_end(w);
+    fields::check_body(&words[at..end])
 }
 
 // What is refused before the body is looked at: TYPE, BITS, SHORT, CUT, CLASS and TIME.
