@@ -1,9 +1,9 @@
 // The refusals of writing. Each number of the list is given in one place, but for those that reading has too.
 ghost use mathlib.Core.Path.{_≡_};
-ghost use Prim.Native.Nat.{_≤_, _<_, _^_};
-ghost use mathlib.Core.Bool.{true};
-ghost use Rattle.words.specs.Outcome.{checked};
-ghost use Rattle.packet.specs.Write.{codesFit, flagsFit, classFits, partsFit, partsChecks, measureChecks, roomChecks, writeChecks};
+ghost use Prim.Native.Nat.{_≤_};
+ghost use lib.ListN.{length};
+ghost use Rattle.words.specs.Outcome.{accepted, checked};
+ghost use Rattle.packet.specs.Write.{sizeFor, codesFit, flagsFit, classFits, partsChecks, measureChecks, roomChecks, writeChecks};
 
 // Whether TSI, TSF and the count fit their bits.
 fn codes_fit(tsi: u32, tsf: u32, count: u32) -> bool
@@ -34,7 +34,7 @@ fn class_fits(classed: bool, oui: u32, information: u32, packet: u32) -> bool
 }
 
 // TYPE and VALUE.
-fn check_parts(p: crate::Parts) -> words::Check
+pub fn check_parts(p: crate::Parts) -> words::Check
     ensures { λ r. ⌜ checked r ≡ partsChecks p ⌝ }
 {
     if 5 < p.kind {
@@ -49,15 +49,15 @@ fn check_parts(p: crate::Parts) -> words::Check
     words::Check::Refused(words::VALUE)
 }
 
-// SHORT, SIZE and TIME, of a body of n words.
-fn check_measure(p: crate::Parts, n: usize) -> words::Check
-    requires { ⌜ (partsFit p ≡ true) × (p .kind < 6) × (n < 2 ^ 62) ⌝ }
+// SHORT, SIZE and TIME, of a packet of a size with a body of n words.
+fn check_measure(p: crate::Parts, n: usize, size: usize) -> words::Check
+    requires { ⌜ size ≡ sizeFor p n ⌝ }
     ensures { λ r. ⌜ checked r ≡ measureChecks p n ⌝ }
 {
     if words::inner::both_of(p.kind == 4, n == 0) {
         return words::Check::Refused(words::SHORT);
     }
-    if 65535 < crate::laying::size_for(p, n) {
+    if 65535 < size {
         return words::Check::Refused(words::SIZE);
     }
     if crate::checks::time_over(p.tsf, p.fraction) {
@@ -80,15 +80,18 @@ fn check_room(room: usize, at: usize, size: usize) -> words::Check
     words::Check::Fine
 }
 
-// All of them, in their order, of a packet to be written at a place of a buffer with room words.
-pub fn check(p: crate::Parts, body: &[u32], room: usize, at: usize) -> words::Check
+// What is left to refuse of parts that fit, in its order: of a packet of a size to be written at a place of a buffer with room words.
+pub fn check_rest(
+    p: crate::Parts,
+    body: &[u32],
+    size: usize,
+    room: usize,
+    at: usize,
+) -> words::Check
+    requires { ⌜ (partsChecks p ≡ accepted tt) × (size ≡ sizeFor p (length (now body))) × (1 ≤ size) ⌝ }
     ensures { λ r. ⌜ checked r ≡ writeChecks p (now (body .entry)) room at ⌝ }
 {
-    let parts = check_parts(p);
-    if let words::Check::Refused(n) = parts {
-        return words::Check::Refused(n);
-    }
-    let measure = check_measure(p, body.len());
+    let measure = check_measure(p, body.len(), size);
     if let words::Check::Refused(n) = measure {
         return words::Check::Refused(n);
     }
@@ -96,5 +99,5 @@ pub fn check(p: crate::Parts, body: &[u32], room: usize, at: usize) -> words::Ch
     if let words::Check::Refused(n) = context {
         return words::Check::Refused(n);
     }
-    check_room(room, at, crate::laying::size_for(p, body.len()))
+    check_room(room, at, size)
 }

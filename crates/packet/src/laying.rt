@@ -7,7 +7,8 @@ ghost use lib.ListN.{length, take, drop};
 ghost use Rattle.words.specs.Tests.{when};
 ghost use Rattle.words.specs.Outcome.{accepted};
 ghost use Rattle.words.specs.Laid.{Laid};
-ghost use Rattle.packet.specs.Header.{classed};
+ghost use Rattle.packet.specs.Header.{classed, trailed};
+ghost use Rattle.packet.specs.Parts.{bodyAt};
 ghost use Rattle.packet.specs.Write.{bit, headerWord, sizeFor, given, headWords, classWords, timeWords, prologueWords, trailerWords, packetWords, classFits, partsFit, writeChecks};
 
 // 1 for a flag that is set.
@@ -18,7 +19,7 @@ fn bit_of(flag: bool) -> u32
 }
 
 // The header word, with a size of 0.
-fn header_word(p: crate::Parts) -> u32
+pub fn header_word(p: crate::Parts) -> u32
     requires { ⌜ (p .kind < 6) × (p .tsi < 4) × (p .tsf < 4) × (p .count < 16) ⌝ }
     ensures { λ r. ⌜ (r ≡ headerWord p 0) × (r < 1610612736) ⌝ }
 {
@@ -34,12 +35,11 @@ fn header_word(p: crate::Parts) -> u32
         + p.count * 0x1_0000
 }
 
-// The words of a packet whose body has n.
-pub fn size_for(p: crate::Parts, n: usize) -> usize
-    requires { ⌜ (partsFit p ≡ true) × (p .kind < 6) × (n < 2 ^ 62) ⌝ }
-    ensures { λ r. ⌜ (r ≡ sizeFor p n) × (1 ≤ r) ⌝ }
+// The words of a packet whose header word is w but for its size, and whose body has n.
+pub fn size_for(w: u32, n: usize) -> usize
+    requires { ⌜ n < 2 ^ 62 ⌝ }
+    ensures { λ r. ⌜ (r ≡ bodyAt w + n + when (trailed w) 1) × (1 ≤ r) ⌝ }
 {
-    let w = header_word(p);
     crate::header::body_at(w) + n + words::inner::when_so(crate::header::has_trailer(w), 1)
 }
 
@@ -144,13 +144,11 @@ fn lay_parts(w: u32, p: crate::Parts, body: &[u32], out: &mut [u32], at: usize) 
     b + lay_trailer(w, p, &mut out[b..])
 }
 
-// A packet that nothing refuses, at its place; answers its size.
-pub fn lay(p: crate::Parts, body: &[u32], out: &mut [u32], at: usize) -> usize
+// A packet that nothing refuses, at its place; w is its header word but for its size.
+pub fn lay(w: u32, size: usize, p: crate::Parts, body: &[u32], out: &mut [u32], at: usize)
     requires { ⌜ writeChecks p (now body) (length (now out)) at ≡ accepted tt ⌝ }
-    ensures { λ r. ⌜ (r ≡ sizeFor p (length (now (body .entry)))) × (now (out .exit) ≡ take at (now (out .entry)) ++ packetWords p (now (body .entry)) ++ drop (at + r) (now (out .entry))) ⌝ }
+    requires { ⌜ (w ≡ headerWord p 0) × (w < 1610612736) × (size ≡ sizeFor p (length (now body))) ⌝ }
+    ensures { λ _. ⌜ now (out .exit) ≡ take at (now (out .entry)) ++ packetWords p (now (body .entry)) ++ drop (at + size) (now (out .entry)) ⌝ }
 {
-    let size = size_for(p, body.len());
-    let w = header_word(p) + size as u32;
-    lay_parts(w, p, body, out, at);
-    size
+    lay_parts(w + size as u32, p, body, out, at);
 }

@@ -73,11 +73,18 @@ pub enum Written {
 pub fn write(parts: Parts, body: &[u32], out: &mut [u32], at: usize) -> Written
     ensures { λ r. ⌜ Meets writtenPaper (writeOf parts (now (body .entry)) (now (out .entry)) at) (now (out .entry)) r (now (out .exit)) ⌝ }
 {
-    let found = fit::check(parts, body, out.len(), at);
+    let found = fit::check_parts(parts);
     if let words::Check::Refused(n) = found {
         return Written::Refused(n);
     }
-    Written::Accepted(laying::lay(parts, body, out, at))
+    let w = laying::header_word(parts);
+    let size = laying::size_for(w, body.len());
+    let rest = fit::check_rest(parts, body, size, out.len(), at);
+    if let words::Check::Refused(n) = rest {
+        return Written::Refused(n);
+    }
+    laying::lay(w, size, parts, body, out, at);
+    Written::Accepted(size)
 }
 
 // A trailer word's parts.
