@@ -1,9 +1,8 @@
 // The refusals of writing. Each number of the list is given in one place, but for those that reading has too.
 ghost use mathlib.Core.Path.{_≡_};
 ghost use Prim.Native.Nat.{_≤_};
-ghost use lib.ListN.{length};
-ghost use Rattle.words.specs.Outcome.{accepted, checked};
-ghost use Rattle.packet.specs.Write.{sizeFor, codesFit, flagsFit, classFits, partsChecks, measureChecks, roomChecks, writeChecks};
+ghost use Rattle.words.specs.Outcome.{checked};
+ghost use Rattle.packet.specs.Write.{sizeFor, codesFit, flagsFit, classFits, partsChecks, measureChecks, roomChecks};
 
 // Whether TSI, TSF and the count fit their bits.
 fn codes_fit(tsi: u32, tsf: u32, count: u32) -> bool
@@ -50,7 +49,7 @@ pub fn check_parts(p: crate::Parts) -> words::Check
 }
 
 // SHORT, SIZE and TIME, of a packet of a size with a body of n words.
-fn check_measure(p: crate::Parts, n: usize, size: usize) -> words::Check
+pub fn check_measure(p: crate::Parts, n: usize, size: usize) -> words::Check
     requires { ⌜ size ≡ sizeFor p n ⌝ }
     ensures { λ r. ⌜ checked r ≡ measureChecks p n ⌝ }
 {
@@ -67,7 +66,7 @@ fn check_measure(p: crate::Parts, n: usize, size: usize) -> words::Check
 }
 
 // ROOM, of a packet of a size in a buffer with room words.
-fn check_room(room: usize, at: usize, size: usize) -> words::Check
+pub fn check_room(room: usize, at: usize, size: usize) -> words::Check
     requires { ⌜ 1 ≤ size ⌝ }
     ensures { λ r. ⌜ checked r ≡ roomChecks room at size ⌝ }
 {
@@ -78,26 +77,4 @@ fn check_room(room: usize, at: usize, size: usize) -> words::Check
         return words::Check::Refused(words::ROOM);
     }
     words::Check::Fine
-}
-
-// What is left to refuse of parts that fit, in its order: of a packet of a size to be written at a place of a buffer with room words.
-pub fn check_rest(
-    p: crate::Parts,
-    body: &[u32],
-    size: usize,
-    room: usize,
-    at: usize,
-) -> words::Check
-    requires { ⌜ (partsChecks p ≡ accepted tt) × (size ≡ sizeFor p (length (now body))) × (1 ≤ size) ⌝ }
-    ensures { λ r. ⌜ checked r ≡ writeChecks p (now (body .entry)) room at ⌝ }
-{
-    let measure = check_measure(p, body.len(), size);
-    if let words::Check::Refused(n) = measure {
-        return words::Check::Refused(n);
-    }
-    let context = crate::checks::check_body(p.kind, body);
-    if let words::Check::Refused(n) = context {
-        return words::Check::Refused(n);
-    }
-    check_room(room, at, size)
 }

@@ -79,8 +79,16 @@ pub fn write(parts: Parts, body: &[u32], out: &mut [u32], at: usize) -> Written
     }
     let w = laying::header_word(parts);
     let size = laying::size_for(w, body.len());
-    let rest = fit::check_rest(parts, body, size, out.len(), at);
-    if let words::Check::Refused(n) = rest {
+    let measure = fit::check_measure(parts, body.len(), size);
+    if let words::Check::Refused(n) = measure {
+        return Written::Refused(n);
+    }
+    let context = checks::check_body(parts.kind, body);
+    if let words::Check::Refused(n) = context {
+        return Written::Refused(n);
+    }
+    let room = fit::check_room(out.len(), at, size);
+    if let words::Check::Refused(n) = room {
         return Written::Refused(n);
     }
     laying::lay(w, size, parts, body, out, at);
