@@ -23,7 +23,8 @@ use Rattle.table.proofs.RecordLaws.{record-length, record-identifier, with-leng
 use Rattle.table.proofs.WellLaws.{well-whole, well-record, layout-has, list-with, well-with}
 use Rattle.play.specs.declared.Heard.{Heard}
 use Rattle.play.specs.Play.{soughtOf, heardOf, tableAfter, madeOf, stepOf, playOf}
-use Rattle.play.proofs.PlayLaws.{sought-below, made-well, play-step, play-refuses}
+use Rattle.play.proofs.StreamLaws.{sought-below}
+use Rattle.play.proofs.PlayLaws.{made-well, play-step, play-refuses}
 
 -- ---- an accepted packet: what was read, and its stream
 pub record Taken (t ws : List ℕ) (d : Done Heard (List ℕ)) : Type 0 where
@@ -63,7 +64,7 @@ module _ (t ws : List ℕ) (w : wellMade t ≡ true) (d : Done Heard (List ℕ))
   new = recordAfter (p .parts .kind) (p .parts .count) body (recordAt s t)
 
   below : s < streamsOf t
-  below = sought-below t ws p (k .reads) s (k .seeks)
+  below = sought-below (p .parts .kind) (p .parts .identifier) t s (k .seeks)
 
   has-it : Has s t
   has-it = layout-has t s (well-whole t w) below

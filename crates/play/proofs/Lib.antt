@@ -1,5 +1,7 @@
 -- The laws of play, each beside its kin.
 
+-- an accepted packet and its stream
+pub mod StreamLaws
 -- the record of a stream lent to a packet, and the answers
 pub mod PlayLaws
 -- what play keeps

@@ -1,81 +1,95 @@
--- Playing a packet. The idea: the record of the packet's stream is lent, so the table afterwards is `withRecord` of the record afterwards (`heard`); a refusal
--- leaves the table, since `leftOf` does.
+-- Playing a packet. The idea: the record of the packet's stream is lent, so the table afterwards is `withRecord` of the record afterwards (`lent-heard`), which is
+-- what hearing the packet leaves (`heard-data`, `heard-context`); a refusal leaves the table, since `leftOf` does.
 use mathlib.Core.Path.{_≡_, refl, ap, _∙_}
 use mathlib.Core.Bool.{true, false, not}
-use mathlib.Core.List.{List, [], _∷_, _++_}
+use mathlib.Core.List.{List, [], _++_}
 use Prim.Native.Nat.{ℕ, _+_, _-_, _≤_, _<_}
+use native.Mathlib.Nat.{le-trans}
 use native.Mathlib.Omega.{arith}
-use borrow.Author.Tests.{leb-false, not-false}
-use lib.Dec.{leb}
+use borrow.Author.Tests.{not-false}
 use lib.ListN.{length, take, drop}
 use Rattle.words.specs.Part.{part}
 use Rattle.words.specs.Numbers.{TABLE}
-use Rattle.words.specs.Tests.{among}
 use Rattle.words.specs.Outcome.{refused, accepted, Meets}
-use Rattle.words.proofs.Cases.{passed, accepted-same}
+use Rattle.words.proofs.Cases.{passed}
 use Rattle.words.proofs.PartLaws.{seen, lent-to, part-length}
 use Rattle.fields.specs.Layout.{contextOf}
-use Rattle.packet.specs.declared.Packet.{Packet}
+use Rattle.packet.specs.Header.{typeOf, countOf, sizeOf}
+use Rattle.packet.specs.Parts.{bodyAt, bodyLength, partsOf, packetOf}
 use Rattle.packet.specs.Read.{readOf}
-use Rattle.packet.proofs.ReadLaws.{read-inside, body-inside, count-small, body-context}
+use Rattle.packet.proofs.ReadLaws.{read-inside, body-inside, body-context}
 use Rattle.record.specs.Layout.{recordWords}
 use Rattle.record.specs.After.{recordAfter, addedBy}
 use Rattle.record.specs.Good.{recordGood}
+use Rattle.record.proofs.PacketLaws.{after-body}
 use Rattle.table.specs.Layout.{streamsOf, base, recordAt, withRecord}
 use Rattle.table.specs.Well.{wellMade}
 use Rattle.table.proofs.WellLaws.{well-whole, well-few, well-record, layout-has}
-use Rattle.table.specs.Identifiers.{streamOf}
-use Rattle.play.specs.Play.{soughtOf, heardOf, tableAfter, stepOf, madeOf, playOf, paper}
+use Rattle.play.specs.Play.{heardOf, tableAfter, stepOf, madeOf, playOf, paper}
+use Rattle.play.specs.Entered.{Headed, soughtIn, HeardAs}
 use Rattle.play.specs.declared.Played.{Played}
 use Rattle.play.specs.declared.Played.the-variants.{Accepted, Refused}
 
--- ---- the record of a stream and the body of a packet, as they are lent
+-- ---- the record of a stream, as it is lent
 
-module _ (p : Packet) (s : ℕ) (ws t : List ℕ) (w : wellMade t ≡ true) (h : s < streamsOf t) (e : readOf ws ≡ accepted p) where
-  -- both lie inside
-  pub hear-few : s < 32
-  hear-few = omega (arith, well-few t w)
+module _ (s : ℕ) (t : List ℕ) (w : wellMade t ≡ true) (h : s < streamsOf t) where
+  pub lent-few : s < 32
+  lent-few = omega (arith, well-few t w)
 
-  pub hear-record : base s + recordWords ≤ length t
-  hear-record = layout-has t s (well-whole t w) h
-
-  pub hear-body : p .body + p .length ≤ length ws
-  hear-body = omega (arith, body-inside ws p e, read-inside ws p e)
+  pub lent-inside : base s + recordWords ≤ length t
+  lent-inside = layout-has t s (well-whole t w) h
 
   abbrev lentRecord : List ℕ
   lentRecord = take (base s + recordWords - base s) (drop (base s) t)
-
-  abbrev lentBody : List ℕ
-  lentBody = take (p .body + p .length - p .body) (drop (p .body) ws)
 
   record-seen : lentRecord ≡ recordAt s t
   unfolding recordAt
   record-seen = seen (base s) (base s + recordWords) recordWords t refl
 
-  body-seen : lentBody ≡ part (p .body) (p .length) ws
-  body-seen = seen (p .body) (p .body + p .length) (p .length) ws refl
-
-  pub hear-asked : (length (take (base s + recordWords - base s) (drop (base s) t)) ≡ recordWords) × (recordGood (take (base s + recordWords - base s) (drop (base s) t)) ≡ true)
-      × (p .parts .count < 16) × (p .parts .kind ≡ 4 → contextOf (take (p .body + p .length - p .body) (drop (p .body) ws)) ≡ accepted tt)
+  pub lent-good : (length (take (base s + recordWords - base s) (drop (base s) t)) ≡ recordWords) × (recordGood (take (base s + recordWords - base s) (drop (base s) t)) ≡ true)
   unfolding recordAt
-  hear-asked = (
-    rw record-seen (part-length (base s) recordWords t hear-record),
-    rw record-seen (well-record t w s h),
-    count-small ws p e,
-    λ k. ap contextOf body-seen ∙ body-context ws p e k,
-  )
+  lent-good = (rw record-seen (part-length (base s) recordWords t lent-inside), rw record-seen (well-record t w s h))
 
-  pub heard : (more : ℕ) (last : List ℕ)
-      → more ≡ addedBy (p .parts .kind) (p .parts .count) (take (base s + recordWords - base s) (drop (base s) t))
-      → last ≡ recordAfter (p .parts .kind) (p .parts .count) (take (p .body + p .length - p .body) (drop (p .body) ws)) (take (base s + recordWords - base s) (drop (base s) t))
-      → (more ≡ addedBy (p .parts .kind) (p .parts .count) (recordAt s t))
-      × (take (base s) t ++ (last ++ drop (base s + recordWords - base s) (drop (base s) t)) ≡ tableAfter p s ws t)
-  unfolding tableAfter withRecord recordAt
-  heard more last m l = (
-    m ∙ ap (addedBy (p .parts .kind) (p .parts .count)) record-seen,
-    lent-to (base s) (base s + recordWords) recordWords (recordAfter (p .parts .kind) (p .parts .count) (part (p .body) (p .length) ws)) last t refl
-        (l ∙ ap (λ (b : List ℕ). recordAfter (p .parts .kind) (p .parts .count) b lentRecord) body-seen),
-  )
+  -- what hearing a packet leaves of it is its record in the table afterwards
+  pub lent-heard : (kind count more : ℕ) (body last : List ℕ) → more ≡ addedBy kind count (take (base s + recordWords - base s) (drop (base s) t))
+      → last ≡ recordAfter kind count body (take (base s + recordWords - base s) (drop (base s) t))
+      → (more ≡ addedBy kind count (recordAt s t)) × (take (base s) t ++ (last ++ drop (base s + recordWords - base s) (drop (base s) t)) ≡ withRecord s (recordAfter kind count body (recordAt s t)) t)
+  unfolding withRecord recordAt
+  lent-heard kind count more body last m l =
+      (m ∙ ap (addedBy kind count) record-seen, lent-to (base s) (base s + recordWords) recordWords (recordAfter kind count body) last t refl l)
+
+-- ---- an accepted packet, heard by stream s
+
+module _ (w s : ℕ) (ws t : List ℕ) (p : Headed w ws) where
+  -- of a type other than 4: its body does not matter
+  pub heard-data : (more : ℕ) (left : List ℕ) → (typeOf w ≡ 4 → ⊥) → more ≡ addedBy (typeOf w) (countOf w) (recordAt s t)
+      → left ≡ withRecord s (recordAfter (typeOf w) (countOf w) [] (recordAt s t)) t → HeardAs w s ws t more left
+  unfolding packetOf partsOf tableAfter
+  heard-data more left n m l = record {
+    adds = m;
+    leaves = l ∙ ap (λ (r : List ℕ). withRecord s r t) (after-body (typeOf w) (countOf w) [] _ (recordAt s t) n);
+  }
+
+  -- of type 4: its body is lent
+  module _ (from n : ℕ) (f : from ≡ bodyAt w) (g : n ≡ bodyLength w) (k : typeOf w ≡ 4) where
+    body-seen : take (from + n - from) (drop from ws) ≡ part (bodyAt w) (bodyLength w) ws
+    body-seen = seen from (from + n) n ws refl ∙ rw (f, g)
+
+    pub body-lent : from + n ≤ length ws
+    unfolding packetOf
+    body-lent = rw (f, g) (le-trans (body-inside ws (packetOf w ws) (p .reads)) (read-inside ws (packetOf w ws) (p .reads)))
+
+    pub body-good : contextOf (take (from + n - from) (drop from ws)) ≡ accepted tt
+    unfolding packetOf partsOf
+    body-good = ap contextOf body-seen ∙ body-context ws (packetOf w ws) (p .reads) k
+
+    pub heard-context : (count more : ℕ) (left : List ℕ) → count ≡ countOf w
+        → (more ≡ addedBy 4 count (recordAt s t)) × (left ≡ withRecord s (recordAfter 4 count (take (from + n - from) (drop from ws)) (recordAt s t)) t) → HeardAs w s ws t more left
+    unfolding packetOf partsOf tableAfter
+    heard-context count more left c h = record {
+      adds = rw k (rw c at h .0);
+      leaves = h .1 ∙ rw (body-seen, k, c);
+    }
 
 -- ---- the answers of a packet on a table that is well made
 
@@ -84,26 +98,17 @@ pub step-unread : (t ws : List ℕ) (n m : ℕ) → readOf ws ≡ refused n → 
 unfolding stepOf
 step-unread t ws n m e i = record { answer = rw (e, i); buffer = rw e }
 
-module _ (t ws : List ℕ) (p : Packet) (e : readOf ws ≡ accepted p) where
+module _ (t ws : List ℕ) (w : ℕ) (p : Headed w ws) where
   -- the packet has no stream of the table
-  pub step-unsought : (n m : ℕ) → soughtOf (p .parts .kind) (p .parts .identifier) t ≡ refused n → m ≡ n → Meets paper (stepOf t ws) t (Refused m) t
+  pub step-unsought : (n m : ℕ) → soughtIn w ws t ≡ refused n → m ≡ n → Meets paper (stepOf t ws) t (Refused m) t
   unfolding stepOf
-  step-unsought n m f i = record { answer = rw (e, f, i); buffer = rw (e, f) }
-
-  -- a stream that is found is one of the table's
-  pub sought-below : (s : ℕ) → soughtOf (p .parts .kind) (p .parts .identifier) t ≡ accepted s → s < streamsOf t
-  unfolding soughtOf
-  sought-below s f =
-      let a = passed (among (p .parts .kind) (0 ∷ 2 ∷ [])) _ _ s f in
-      let b = passed (leb (streamsOf t) (streamOf (p .parts .identifier) t)) _ _ s (a .1) in
-      rw (accepted-same (b .1)) at (leb-false (streamsOf t) (streamOf (p .parts .identifier) t) (b .0))
+  step-unsought n m f i = record { answer = rw (p .reads, f, i); buffer = rw (p .reads, f) }
 
   -- the packet is heard
-  pub step-heard : (s more : ℕ) (last : List ℕ) → soughtOf (p .parts .kind) (p .parts .identifier) t ≡ accepted s
-      → more ≡ addedBy (p .parts .kind) (p .parts .count) (recordAt s t) → last ≡ tableAfter p s ws t
-      → Meets paper (stepOf t ws) t (Accepted (record { size = p .size; kind = p .parts .kind; stream = s; missing = more })) last
-  unfolding stepOf heardOf
-  step-heard s more last f m l = record { answer = rw (e, f, m); buffer = rw (e, f) l }
+  pub step-heard : (s more size kind : ℕ) (left : List ℕ) → soughtIn w ws t ≡ accepted s → size ≡ sizeOf w → kind ≡ typeOf w → HeardAs w s ws t more left
+      → Meets paper (stepOf t ws) t (Accepted (record { size = size; kind = kind; stream = s; missing = more })) left
+  unfolding stepOf heardOf packetOf partsOf
+  step-heard s more size kind left f i k h = record { answer = rw (p .reads, f, i, k, h .adds); buffer = rw (p .reads, f) (h .leaves) }
 
 -- ---- the answers of a packet on any table
 

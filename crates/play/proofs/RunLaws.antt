@@ -5,7 +5,7 @@ use mathlib.Core.Bool.{Bool, true, false, not}
 use mathlib.Core.Logic.{⊎-elim}
 use mathlib.Core.List.{List, [], _∷_, _++_, append-assoc, append-nil}
 use Prim.Native.Nat.{ℕ, zero, suc, _+_, _-_, _*_, _/_, _%_, _^_, _≤_, _<_}
-use native.Mathlib.Nat.{zero-add, add-zero}
+use native.Mathlib.Nat.{zero-add, add-zero, mod-lt}
 use native.Mathlib.Omega.{arith}
 use borrow.Author.Tests.{ne-eqb, le-leb, lt-leb}
 use lib.Dec.{eqb}
@@ -93,6 +93,14 @@ module _ (t ws left : List ℕ) (at : ℕ) (x : Entry) (w : wellMade t ≡ true)
       ∙ ap (entryOf (paper (answerOf (saidAt t ws at)))) header
 
 -- ---- an entry
+
+-- its size has sixteen bits
+pub entered-small : {t ws left : List ℕ} {x : Entry} → Entered t ws x left → x .size < 2 ^ 16
+entered-small {t} {ws} y = rw (y .next) (some-small (goesOn (saidOf (stepOf t ws))) (getD ws 0 0))
+  where
+    some-small : (b : Bool) (w : ℕ) → when b (sizeOf w) < 2 ^ 16
+    some-small true w = mod-lt w (omega arith)
+    some-small false w = omega arith
 
 pub entry-stored : (ws : List ℕ) (a b c d e : ℕ) → length ws ≡ entryWords → set (set (set (set (set ws 0 a) 1 b) 2 c) 3 d) 4 e ≡ a ∷ b ∷ c ∷ d ∷ e ∷ []
 entry-stored ws a b c d e l = sets-all (a ∷ b ∷ c ∷ d ∷ e ∷ []) ws l

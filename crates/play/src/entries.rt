@@ -1,19 +1,16 @@
 // The entry of one packet, straight from its words. The front of a packet is checked first, and a body only of type 4: a data packet pays for no body. An entry
-// is plain words, with 0 for no refusal; an enum in its place would be kept in memory and cost a third more.
+// is plain numbers, with 0 for no refusal; an enum in its place would be kept in memory and cost a third more.
 ghost use mathlib.Core.Path.{_≡_};
 ghost use mathlib.Core.Bool.{true};
 ghost use Prim.Native.Nat.{_<_};
-ghost use lib.ListN.{length, getD};
-ghost use Rattle.words.specs.Outcome.{accepted};
+ghost use lib.ListN.{length};
 ghost use Rattle.packet.specs.Header.{typeOf};
-ghost use Rattle.packet.specs.Read.{readOf};
-ghost use Rattle.packet.specs.Front.{frontChecks};
 ghost use Rattle.table.specs.Well.{wellMade};
-ghost use Rattle.play.specs.Entered.{Entered};
+ghost use Rattle.play.specs.Entered.{Headed, Entered};
 use crate::run::Entry;
 
 // A refusal's entry: its number, and the words that the walk goes on by.
-fn unheard(number: u32, size: u32) -> Entry
+fn unheard(number: u32, size: usize) -> Entry
     ensures { λ r. ⌜ r ≡ record { number = number; size = size; kind = 0; stream = 0; missing = 0 } ⌝ }
 {
     Entry {
@@ -25,44 +22,41 @@ fn unheard(number: u32, size: u32) -> Entry
     }
 }
 
-// The entry of a packet of a type other than 4, whose header is w and whose front is accepted.
+// The entry of an accepted packet of a type other than 4.
 fn enter_data(table: &mut [u32], words: &[u32], w: u32) -> Entry
-    requires { ⌜ (wellMade (now table) ≡ true) × (0 < length (now words)) × (w ≡ getD (now words) 0 0) × (frontChecks w (now words) ≡ accepted tt) × (typeOf w ≡ 4 → ⊥) ⌝ }
+    requires { ⌜ (wellMade (now table) ≡ true) × Headed w (now words) × (typeOf w ≡ 4 → ⊥) ⌝ }
     ensures { λ r. ⌜ Entered (now (table .entry)) (now (words .entry)) r (now (table .exit)) ⌝ }
 {
-    let kind = packet::inner::type_of(w);
-    let size = w % 0x1_0000;
-    let identifier = packet::inner::identifier_of(w, words);
-    let sought = crate::streams::seek_streamed(table, packet::inner::has_stream(w), identifier);
+    let size = packet::inner::size_of(w);
+    let sought = crate::streams::seek(table, words, w);
     let crate::streams::Sought::At(s) = sought else {
         return unheard(crate::streams::unsought(sought), size);
     };
-    let missing = crate::streams::hear_data(table, s, kind, packet::inner::count_of(w));
+    let missing = crate::streams::hear_data(table, s, w);
     Entry {
         number: 0,
         size,
-        kind,
+        kind: packet::inner::type_of(w),
         stream: s as u32,
         missing,
     }
 }
 
-// The entry of a packet that was read.
-fn enter_read(table: &mut [u32], words: &[u32], p: packet::Packet) -> Entry
-    requires { ⌜ (wellMade (now table) ≡ true) × (readOf (now words) ≡ accepted p) ⌝ }
+// The entry of an accepted Context packet.
+fn enter_context(table: &mut [u32], words: &[u32], w: u32) -> Entry
+    requires { ⌜ (wellMade (now table) ≡ true) × Headed w (now words) × (typeOf w ≡ 4) ⌝ }
     ensures { λ r. ⌜ Entered (now (table .entry)) (now (words .entry)) r (now (table .exit)) ⌝ }
 {
-    let parts = p.parts;
-    let size = p.size as u32;
-    let sought = crate::streams::seek(table, parts.kind, parts.identifier);
+    let size = packet::inner::size_of(w);
+    let sought = crate::streams::seek(table, words, w);
     let crate::streams::Sought::At(s) = sought else {
         return unheard(crate::streams::unsought(sought), size);
     };
-    let missing = crate::streams::hear(table, s, p, words);
+    let missing = crate::streams::hear_context(table, s, words, w);
     Entry {
         number: 0,
         size,
-        kind: parts.kind,
+        kind: 4,
         stream: s as u32,
         missing,
     }
@@ -85,5 +79,5 @@ pub fn enter(table: &mut [u32], words: &[u32]) -> Entry
     let words::Check::Fine = body else {
         return unheard(crate::streams::unmade(body), 0);
     };
-    enter_read(table, words, packet::inner::packet_of(w, words))
+    enter_context(table, words, w)
 }

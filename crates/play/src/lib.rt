@@ -32,19 +32,26 @@ fn play_on(table: &mut [u32], words: &[u32]) -> Played
     requires { ⌜ wellMade (now table) ≡ true ⌝ }
     ensures { λ r. ⌜ Meets paper (stepOf (now (table .entry)) (now (words .entry))) (now (table .entry)) r (now (table .exit)) ⌝ }
 {
-    let read = packet::read(words);
-    let packet::Parsed::Accepted(p) = read else {
-        return Played::Refused(streams::unread(read));
+    if words.len() == 0 {
+        return Played::Refused(words::EMPTY);
+    }
+    let w = words[0];
+    let front = packet::inner::check_front(w, words);
+    let words::Check::Fine = front else {
+        return Played::Refused(streams::unmade(front));
     };
-    let parts = p.parts;
-    let sought = streams::seek(table, parts.kind, parts.identifier);
+    let body = packet::inner::check_context(w, words);
+    let words::Check::Fine = body else {
+        return Played::Refused(streams::unmade(body));
+    };
+    let sought = streams::seek(table, words, w);
     let streams::Sought::At(s) = sought else {
         return Played::Refused(streams::unsought(sought));
     };
-    let missing = streams::hear(table, s, p, words);
+    let missing = streams::hear(table, s, words, w);
     Played::Accepted(Heard {
-        size: p.size,
-        kind: parts.kind,
+        size: packet::inner::size_of(w),
+        kind: packet::inner::type_of(w),
         stream: s,
         missing,
     })

@@ -1,7 +1,7 @@
 // A run of packets over a recording, with an entry of answers for each.
 ghost use mathlib.Core.Path.{_≡_};
 ghost use mathlib.Core.Bool.{true};
-ghost use Prim.Native.Nat.{_+_, _≤_};
+ghost use Prim.Native.Nat.{_+_, _^_, _≤_, _<_};
 ghost use lib.ListN.{length};
 ghost use Rattle.words.specs.Part.{put};
 ghost use Rattle.table.specs.Well.{wellMade};
@@ -13,7 +13,7 @@ pub const ENTRY_WORDS: usize = 5;
 // An entry: the refusal's number or 0; the words that the walk goes on by; type, stream and missing, zero of a refusal.
 pub struct Entry {
     pub number: u32,
-    pub size: u32,
+    pub size: usize,
     pub kind: u32,
     pub stream: u32,
     pub missing: u32,
@@ -33,11 +33,11 @@ pub enum Ran {
 
 // Stores an entry.
 fn store(place: &mut [u32], e: Entry)
-    requires { ⌜ length (now place) ≡ entryWords ⌝ }
+    requires { ⌜ (length (now place) ≡ entryWords) × (e .size < 2 ^ 16) ⌝ }
     ensures { λ _. ⌜ now (place .exit) ≡ wordsOf e ⌝ }
 {
     place[0] = e.number;
-    place[1] = e.size;
+    place[1] = e.size as u32;
     place[2] = e.kind;
     place[3] = e.stream;
     place[4] = e.missing;
@@ -45,7 +45,7 @@ fn store(place: &mut [u32], e: Entry)
 
 // Stores an entry at a place of the answers.
 fn write_entry(answers: &mut [u32], at: usize, e: Entry)
-    requires { ⌜ at + entryWords ≤ length (now answers) ⌝ }
+    requires { ⌜ (at + entryWords ≤ length (now answers)) × (e .size < 2 ^ 16) ⌝ }
     ensures { λ _. ⌜ now (answers .exit) ≡ put at entryWords (wordsOf e) (now (answers .entry)) ⌝ }
 {
     let end = at + ENTRY_WORDS;
@@ -70,7 +70,7 @@ pub fn run_on(table: &mut [u32], words: &[u32], from: usize, answers: &mut [u32]
         let e = crate::entries::enter(table, &words[at..]);
         write_entry(answers, ENTRY_WORDS * n, e);
         n += 1;
-        at += e.size as usize;
+        at += e.size;
         if e.size == 0 {
             return Reached {
                 packets: n,

@@ -7,12 +7,12 @@ ghost use lib.ListN.{length};
 ghost use Rattle.words.specs.Numbers.{STREAM};
 ghost use Rattle.words.specs.Tests.{pick, among};
 ghost use Rattle.words.specs.Outcome.{numberOf, checked, refused, accepted};
-ghost use Rattle.packet.specs.Read.{paper, readOf};
+ghost use Rattle.packet.specs.Header.{typeOf, countOf};
 ghost use Rattle.record.specs.After.{recordAfter, addedBy};
 ghost use Rattle.table.specs.Layout.{streamsOf, recordAt, withRecord};
 ghost use Rattle.table.specs.Well.{wellMade};
-ghost use Rattle.play.specs.Play.{madeOf, soughtOf, soughtPaper, tableAfter};
-ghost use Rattle.play.specs.Entered.{declaredOf};
+ghost use Rattle.play.specs.Play.{madeOf, soughtPaper};
+ghost use Rattle.play.specs.Entered.{declaredOf, Headed, soughtIn, HeardAs};
 
 // The stream of a packet: its number, or the number of the refusal.
 pub enum Sought {
@@ -27,15 +27,6 @@ pub fn unmade(answer: words::Check) -> u32
     match answer {
         words::Check::Refused(n) => n,
         words::Check::Fine => 0,
-    }
-}
-
-pub fn unread(answer: packet::Parsed) -> u32
-    ensures { λ r. ⌜ r ≡ numberOf (paper answer) ⌝ }
-{
-    match answer {
-        packet::Parsed::Refused(n) => n,
-        packet::Parsed::Accepted(_) => 0,
     }
 }
 
@@ -77,7 +68,7 @@ fn seek_stream(table: &[u32], identifier: u32) -> Sought
 }
 
 // STREAM: a packet may have no identifier, and one that it has may not be declared.
-pub fn seek_streamed(table: &[u32], streamed: bool, identifier: u32) -> Sought
+fn seek_streamed(table: &[u32], streamed: bool, identifier: u32) -> Sought
     requires { ⌜ wellMade (now table) ≡ true ⌝ }
     ensures { λ r. ⌜ soughtPaper r ≡ pick streamed (declaredOf identifier (now (table .entry))) (refused STREAM) ⌝ }
 {
@@ -87,44 +78,47 @@ pub fn seek_streamed(table: &[u32], streamed: bool, identifier: u32) -> Sought
     Sought::Unknown(words::STREAM)
 }
 
-// The same by the type: types 0 and 2 have no identifier.
-pub fn seek(table: &[u32], kind: u32, identifier: u32) -> Sought
-    requires { ⌜ wellMade (now table) ≡ true ⌝ }
-    ensures { λ r. ⌜ soughtPaper r ≡ soughtOf kind identifier (now (table .entry)) ⌝ }
+// The stream of an accepted packet; STREAM where the table has none for it.
+pub fn seek(table: &[u32], words: &[u32], w: u32) -> Sought
+    requires { ⌜ (wellMade (now table) ≡ true) × Headed w (now words) ⌝ }
+    ensures { λ r. ⌜ soughtPaper r ≡ soughtIn w (now (words .entry)) (now (table .entry)) ⌝ }
 {
-    if kind == 0 {
-        return Sought::Unknown(words::STREAM);
-    }
-    if kind == 2 {
-        return Sought::Unknown(words::STREAM);
-    }
-    seek_stream(table, identifier)
+    let identifier = packet::inner::identifier_of(w, words);
+    seek_streamed(table, packet::inner::has_stream(w), identifier)
 }
 
 // Takes an accepted packet of a type other than 4 into the record of its stream. Gives the missing that it adds.
-pub fn hear_data(table: &mut [u32], s: usize, kind: u32, count: u32) -> u32
-    requires { ⌜ (wellMade (now table) ≡ true) × (s < streamsOf (now table)) × (count < 16) × (among kind (1 ∷ 3 ∷ 5 ∷ []) ≡ true) ⌝ }
-    ensures { λ r. ⌜ (r ≡ addedBy kind count (recordAt s (now (table .entry)))) × (now (table .exit) ≡ withRecord s (recordAfter kind count [] (recordAt s (now (table .entry)))) (now (table .entry))) ⌝ }
+pub fn hear_data(table: &mut [u32], s: usize, w: u32) -> u32
+    requires { ⌜ (wellMade (now table) ≡ true) × (s < streamsOf (now table)) × (among (typeOf w) (1 ∷ 3 ∷ 5 ∷ []) ≡ true) ⌝ }
+    ensures { λ r. ⌜ (r ≡ addedBy (typeOf w) (countOf w) (recordAt s (now (table .entry)))) × (now (table .exit) ≡ withRecord s (recordAfter (typeOf w) (countOf w) [] (recordAt s (now (table .entry)))) (now (table .entry))) ⌝ }
 {
+    let kind = packet::inner::type_of(w);
+    let count = packet::inner::count_of(w);
     let first = 1 + record::inner::RECORD_WORDS * s;
     let end = first + record::inner::RECORD_WORDS;
     record::inner::hear_data(&mut table[first..end], kind, count)
 }
 
-// Takes an accepted packet into the record of its stream. Gives the missing that it adds.
-pub fn hear(table: &mut [u32], s: usize, p: packet::Packet, words: &[u32]) -> u32
-    requires { ⌜ (wellMade (now table) ≡ true) × (s < streamsOf (now table)) × (readOf (now words) ≡ accepted p) ⌝ }
-    ensures { λ r. ⌜ (r ≡ addedBy (p .parts .kind) (p .parts .count) (recordAt s (now (table .entry)))) × (now (table .exit) ≡ tableAfter p s (now (words .entry)) (now (table .entry))) ⌝ }
+// Takes an accepted Context packet into the record of its stream. Gives the missing that it adds.
+pub fn hear_context(table: &mut [u32], s: usize, words: &[u32], w: u32) -> u32
+    requires { ⌜ (wellMade (now table) ≡ true) × (s < streamsOf (now table)) × Headed w (now words) × (typeOf w ≡ 4) ⌝ }
+    ensures { λ r. ⌜ HeardAs w s (now (words .entry)) (now (table .entry)) r (now (table .exit)) ⌝ }
 {
+    let count = packet::inner::count_of(w);
     let at = 1 + record::inner::RECORD_WORDS * s;
     let end = at + record::inner::RECORD_WORDS;
-    let from = p.body;
-    let to = from + p.length;
-    let parts = p.parts;
-    record::inner::hear(
-        &mut table[at..end],
-        parts.kind,
-        parts.count,
-        &words[from..to],
-    )
+    let from = packet::inner::body_at(w);
+    let to = from + packet::inner::body_length(w);
+    record::inner::hear_context(&mut table[at..end], count, &words[from..to])
+}
+
+// Takes an accepted packet into the record of its stream. Gives the missing that it adds.
+pub fn hear(table: &mut [u32], s: usize, words: &[u32], w: u32) -> u32
+    requires { ⌜ (wellMade (now table) ≡ true) × Headed w (now words) × (soughtIn w (now words) (now table) ≡ accepted s) ⌝ }
+    ensures { λ r. ⌜ HeardAs w s (now (words .entry)) (now (table .entry)) r (now (table .exit)) ⌝ }
+{
+    if packet::inner::type_of(w) == 4 {
+        return hear_context(table, s, words, w);
+    }
+    hear_data(table, s, w)
 }

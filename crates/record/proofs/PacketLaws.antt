@@ -43,6 +43,12 @@ pub after-body : (kind count : ℕ) (body other r : List ℕ) → (kind ≡ 4 �
 unfolding recordAfter
 after-body kind count body other r n = rw (ne-eqb kind 4 n)
 
+-- of a Context packet: it is counted, and then its fields are held
+pub heard-context : (count : ℕ) (body r : List ℕ) (more : ℕ) (mid last : List ℕ) → more ≡ addedTo 2 count r → mid ≡ countRecord 2 count r → last ≡ holdRecord body mid
+    → (more ≡ addedBy 4 count r) × (last ≡ recordAfter 4 count body r)
+unfolding addedBy recordAfter orderOf
+heard-context count body r more mid last m e f = (m, f ∙ ap (holdRecord body) e)
+
 module _ (kind count : ℕ) (body r : List ℕ) (l : length r ≡ recordWords) (ok : kind ≡ 4 → contextOf body ≡ accepted tt) where
   abbrev counted : List ℕ
   counted = countRecord (orderOf kind) count r
@@ -63,11 +69,6 @@ module _ (kind count : ℕ) (body r : List ℕ) (l : length r ≡ recordWords) (
       → (more ≡ addedBy kind count r) × (mid ≡ recordAfter kind count body r)
   unfolding addedBy
   heard-data order more mid o n m e = (m ∙ rw o, e ∙ rw (o, after-data n))
-
-  pub heard-context : (order more : ℕ) (mid last : List ℕ) → order ≡ orderOf kind → kind ≡ 4 → more ≡ addedTo order count r → mid ≡ countRecord order count r
-      → last ≡ holdRecord body mid → (more ≡ addedBy kind count r) × (last ≡ recordAfter kind count body r)
-  unfolding addedBy
-  heard-context order more mid last o k m e f = (m ∙ rw o, f ∙ rw (e, o, after-context k))
 
   -- what holds of the record after both cases holds of it
   by-kind : {A : Type 0} (f : List ℕ → A) (a : A) → (kind ≡ 4 → f (holdRecord body (countRecord (orderOf kind) count r)) ≡ a) → f (countRecord (orderOf kind) count r) ≡ a

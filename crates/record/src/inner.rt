@@ -5,7 +5,7 @@ mod counts;
 mod good;
 mod held;
 
-pub use after::hear;
+pub use after::hear_context;
 pub use after::hear_data;
 pub use good::record_good;
 pub use held::HELD;

@@ -35,7 +35,8 @@ use Rattle.table.proofs.WellLaws.{well-few}
 use Rattle.table.proofs.StartLaws.{start-well-made}
 use Rattle.play.specs.declared.Heard.{Heard}
 use Rattle.play.specs.Play.{heardOf, madeOf, playOf}
-use Rattle.play.proofs.PlayLaws.{made-well, play-step, sought-below}
+use Rattle.play.proofs.StreamLaws.{sought-below}
+use Rattle.play.proofs.PlayLaws.{made-well, play-step}
 use Rattle.play.proofs.KeepLaws.{step-taken}
 use Rattle.page.specs.Layout.{bodiesIn, pageLength}
 use Rattle.page.specs.Good.{pageOk}
@@ -89,7 +90,7 @@ unfolding heardOf playOf
 heard-small t ws d e =
     let w = made-well t (after-passed (madeOf t) _ d e .1) in
     let k = step-taken t ws d (sym (play-step t ws w) ∙ e) in
-    rw (← k .says) (size-small ws (k .packet) (k .reads), omega (arith, sought-below t ws (k .packet) (k .reads) (k .stream) (k .seeks), well-few t w))
+    rw (← k .says) (size-small ws (k .packet) (k .reads), omega (arith, sought-below _ _ t (k .stream) (k .seeks), well-few t w))
 
 -- ---- packed samples
 

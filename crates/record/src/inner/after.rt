@@ -20,16 +20,12 @@ pub fn hear_data(rec: &mut [u32], kind: u32, count: u32) -> u32
     crate::inner::counts::count(rec, order, count)
 }
 
-// Takes an accepted packet into the record of its stream: its type is counted, and a Context packet's fields are held. Gives the missing that it adds.
-pub fn hear(rec: &mut [u32], kind: u32, count: u32, body: &[u32]) -> u32
-    requires { ⌜ (length (now rec) ≡ recordWords) × (recordGood (now rec) ≡ true) × (count < 16) × (kind ≡ 4 → contextOf (now body) ≡ accepted tt) ⌝ }
-    ensures { λ r. ⌜ (r ≡ addedBy kind count (now (rec .entry))) × (now (rec .exit) ≡ recordAfter kind count (now (body .entry)) (now (rec .entry))) ⌝ }
+// Takes an accepted Context packet into the record of its stream: it is counted, and its fields are held. Gives the missing that it adds.
+pub fn hear_context(rec: &mut [u32], count: u32, body: &[u32]) -> u32
+    requires { ⌜ (length (now rec) ≡ recordWords) × (recordGood (now rec) ≡ true) × (count < 16) × (contextOf (now body) ≡ accepted tt) ⌝ }
+    ensures { λ r. ⌜ (r ≡ addedBy 4 count (now (rec .entry))) × (now (rec .exit) ≡ recordAfter 4 count (now (body .entry)) (now (rec .entry))) ⌝ }
 {
-    let order = crate::inner::counts::order_of(kind);
-    let more = crate::inner::counts::count(rec, order, count);
-    if kind != 4 {
-        return more;
-    }
+    let more = crate::inner::counts::count(rec, crate::inner::counts::CONTEXT_ORDER, count);
     crate::inner::held::hold(rec, body);
     more
 }

@@ -8,23 +8,10 @@ ghost use Rattle.words.specs.Tests.{among};
 ghost use Rattle.record.specs.Layout.{recordWords, orderOf, countOf, lastOf};
 ghost use Rattle.record.specs.Counts.{addedOf, countedOf, countRecord, addedTo};
 
-// The order of a type among those that are counted: 1, 3, 4, 5.
-pub fn order_of(kind: u32) -> usize
-    ensures { λ r. ⌜ (r ≡ orderOf kind) × (r < 4) ⌝ }
-{
-    if kind == 1 {
-        return 0;
-    }
-    if kind == 3 {
-        return 1;
-    }
-    if kind == 4 {
-        return 2;
-    }
-    3
-}
+// The order of type 4 among the types that are counted: 1, 3, 4, 5.
+pub const CONTEXT_ORDER: usize = 2;
 
-// The same of the types other than 4 that are counted: for 1, 3 and 5 it is an eighth of the square, rounded down.
+// The order of another: for 1, 3 and 5 it is an eighth of the square, rounded down.
 pub fn data_order(kind: u32) -> usize
     requires { ⌜ among kind (1 ∷ 3 ∷ 5 ∷ []) ≡ true ⌝ }
     ensures { λ r. ⌜ (r ≡ orderOf kind) × (r < 4) ⌝ }

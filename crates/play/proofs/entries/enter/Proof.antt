@@ -1,10 +1,11 @@
 -- `enter` meets its promise: a refusal of the front or of a body is given, and else the packet is entered.
-use mathlib.Core.Path.{refl, sym, ap, _∙_}
+use mathlib.Core.Path.{_≡_, refl, sym, ap, _∙_}
 use denote.Ref.{now}
 use Rattle.words.specs.declared.Check.{Check}
-use Rattle.words.specs.Outcome.{numberOf, checked, accepted}
-use Rattle.packet.specs.declared.Packet.{Packet}
-use Rattle.packet.proofs.FrontLaws.{front-sized, front-refuses, body-refuses, body-accepted}
+use Rattle.words.specs.Outcome.{numberOf, checked}
+use Rattle.packet.specs.Header.{typeOf}
+use Rattle.packet.proofs.FrontLaws.{front-sized, front-refuses, front-data, body-refuses}
+use Rattle.play.proofs.StreamLaws.{body-headed}
 use Rattle.play.proofs.EntryLaws.{entered-unread}
 use borrow.Author.Needs.{needs}
 use Rattle.play.proofs.entries.enter.Statement.{statement}
@@ -42,7 +43,8 @@ type-of-requires c κs = search needs
 enter-data-requires : tie.Need-enter-data-requires
 enter-data-requires c κs =
     let b = c .before .before .before .before .before .before .before .before .before in
-    (b .pre .0, b .pre .1, refl, (sym (c .before .before .before .before .before .check-front .ensures) ∙ ap checked (c .before .before .before .enum-told .given .1)), λ k. c .before .if1 .taken (c .before .before .type-of .ensures ∙ k))
+    let other : typeOf _ ≡ 4 → ⊥ = λ k. c .before .if1 .taken (c .before .before .type-of .ensures ∙ k) in
+    (b .pre .0, record { header = refl; reads = front-data _ (now (b .args .words)) (b .pre .1) refl (sym (c .before .before .before .before .before .check-front .ensures) ∙ ap checked (c .before .before .before .enum-told .given .1)) other }, other)
 
 same-length : tie.Need-same-length
 same-length c = search needs
@@ -73,14 +75,12 @@ returns-3 c =
     (entered-unread _ (now (b .args .words)) _ _ (body-refuses _ (now (b .args .words)) (b .pre .1) refl (sym (c .before .before .before .before .before .before .before .before .before .check-front .ensures) ∙ ap checked (c .before .before .before .before .before .before .before .enum-told .given .1)) _ (sym (c .before .before .before .before .check-context .ensures) ∙ ap checked told))
     (c .before .unmade2 .ensures ∙ ap (λ (o : Check). numberOf (checked o)) told))
 
-packet-of-requires : tie.Need-packet-of-requires
-packet-of-requires c κs = front-sized _ _ (sym (c .before .before .before .before .before .before .before .before .check-front .ensures) ∙ ap checked (c .before .before .before .before .before .before .enum-told .given .1))
-
-enter-read-requires : tie.Need-enter-read-requires
-enter-read-requires c κs =
-    let b = c .before .before .before .before .before .before .before .before .before .before .before .before .before in
-    let e = body-accepted _ (now (b .args .words)) (b .pre .1) refl (sym (c .before .before .before .before .before .before .before .before .before .check-front .ensures) ∙ ap checked (c .before .before .before .before .before .before .before .enum-told .given .1)) (sym (c .before .before .before .before .check-context .ensures) ∙ ap checked (c .before .before .enum-told3 .given .1)) in
-    (b .pre .0, e ∙ ap (λ (p : Packet). accepted p) (sym (c .packet-of .ensures)))
+enter-context-requires : tie.Need-enter-context-requires
+enter-context-requires c κs =
+    let b = c .before .before .before .before .before .before .before .before .before .before .before .before in
+    let front = sym (c .before .before .before .before .before .before .before .before .check-front .ensures) ∙ ap checked (c .before .before .before .before .before .before .enum-told .given .1) in
+    let headed = body-headed (now (b .args .words)) (b .pre .1) front (sym (c .before .before .before .check-context .ensures) ∙ ap checked (c .before .enum-told3 .given .1)) in
+    (b .pre .0, headed, sym (c .before .before .before .before .before .type-of .ensures) ∙ c .before .before .before .before .if1 .left)
 
 same-length-2 : tie.Need-same-length-2
 same-length-2 c = search needs
@@ -109,7 +109,6 @@ enter-spec =
     unmade-requires-2
     unheard-requires-2
     returns-3
-    packet-of-requires
-    enter-read-requires
+    enter-context-requires
     same-length-2
     returns-4)

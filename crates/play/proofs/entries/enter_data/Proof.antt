@@ -1,27 +1,22 @@
 -- `enter_data` meets its promise: a packet of no stream of the table is STREAM, and another is counted.
-use mathlib.Core.Path.{refl, sym, ap, _∙_}
+use mathlib.Core.Path.{sym, ap, _∙_}
 use native.Mathlib.Omega.{arith}
 use denote.Ref.{now}
 use Rattle.words.specs.Outcome.{numberOf}
-use Rattle.packet.proofs.FrontLaws.{front-sized}
 use Rattle.play.specs.declared.streams.Sought.{Sought}
 use Rattle.play.specs.Play.{soughtPaper}
-use Rattle.play.proofs.EntryLaws.{found-below, sought-data, data-few, front-kind, data-sought, data-unsought, data-entered}
+use Rattle.play.proofs.StreamLaws.{found-below, found-data}
+use Rattle.play.proofs.PlayLaws.{lent-few, heard-data}
+use Rattle.play.proofs.EntryLaws.{entered-unsought, entered-heard}
 use borrow.Author.Needs.{needs}
 use Rattle.play.proofs.entries.enter_data.Statement.{statement}
 use Rattle.play.proofs.entries.enter_data.Tie as tie
 
-type-of-requires : tie.Need-type-of-requires
-type-of-requires c κs = search needs
+size-of-requires : tie.Need-size-of-requires
+size-of-requires c κs = search needs
 
-identifier-of-requires : tie.Need-identifier-of-requires
-identifier-of-requires c κs = front-sized _ _ (c .before .before .before .pre .3)
-
-has-stream-requires : tie.Need-has-stream-requires
-has-stream-requires c κs = search needs
-
-seek-streamed-requires : tie.Need-seek-streamed-requires
-seek-streamed-requires c κs = search needs
+seek-requires : tie.Need-seek-requires
+seek-requires c κs = search needs
 
 enum-known-sought : tie.Need-enum-known-sought
 enum-known-sought c = search needs
@@ -40,62 +35,51 @@ same-length c = search needs
 
 returns : tie.Need-returns
 returns c =
-    let b = c .before .before .before .before .before .before .before .before .before .before .before in
-    let a = b .args in
-    let found = data-sought (now (a .table)) (now (a .words)) (a .w) (b .pre .1) (b .pre .2) (b .pre .3) (b .pre .4) _ _ _ (c .before .before .before .before .before .has-stream .ensures) (c .before .before .before .before .before .before .before .identifier-of .ensures) (c .before .before .before .before .seek-streamed .ensures) in
+    let b = c .before .before .before .before .before .before .before .before .before in
     let told = c .before .before .enum-told .given .1 in
     rw (c .unheard .ensures)
-    (data-unsought (now (a .table)) (now (a .words)) (a .w) (b .pre .1) (b .pre .2) (b .pre .3) (b .pre .4) _ _ _ (sym found ∙ ap soughtPaper told)
-    (c .before .unsought .ensures ∙ ap (λ (o : Sought). numberOf (soughtPaper o)) told) refl)
-
-count-of-requires : tie.Need-count-of-requires
-count-of-requires c κs = search needs
+    (entered-unsought (now (b .args .table)) (now (b .args .words)) (b .args .w) (b .pre .1) _ _ _ (sym (c .before .before .before .before .seek .ensures) ∙ ap soughtPaper told)
+    (c .before .unsought .ensures ∙ ap (λ (o : Sought). numberOf (soughtPaper o)) told) (c .before .before .before .before .before .before .size-of .ensures .0))
 
 hear-data-requires : tie.Need-hear-data-requires
 hear-data-requires c κs =
-    let b = c .before .before .before .before .before .before .before .before .before .before .before .before in
-    let a = b .args in
-    let found = data-sought (now (a .table)) (now (a .words)) (a .w) (b .pre .1) (b .pre .2) (b .pre .3) (b .pre .4) _ _ _ (c .before .before .before .before .before .before .has-stream .ensures) (c .before .before .before .before .before .before .before .before .identifier-of .ensures) (c .before .before .before .before .before .seek-streamed .ensures) in
-    let f = sym found ∙ ap soughtPaper (c .before .before .before .sought .given .1) in
-    (b .pre .0, found-below _ _ _ _ f, omega (arith, c .count-of .ensures), rw (c .before .before .before .before .before .before .before .before .before .type-of .ensures) (sought-data _ _ _ _ (front-kind _ _ (b .pre .3)) (b .pre .4) f))
+    let b = c .before .before .before .before .before .before .before .before .before in
+    let f = sym (c .before .before .before .before .seek .ensures) ∙ ap soughtPaper (c .before .before .sought .given .1) in
+    (b .pre .0, found-below (b .args .w) (now (b .args .words)) (b .pre .1) _ _ f, found-data (b .args .w) (now (b .args .words)) (b .pre .1) _ _ f (b .pre .2))
 
-cast-t16 : tie.Need-cast-t16
-cast-t16 c =
-    let b = c .before .before .before .before .before .before .before .before .before .before .before .before .before .before .before in
-    let a = b .args in
-    let found = data-sought (now (a .table)) (now (a .words)) (a .w) (b .pre .1) (b .pre .2) (b .pre .3) (b .pre .4) _ _ _ (c .before .before .before .before .before .before .before .before .before .has-stream .ensures) (c .before .before .before .before .before .before .before .before .before .before .before .identifier-of .ensures) (c .before .before .before .before .before .before .before .before .seek-streamed .ensures) in
-    let f = sym found ∙ ap soughtPaper (c .before .before .before .before .before .before .sought .given .1) in
-    omega (arith, data-few _ _ (b .pre .0) (found-below _ _ _ _ f))
+type-of-requires : tie.Need-type-of-requires
+type-of-requires c κs = search needs
+
+cast-t14 : tie.Need-cast-t14
+cast-t14 c =
+    let b = c .before .before .before .before .before .before .before .before .before .before .before .before .before in
+    let f = sym (c .before .before .before .before .before .before .before .before .seek .ensures) ∙ ap soughtPaper (c .before .before .before .before .before .before .sought .given .1) in
+    omega (arith, lent-few _ _ (b .pre .0) (found-below (b .args .w) (now (b .args .words)) (b .pre .1) _ _ f))
 
 same-length-2 : tie.Need-same-length-2
 same-length-2 c = search needs
 
 returns-2 : tie.Need-returns-2
 returns-2 c =
-    let b = c .before .before .before .before .before .before .before .before .before .before .before .before .before .before .before in
-    let a = b .args in
-    let found = data-sought (now (a .table)) (now (a .words)) (a .w) (b .pre .1) (b .pre .2) (b .pre .3) (b .pre .4) _ _ _ (c .before .before .before .before .before .before .before .before .before .has-stream .ensures) (c .before .before .before .before .before .before .before .before .before .before .before .identifier-of .ensures) (c .before .before .before .before .before .before .before .before .seek-streamed .ensures) in
-    let f = sym found ∙ ap soughtPaper (c .before .before .before .before .before .before .sought .given .1) in
-    let n = c .before .before .before .count-of .ensures in
-    data-entered (now (a .table)) (now (a .words)) (a .w) (b .pre .1) (b .pre .2) (b .pre .3) (b .pre .4) _ _ _ _ _ f (c .before .before .before .before .before .before .before .before .before .before .before .before .type-of .ensures)
-    (c .before .before .hear-data .ensures .0 ∙ rw n) (c .before .before .hear-data .ensures .1 ∙ rw n) refl
+    let b = c .before .before .before .before .before .before .before .before .before .before .before .before .before in
+    let f = sym (c .before .before .before .before .before .before .before .before .seek .ensures) ∙ ap soughtPaper (c .before .before .before .before .before .before .sought .given .1) in
+    entered-heard (now (b .args .table)) (now (b .args .words)) (b .args .w) (b .pre .1) _ _ _ _ _ f (c .before .before .before .before .before .before .before .before .before .before .size-of .ensures .0) (c .type-of .ensures)
+    (heard-data (b .args .w) _ (now (b .args .words)) (now (b .args .table)) (b .pre .1) _ _ (b .pre .2) (c .before .before .before .hear-data .ensures .0) (c .before .before .before .hear-data .ensures .1))
 
 pub enter-data-spec : {M : Type 1} → statement M
 enter-data-spec =
     tie.close
     (tie.spec
-    type-of-requires
-    identifier-of-requires
-    has-stream-requires
-    seek-streamed-requires
+    size-of-requires
+    seek-requires
     enum-known-sought
     enum-told
     unsought-requires
     unheard-requires
     same-length
     returns
-    count-of-requires
     hear-data-requires
-    cast-t16
+    type-of-requires
+    cast-t14
     same-length-2
     returns-2)

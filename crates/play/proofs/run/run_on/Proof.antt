@@ -5,7 +5,7 @@ use native.Mathlib.Omega.{arith}
 use denote.Ref.{now}
 use lib.ListN.{length}
 use Rattle.play.specs.Run.{entryWords, walkOf}
-use Rattle.play.proofs.RunLaws.{Running, rest-some, goes-on, stops, entered-stepped, entered-entry, running-start, running-over, running-full, running-turn, running-stop, running-end}
+use Rattle.play.proofs.RunLaws.{Running, rest-some, goes-on, stops, entered-stepped, entered-entry, entered-small, running-start, running-over, running-full, running-turn, running-stop, running-end}
 use borrow.Author.Needs.{needs}
 use Rattle.play.proofs.run.run_on.Statement.{statement}
 use Rattle.play.proofs.run.run_on.Tie as tie
@@ -47,16 +47,16 @@ mul-write-entry : tie.Need-mul-write-entry Inv-loop μ-loop
 mul-write-entry c = search needs
 
 write-entry-requires : tie.Need-write-entry-requires Inv-loop μ-loop
-write-entry-requires c κs = omega (arith, c .before .before .before .before .before .before .before .before .loop .inv .0, c .before .before .before .before .before .before .before .before .loop .inv .1 .long)
+write-entry-requires c κs = (
+  omega (arith, c .before .before .before .before .before .before .before .before .loop .inv .0, c .before .before .before .before .before .before .before .before .loop .inv .1 .long),
+  entered-small (c .before .before .before .enter .ensures),
+)
 
 add-n : tie.Need-add-n Inv-loop μ-loop
 add-n c = search needs
 
-cast-at : tie.Need-cast-at Inv-loop μ-loop
-cast-at c = search needs
-
 add-at : tie.Need-add-at Inv-loop μ-loop
-add-at c = search needs
+add-at c = omega (arith, entered-small (c .before .before .before .before .before .before .before .enter .ensures))
 
 same-length-3 : tie.Need-same-length-3 Inv-loop μ-loop
 same-length-3 c =
@@ -112,7 +112,6 @@ run-on-spec =
     mul-write-entry
     write-entry-requires
     add-n
-    cast-at
     add-at
     same-length-3
     same-length-4

@@ -9,6 +9,9 @@ use Rattle.play.proofs.run.store.Tie as tie
 slice-write-place : tie.Need-slice-write-place
 slice-write-place c = search needs
 
+cast-place : tie.Need-cast-place
+cast-place c = search needs
+
 slice-write-place-2 : tie.Need-slice-write-place-2
 slice-write-place-2 c = search needs
 
@@ -25,13 +28,14 @@ same-length : tie.Need-same-length
 same-length c = search needs
 
 returns : tie.Need-returns
-returns c = entry-stored (c .args .place .now) _ _ _ _ _ (c .pre)
+returns c = entry-stored (c .before .args .place .now) _ _ _ _ _ (c .before .pre .0)
 
 pub store-spec : {M : Type 1} → statement M
 store-spec =
     tie.close
     (tie.spec
     slice-write-place
+    cast-place
     slice-write-place-2
     slice-write-place-3
     slice-write-place-4

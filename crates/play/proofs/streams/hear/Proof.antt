@@ -1,71 +1,48 @@
--- `hear` meets its promise: the record and the body are lent to `hear` of the record, and `heard` says what that leaves.
-use native.Mathlib.Omega.{arith}
-use Rattle.play.proofs.PlayLaws.{hear-few, hear-record, hear-body, hear-asked, heard}
+-- `hear` meets its promise: a Context packet is heard with its body, and another by its header alone.
+use mathlib.Core.Path.{sym, _∙_}
+use denote.Ref.{now}
+use Rattle.play.proofs.StreamLaws.{found-below, found-data}
+use Rattle.play.proofs.PlayLaws.{heard-data}
 use borrow.Author.Needs.{needs}
 use Rattle.play.proofs.streams.hear.Statement.{statement}
 use Rattle.play.proofs.streams.hear.Tie as tie
 
-mul-at : tie.Need-mul-at
-mul-at c = omega (arith, hear-few (c .before .before .args .p) (c .before .before .args .s) (c .before .before .args .words .now) (c .before .before .args .table .now) (c .before .before .pre .0) (c .before .before .pre .1) (c .before .before .pre .2))
+type-of-requires : tie.Need-type-of-requires
+type-of-requires c κs = search needs
 
-add-at : tie.Need-add-at
-add-at c = omega (arith, hear-few (c .before .before .args .p) (c .before .before .args .s) (c .before .before .args .words .now) (c .before .before .args .table .now) (c .before .before .pre .0) (c .before .before .pre .1) (c .before .before .pre .2))
-
-add-end : tie.Need-add-end
-add-end c = omega (arith, hear-few (c .before .before .args .p) (c .before .before .args .s) (c .before .before .args .words .now) (c .before .before .args .table .now) (c .before .before .pre .0) (c .before .before .pre .1) (c .before .before .pre .2))
-
-add-to : tie.Need-add-to
-add-to c = omega (arith, hear-body (c .before .before .before .args .p) (c .before .before .before .args .s) (c .before .before .before .args .words .now) (c .before .before .before .args .table .now) (c .before .before .before .pre .0) (c .before .before .before .pre .1) (c .before .before .before .pre .2))
-
-mul-hear : tie.Need-mul-hear
-mul-hear c = omega (arith, hear-few (c .before .before .before .before .args .p) (c .before .before .before .before .args .s) (c .before .before .before .before .args .words .now) (c .before .before .before .before .args .table .now) (c .before .before .before .before .pre .0) (c .before .before .before .before .pre .1) (c .before .before .before .before .pre .2), hear-record (c .before .before .before .before .args .p) (c .before .before .before .before .args .s) (c .before .before .before .before .args .words .now) (c .before .before .before .before .args .table .now) (c .before .before .before .before .pre .0) (c .before .before .before .before .pre .1) (c .before .before .before .before .pre .2))
-
-sub-hear : tie.Need-sub-hear
-sub-hear c = search needs
-
-part-hear-start : tie.Need-part-hear-start
-part-hear-start c = search needs
-
-part-hear-end : tie.Need-part-hear-end
-part-hear-end c = omega (arith, hear-few (c .before .before .before .before .args .p) (c .before .before .before .before .args .s) (c .before .before .before .before .args .words .now) (c .before .before .before .before .args .table .now) (c .before .before .before .before .pre .0) (c .before .before .before .before .pre .1) (c .before .before .before .before .pre .2), hear-record (c .before .before .before .before .args .p) (c .before .before .before .before .args .s) (c .before .before .before .before .args .words .now) (c .before .before .before .before .args .table .now) (c .before .before .before .before .pre .0) (c .before .before .before .before .pre .1) (c .before .before .before .before .pre .2))
-
-mul-hear-2 : tie.Need-mul-hear-2
-mul-hear-2 c = omega (arith, hear-body (c .before .before .before .before .before .args .p) (c .before .before .before .before .before .args .s) (c .before .before .before .before .before .args .words .now) (c .before .before .before .before .before .args .table .now) (c .before .before .before .before .before .pre .0) (c .before .before .before .before .before .pre .1) (c .before .before .before .before .before .pre .2))
-
-sub-hear-2 : tie.Need-sub-hear-2
-sub-hear-2 c = search needs
-
-part-hear-start-2 : tie.Need-part-hear-start-2
-part-hear-start-2 c = search needs
-
-part-hear-end-2 : tie.Need-part-hear-end-2
-part-hear-end-2 c = omega (arith, hear-body (c .before .before .before .before .before .args .p) (c .before .before .before .before .before .args .s) (c .before .before .before .before .before .args .words .now) (c .before .before .before .before .before .args .table .now) (c .before .before .before .before .before .pre .0) (c .before .before .before .before .before .pre .1) (c .before .before .before .before .before .pre .2))
-
-hear-requires : tie.Need-hear-requires
-hear-requires c κs = hear-asked (c .before .before .before .before .before .before .args .p) (c .before .before .before .before .before .before .args .s) (c .before .before .before .before .before .before .args .words .now) (c .before .before .before .before .before .before .args .table .now) (c .before .before .before .before .before .before .pre .0) (c .before .before .before .before .before .before .pre .1) (c .before .before .before .before .before .before .pre .2)
+hear-context-requires : tie.Need-hear-context-requires
+hear-context-requires c κs =
+    let b = c .before .before .before .before .before in
+    (b .pre .0, found-below (b .args .w) (now (b .args .words)) (b .pre .1) _ _ (b .pre .2), b .pre .1, sym (c .before .before .type-of .ensures) ∙ c .before .if1 .taken)
 
 same-length : tie.Need-same-length
 same-length c = search needs
 
 returns : tie.Need-returns
-returns c = heard (c .before .before .before .before .before .before .before .before .before .args .p) (c .before .before .before .before .before .before .before .before .before .args .s) (c .before .before .before .before .before .before .before .before .before .args .words .now) (c .before .before .before .before .before .before .before .before .before .args .table .now) (c .before .before .before .before .before .before .before .before .before .pre .0) (c .before .before .before .before .before .before .before .before .before .pre .1) (c .before .before .before .before .before .before .before .before .before .pre .2) _ _ (c .before .before .hear .ensures .0) (c .before .before .hear .ensures .1)
+returns c = search needs
+
+hear-data-requires : tie.Need-hear-data-requires
+hear-data-requires c κs =
+    let b = c .before .before .before .before .before in
+    (b .pre .0, found-below (b .args .w) (now (b .args .words)) (b .pre .1) _ _ (b .pre .2), found-data (b .args .w) (now (b .args .words)) (b .pre .1) _ _ (b .pre .2) (λ k. c .before .if1 .left (c .before .before .type-of .ensures ∙ k)))
+
+same-length-2 : tie.Need-same-length-2
+same-length-2 c = search needs
+
+returns-2 : tie.Need-returns-2
+returns-2 c =
+    let b = c .before .before .before .before .before .before .before .before in
+    heard-data (b .args .w) (b .args .s) (now (b .args .words)) (now (b .args .table)) (b .pre .1) _ _ (λ k. c .before .before .before .before .if1 .left (c .before .before .before .before .before .type-of .ensures ∙ k))
+    (c .before .before .hear-data .ensures .0) (c .before .before .hear-data .ensures .1)
 
 pub hear-spec : {M : Type 1} → statement M
 hear-spec =
     tie.close
     (tie.spec
-    mul-at
-    add-at
-    add-end
-    add-to
-    mul-hear
-    sub-hear
-    part-hear-start
-    part-hear-end
-    mul-hear-2
-    sub-hear-2
-    part-hear-start-2
-    part-hear-end-2
-    hear-requires
+    type-of-requires
+    hear-context-requires
     same-length
-    returns)
+    returns
+    hear-data-requires
+    same-length-2
+    returns-2)

@@ -1,21 +1,28 @@
--- `hear_data` meets its promise: the record is lent, and `data-heard` says what that leaves.
+-- `hear_data` meets its promise: the record is lent, and `lent-heard` says what that leaves.
+use mathlib.Core.Path.{_∙_}
 use native.Mathlib.Omega.{arith}
-use Rattle.play.proofs.EntryLaws.{data-few, data-record, data-asked, data-heard}
+use Rattle.play.proofs.PlayLaws.{lent-few, lent-inside, lent-good, lent-heard}
 use borrow.Author.Needs.{needs}
 use Rattle.play.proofs.streams.hear_data.Statement.{statement}
 use Rattle.play.proofs.streams.hear_data.Tie as tie
 
+type-of-requires : tie.Need-type-of-requires
+type-of-requires c κs = search needs
+
+count-of-requires : tie.Need-count-of-requires
+count-of-requires c κs = search needs
+
 mul-first : tie.Need-mul-first
-mul-first c = omega (arith, data-few _ _ (c .before .pre .0) (c .before .pre .1))
+mul-first c = omega (arith, lent-few _ _ (c .before .before .before .pre .0) (c .before .before .before .pre .1))
 
 add-first : tie.Need-add-first
-add-first c = omega (arith, data-few _ _ (c .before .pre .0) (c .before .pre .1))
+add-first c = omega (arith, lent-few _ _ (c .before .before .before .pre .0) (c .before .before .before .pre .1))
 
 add-end : tie.Need-add-end
-add-end c = omega (arith, data-few _ _ (c .before .pre .0) (c .before .pre .1))
+add-end c = omega (arith, lent-few _ _ (c .before .before .before .pre .0) (c .before .before .before .pre .1))
 
 mul-hear-data : tie.Need-mul-hear-data
-mul-hear-data c = omega (arith, data-few _ _ (c .before .pre .0) (c .before .pre .1), data-record _ _ (c .before .pre .0) (c .before .pre .1))
+mul-hear-data c = omega (arith, lent-few _ _ (c .before .before .before .pre .0) (c .before .before .before .pre .1), lent-inside _ _ (c .before .before .before .pre .0) (c .before .before .before .pre .1))
 
 sub-hear-data : tie.Need-sub-hear-data
 sub-hear-data c = search needs
@@ -24,26 +31,30 @@ part-hear-data-start : tie.Need-part-hear-data-start
 part-hear-data-start c = search needs
 
 part-hear-data-end : tie.Need-part-hear-data-end
-part-hear-data-end c = omega (arith, data-few _ _ (c .before .pre .0) (c .before .pre .1), data-record _ _ (c .before .pre .0) (c .before .pre .1))
+part-hear-data-end c = omega (arith, lent-few _ _ (c .before .before .before .pre .0) (c .before .before .before .pre .1), lent-inside _ _ (c .before .before .before .pre .0) (c .before .before .before .pre .1))
 
 hear-data-requires : tie.Need-hear-data-requires
 hear-data-requires c κs =
-    let b = c .before .before in
-    let a = data-asked (b .args .s) (b .args .table .now) (b .pre .0) (b .pre .1) in
-    (a .0, a .1, b .pre .2, b .pre .3)
+    let b = c .before .before .before .before in
+    let a = lent-good (b .args .s) (b .args .table .now) (b .pre .0) (b .pre .1) in
+    (a .0, a .1, omega (arith, c .before .count-of .ensures), rw (c .before .before .type-of .ensures) (b .pre .2))
 
 same-length : tie.Need-same-length
 same-length c = search needs
 
 returns : tie.Need-returns
 returns c =
-    let b = c .before .before .before .before .before in
-    data-heard (b .args .s) (b .args .table .now) (b .pre .0) (b .pre .1) _ _ _ _ (c .before .before .hear-data .ensures .0) (c .before .before .hear-data .ensures .1)
+    let b = c .before .before .before .before .before .before .before in
+    let k = c .before .before .before .before .before .type-of .ensures in
+    let n = c .before .before .before .before .count-of .ensures in
+    lent-heard (b .args .s) (b .args .table .now) (b .pre .0) (b .pre .1) _ _ _ _ _ (c .before .before .hear-data .ensures .0 ∙ rw (k, n)) (c .before .before .hear-data .ensures .1 ∙ rw (k, n))
 
 pub hear-data-spec : {M : Type 1} → statement M
 hear-data-spec =
     tie.close
     (tie.spec
+    type-of-requires
+    count-of-requires
     mul-first
     add-first
     add-end

@@ -1,24 +1,23 @@
--- `seek` meets its promise: each return is a row of the definition.
-use borrow.Author.Tests.{eq-eqb, ne-eqb}
-use Rattle.play.specs.Play.{soughtOf}
+-- `seek` meets its promise: the identifier is looked for where the packet has one.
+use denote.Ref.{now}
+use Rattle.play.proofs.StreamLaws.{headed-sized, sought-in}
 use borrow.Author.Needs.{needs}
 use Rattle.play.proofs.streams.seek.Statement.{statement}
 use Rattle.play.proofs.streams.seek.Tie as tie
 
+identifier-of-requires : tie.Need-identifier-of-requires
+identifier-of-requires c κs = headed-sized _ _ (c .before .before .pre .1)
+
+has-stream-requires : tie.Need-has-stream-requires
+has-stream-requires c κs = search needs
+
+seek-streamed-requires : tie.Need-seek-streamed-requires
+seek-streamed-requires c κs = search needs
+
 returns : tie.Need-returns
-unfolding soughtOf
-returns c = rw (eq-eqb _ _ (c .if1 .taken))
-
-returns-2 : tie.Need-returns-2
-unfolding soughtOf
-returns-2 c = rw (ne-eqb _ _ (c .before .if1 .left), eq-eqb _ _ (c .if2 .taken))
-
-seek-stream-requires : tie.Need-seek-stream-requires
-seek-stream-requires c κs = search needs
-
-returns-3 : tie.Need-returns-3
-unfolding soughtOf
-returns-3 c = rw (ne-eqb _ _ (c .before .before .if1 .left), ne-eqb _ _ (c .before .if2 .left)) (c .seek-stream .ensures)
+returns c =
+    let b = c .before .before .before .before .before in
+    sought-in (b .args .w) (now (b .args .words)) (b .pre .1) (now (b .args .table)) _ _ _ (c .before .has-stream .ensures) (c .before .before .identifier-of .ensures) (c .seek-streamed .ensures)
 
 pub seek-spec : {M : Type 1} → statement M
-seek-spec = tie.close (tie.spec returns returns-2 seek-stream-requires returns-3)
+seek-spec = tie.close (tie.spec identifier-of-requires has-stream-requires seek-streamed-requires returns)

@@ -8,7 +8,7 @@ use lib.Dec.{eqb}
 use Rattle.table.specs.Identifiers.{declared}
 use Rattle.table.proofs.ListLaws.{none-more}
 use Rattle.table.proofs.WellLaws.{well-whole, well-few, well-of}
-use Rattle.play.proofs.EntryLaws.{declared-found, declared-none}
+use Rattle.play.proofs.StreamLaws.{declared-found, declared-none}
 use borrow.Author.Needs.{needs}
 use Rattle.play.proofs.streams.seek_stream.Statement.{statement}
 use Rattle.play.proofs.streams.seek_stream.Tie as tie

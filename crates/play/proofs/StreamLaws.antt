@@ -1,0 +1,131 @@
+-- An accepted packet and its stream. The idea: reading accepts a packet of type 5 at most whose words are there (`headed-kind`, `headed-sized`); the types that
+-- have an identifier are all but 0 and 2, so looking for it where there is one is looking by the type (`sought-in`).
+use mathlib.Core.Path.{_≡_, refl, sym, _∙_}
+use mathlib.Core.Bool.{Bool, true, false, not}
+use mathlib.Core.List.{List, [], _∷_}
+use Prim.Native.Nat.{ℕ, _≤_, _<_}
+use native.Mathlib.Omega.{arith}
+use borrow.Author.Tests.{eq-eqb, ne-eqb, ltb-false, le-leb, lt-leb, leb-false}
+use lib.Dec.{eqb, leb, ltb}
+use lib.ListN.{length, getD}
+use Rattle.words.specs.Numbers.{EMPTY, STREAM}
+use Rattle.words.specs.Tests.{pick, among}
+use Rattle.words.specs.All.{all}
+use Rattle.words.specs.Outcome.{Outcome, refused, accepted}
+use Rattle.words.proofs.Cases.{passed, accepted-same, true-is-false}
+use Rattle.words.proofs.AllLaws.{all-at}
+use Rattle.packet.specs.Header.{typeOf, sizeOf}
+use Rattle.packet.specs.Parts.{streamed, wordIf, requiredOf, bodyOf, partsOf, packetOf}
+use Rattle.packet.specs.Read.{headerChecks, bodyChecks, readOf}
+use Rattle.packet.specs.Front.{frontChecks}
+use Rattle.packet.proofs.ReadLaws.{sized, Passed, Accepts, read-accepts}
+use Rattle.packet.proofs.FrontLaws.{body-accepted}
+use Rattle.table.specs.Layout.{streamsOf}
+use Rattle.table.specs.Identifiers.{declared, streamOf}
+use Rattle.table.proofs.ListLaws.{stream-found, stream-none}
+use Rattle.play.specs.Play.{soughtOf}
+use Rattle.play.specs.Entered.{declaredOf, Headed, soughtIn}
+
+-- ---- the stream of an identifier
+
+module _ (t : List ℕ) (identifier s n : ℕ) (e : n ≡ streamsOf t) (before : (i : ℕ) → i < s → eqb (declared t i) identifier ≡ false) where
+  pub declared-found : s < n → declared t s ≡ identifier → accepted s ≡ declaredOf identifier t
+  declared-found h i =
+      let f : s ≡ streamOf identifier t = stream-found t identifier s n e before h i in
+      let g : streamOf identifier t < streamsOf t = omega arith in
+      rw (lt-leb (streamsOf t) (streamOf identifier t) g, f)
+
+  pub declared-none : s ≡ n → refused STREAM ≡ declaredOf identifier t
+  declared-none i =
+      let f : n ≡ streamOf identifier t = stream-none t identifier s n e before i in
+      let g : streamsOf t ≤ streamOf identifier t = omega arith in
+      rw (le-leb (streamsOf t) (streamOf identifier t) g)
+
+-- ---- the stream by the type
+
+abbrev streamedKinds : List ℕ
+streamedKinds = 1 ∷ 3 ∷ 4 ∷ 5 ∷ []
+
+abbrev otherKinds : List ℕ
+otherKinds = 0 ∷ 2 ∷ []
+
+opposed : ℕ → Bool
+opposed k = pick (among k streamedKinds) (not (among k otherKinds)) (among k otherKinds)
+
+-- the types that have an identifier are all but 0 and 2
+sought-streamed : (kind identifier : ℕ) (t : List ℕ) → kind < 6 → pick (among kind streamedKinds) (declaredOf identifier t) (refused STREAM) ≡ soughtOf kind identifier t
+unfolding opposed all soughtOf
+sought-streamed kind identifier t h =
+    swapped (among kind streamedKinds) (among kind otherKinds) (declaredOf identifier t) (refused STREAM) (all-at opposed 6 kind h refl)
+  where
+    swapped : (a b : Bool) (x y : Outcome ℕ) → pick a (not b) b ≡ true → pick a x y ≡ pick b y x
+    swapped true true x y e = absurd (true-is-false (sym e))
+    swapped true false x y e = refl
+    swapped false true x y e = refl
+    swapped false false x y e = absurd (true-is-false (sym e))
+
+-- STREAM alone is given where none is found
+pub sought-number : (kind identifier : ℕ) (t : List ℕ) (n : ℕ) → soughtOf kind identifier t ≡ refused n → n ≡ STREAM
+unfolding soughtOf
+sought-number kind identifier t n e = number (among kind otherKinds) (leb (streamsOf t) (streamOf identifier t)) (streamOf identifier t) e
+  where
+    number : (a b : Bool) (s : ℕ) → pick a (refused STREAM) (pick b (refused STREAM) (accepted s)) ≡ refused n → n ≡ STREAM
+    number true b s e = cc
+    number false true s e = cc
+    number false false s e = let z : _≡_ {A = ℕ} 0 1 = cc in absurd (omega arith)
+
+-- a stream that is found is one of the table's
+pub sought-below : (kind identifier : ℕ) (t : List ℕ) (s : ℕ) → soughtOf kind identifier t ≡ accepted s → s < streamsOf t
+unfolding soughtOf
+sought-below kind identifier t s f =
+    let a = passed (among kind otherKinds) STREAM (declaredOf identifier t) s f in
+    let b = passed (leb (streamsOf t) (streamOf identifier t)) STREAM (accepted (streamOf identifier t)) s (a .1) in
+    rw (accepted-same (b .1)) at (leb-false (streamsOf t) (streamOf identifier t) (b .0))
+
+dataLike : ℕ → Bool
+dataLike k = pick (eqb k 4) true (pick (among k otherKinds) true (among k (1 ∷ 3 ∷ 5 ∷ [])))
+
+-- a type other than 4 of which a stream is found
+sought-data : (kind identifier : ℕ) (t : List ℕ) (s : ℕ) → kind < 6 → (kind ≡ 4 → ⊥) → soughtOf kind identifier t ≡ accepted s → among kind (1 ∷ 3 ∷ 5 ∷ []) ≡ true
+unfolding dataLike all soughtOf
+sought-data kind identifier t s h n e =
+    rw (ne-eqb kind 4 n, passed (among kind otherKinds) STREAM (declaredOf identifier t) s e .0) at (all-at dataLike 6 kind h refl)
+
+-- ---- an accepted packet, whose header is w
+
+pub read-empty : (ws : List ℕ) → length ws ≡ 0 → readOf ws ≡ refused EMPTY
+unfolding readOf
+read-empty ws e = rw (eq-eqb (length ws) 0 e)
+
+-- words that pass both steps
+pub body-headed : (ws : List ℕ) → 0 < length ws → frontChecks (getD ws 0 0) ws ≡ accepted tt → bodyChecks (typeOf (getD ws 0 0)) (bodyOf (getD ws 0 0) ws) ≡ accepted tt → Headed (getD ws 0 0) ws
+body-headed ws h f b = record { header = refl; reads = body-accepted (getD ws 0 0) ws h refl f b }
+
+module _ (w : ℕ) (ws : List ℕ) (p : Headed w ws) where
+  headed-passed : Passed w ws
+  headed-passed = rw (p .header) (read-accepts ws (packetOf w ws) (p .reads) .passes)
+
+  -- its words are there
+  pub headed-sized : (requiredOf w ≤ sizeOf w) × (sizeOf w ≤ length ws)
+  headed-sized = sized w (length ws) (headed-passed .size)
+
+  headed-kind : typeOf w < 6
+  unfolding headerChecks
+  headed-kind =
+      let k = ltb-false 5 (typeOf w) (passed (ltb 5 (typeOf w)) _ _ tt (headed-passed .header) .0) in
+      omega arith
+
+  module _ (t : List ℕ) where
+    -- its stream, as a program looks for it
+    pub sought-in : (flag : Bool) (identifier : ℕ) (o : Outcome ℕ) → flag ≡ streamed w → identifier ≡ wordIf (streamed w) 1 ws
+        → o ≡ pick flag (declaredOf identifier t) (refused STREAM) → o ≡ soughtIn w ws t
+    unfolding streamed packetOf partsOf
+    sought-in flag identifier o f i e = e ∙ rw (f, i) (sought-streamed (typeOf w) (wordIf (streamed w) 1 ws) t headed-kind)
+
+    pub found-below : (s : ℕ) → soughtIn w ws t ≡ accepted s → s < streamsOf t
+    found-below s f = sought-below (packetOf w ws .parts .kind) (packetOf w ws .parts .identifier) t s f
+
+    -- where it is found, and the type is not 4
+    pub found-data : (s : ℕ) → soughtIn w ws t ≡ accepted s → (typeOf w ≡ 4 → ⊥) → among (typeOf w) (1 ∷ 3 ∷ 5 ∷ []) ≡ true
+    unfolding packetOf partsOf
+    found-data s f n = sought-data (typeOf w) (packetOf w ws .parts .identifier) t s headed-kind n f

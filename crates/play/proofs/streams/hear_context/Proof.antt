@@ -1,0 +1,104 @@
+-- `hear_context` meets its promise: the record and the body are lent, and `lent-heard` and `heard-context` say what that leaves.
+use native.Mathlib.Omega.{arith}
+use denote.Ref.{now}
+use Rattle.play.proofs.StreamLaws.{headed-sized}
+use Rattle.play.proofs.PlayLaws.{lent-few, lent-inside, lent-good, lent-heard, body-lent, body-good, heard-context}
+use borrow.Author.Needs.{needs}
+use Rattle.play.proofs.streams.hear_context.Statement.{statement}
+use Rattle.play.proofs.streams.hear_context.Tie as tie
+
+count-of-requires : tie.Need-count-of-requires
+count-of-requires c κs = search needs
+
+mul-at : tie.Need-mul-at
+mul-at c = omega (arith, lent-few _ _ (c .before .before .before .pre .0) (c .before .before .before .pre .1))
+
+add-at : tie.Need-add-at
+add-at c = omega (arith, lent-few _ _ (c .before .before .before .pre .0) (c .before .before .before .pre .1))
+
+add-end : tie.Need-add-end
+add-end c = omega (arith, lent-few _ _ (c .before .before .before .pre .0) (c .before .before .before .pre .1))
+
+body-at-requires : tie.Need-body-at-requires
+body-at-requires c κs = search needs
+
+body-length-requires : tie.Need-body-length-requires
+body-length-requires c κs = headed-sized _ _ (c .before .before .before .before .pre .2) .0
+
+add-to : tie.Need-add-to
+add-to c =
+    let b = c .before .before .before .before .before in
+    omega (arith, body-lent (b .args .w) (b .args .s) (now (b .args .words)) (now (b .args .table)) (b .pre .2) _ _ (c .before .body-at .ensures .0) (c .body-length .ensures) (b .pre .3))
+
+mul-hear-context : tie.Need-mul-hear-context
+mul-hear-context c =
+    let b = c .before .before .before .before .before in
+    omega (arith, lent-few _ _ (b .pre .0) (b .pre .1), lent-inside _ _ (b .pre .0) (b .pre .1))
+
+sub-hear-context : tie.Need-sub-hear-context
+sub-hear-context c = search needs
+
+part-hear-context-start : tie.Need-part-hear-context-start
+part-hear-context-start c = search needs
+
+part-hear-context-end : tie.Need-part-hear-context-end
+part-hear-context-end c =
+    let b = c .before .before .before .before .before in
+    omega (arith, lent-few _ _ (b .pre .0) (b .pre .1), lent-inside _ _ (b .pre .0) (b .pre .1))
+
+mul-hear-context-2 : tie.Need-mul-hear-context-2
+mul-hear-context-2 c = search needs
+
+sub-hear-context-2 : tie.Need-sub-hear-context-2
+sub-hear-context-2 c = search needs
+
+part-hear-context-start-2 : tie.Need-part-hear-context-start-2
+part-hear-context-start-2 c = search needs
+
+part-hear-context-end-2 : tie.Need-part-hear-context-end-2
+part-hear-context-end-2 c =
+    let b = c .before .before .before .before .before .before in
+    body-lent (b .args .w) (b .args .s) (now (b .args .words)) (now (b .args .table)) (b .pre .2) _ _ (c .before .before .body-at .ensures .0) (c .before .body-length .ensures) (b .pre .3)
+
+hear-context-requires : tie.Need-hear-context-requires
+hear-context-requires c κs =
+    let b = c .before .before .before .before .before .before .before in
+    let a = lent-good (b .args .s) (b .args .table .now) (b .pre .0) (b .pre .1) in (
+      a .0,
+      a .1,
+      omega (arith, c .before .before .before .before .count-of .ensures),
+      body-good (b .args .w) (b .args .s) (now (b .args .words)) (now (b .args .table)) (b .pre .2) _ _ (c .before .before .before .body-at .ensures .0) (c .before .before .body-length .ensures) (b .pre .3),
+    )
+
+same-length : tie.Need-same-length
+same-length c = search needs
+
+returns : tie.Need-returns
+returns c =
+    let b = c .before .before .before .before .before .before .before .before .before .before in
+    heard-context (b .args .w) (b .args .s) (now (b .args .words)) (now (b .args .table)) (b .pre .2) _ _ (c .before .before .before .before .before .before .body-at .ensures .0) (c .before .before .before .before .before .body-length .ensures) (b .pre .3) _ _ _
+    (c .before .before .before .before .before .before .before .count-of .ensures)
+    (lent-heard (b .args .s) (b .args .table .now) (b .pre .0) (b .pre .1) _ _ _ _ _ (c .before .before .hear-context .ensures .0) (c .before .before .hear-context .ensures .1))
+
+pub hear-context-spec : {M : Type 1} → statement M
+hear-context-spec =
+    tie.close
+    (tie.spec
+    count-of-requires
+    mul-at
+    add-at
+    add-end
+    body-at-requires
+    body-length-requires
+    add-to
+    mul-hear-context
+    sub-hear-context
+    part-hear-context-start
+    part-hear-context-end
+    mul-hear-context-2
+    sub-hear-context-2
+    part-hear-context-start-2
+    part-hear-context-end-2
+    hear-context-requires
+    same-length
+    returns)
