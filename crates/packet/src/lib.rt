@@ -51,12 +51,13 @@ pub enum Parsed {
 pub fn read(words: &[u32]) -> Parsed
     ensures { λ r. ⌜ paper r ≡ readOf (now (words .entry)) ⌝ }
 {
-    if words.len() == 0 {
-        return Parsed::Refused(words::EMPTY);
+    let front = checks::check_front(words);
+    if let words::Check::Refused(n) = front {
+        return Parsed::Refused(n);
     }
     let w = words[0];
-    let found = checks::check(w, words);
-    if let words::Check::Refused(n) = found {
+    let body = checks::check_context(w, words);
+    if let words::Check::Refused(n) = body {
         return Parsed::Refused(n);
     }
     Parsed::Accepted(prologue::packet_of(w, words))

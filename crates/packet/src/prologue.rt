@@ -66,15 +66,6 @@ pub fn body_end(w: u32) -> usize
     crate::header::size_of(w) - words::inner::when_so(crate::header::has_trailer(w), 1)
 }
 
-// The words of the body.
-pub fn body_length(w: u32) -> usize
-    requires { ⌜ requiredOf w ≤ sizeOf w ⌝ }
-    ensures { λ r. ⌜ r ≡ bodyLength w ⌝ }
-{
-    crate::header::size_of(w)
-        - (crate::header::body_at(w) + words::inner::when_so(crate::header::has_trailer(w), 1))
-}
-
 // All parts beside the body.
 fn parts_of(w: u32, words: &[u32]) -> crate::Parts
     requires { ⌜ (requiredOf w ≤ sizeOf w) × (sizeOf w ≤ length (now words)) ⌝ }
