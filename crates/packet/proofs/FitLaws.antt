@@ -43,6 +43,12 @@ parts-passed p e =
     let v = passed (not (partsFit p)) _ _ tt (t .1) in
     (omega (arith, ltb-false 5 (p .kind) (t .0)), not-false _ (v .0))
 
+-- each group of checks found nothing
+pub nothing-refused : (p : Parts) (body : List ℕ) (room at size : ℕ) → partsChecks p ≡ accepted tt → measureChecks p (length body) ≡ accepted tt
+    → bodyChecks (p .kind) body ≡ accepted tt → size ≡ sizeFor p (length body) → roomChecks room at size ≡ accepted tt → writeChecks p body room at ≡ accepted tt
+unfolding writeChecks
+nothing-refused p body room at size parts measure context e fits = rw (parts, measure, context, ← e, fits)
+
 -- a packet that may be written
 pub record Writable (p : Parts) (body : List ℕ) (room at : ℕ) : Type 0 where
   pub kind : p .kind < 6

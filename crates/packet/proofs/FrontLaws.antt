@@ -1,53 +1,70 @@
--- Reading in two steps: what looks at no body, and then the body. The idea: the chain of all checks is the front's chain and then the body's
--- (`checks-front`); so a program that asks the front first, and the body of a type 4 packet alone, finds what reading answers.
+-- Reading in two steps: what looks at no body, and then the body. The idea: the chain of reading is the front's chain and then the body's (`read-front`); so a
+-- program that asks the front first, and the body of a type 4 packet alone, finds what reading answers.
 use mathlib.Core.Path.{_≡_, refl, sym, ap, _∙_}
+use mathlib.Core.Bool.{Bool, true, false}
 use mathlib.Core.List.{List}
 use Prim.Native.Nat.{ℕ, _≤_, _<_}
 use native.Mathlib.Omega.{arith}
-use borrow.Author.Tests.{ne-eqb}
+use borrow.Author.Tests.{eqb-false, ne-eqb}
+use lib.Dec.{eqb}
 use lib.ListN.{length, getD}
+use Rattle.words.specs.Tests.{pick}
 use Rattle.words.specs.Outcome.{Outcome, refused, accepted, after}
-use Rattle.words.proofs.Cases.{after-passed}
+use Rattle.words.proofs.Cases.{passed, after-passed}
 use Rattle.packet.specs.Header.{typeOf, sizeOf}
 use Rattle.packet.specs.Parts.{requiredOf, bodyOf, packetOf}
 use Rattle.packet.specs.Read.{headerChecks, sizeChecks, prologueChecks, bodyChecks, checksOf, readOf}
-use Rattle.packet.specs.Front.{frontChecks}
+use Rattle.packet.specs.Front.{headedChecks, frontChecks}
 use Rattle.packet.proofs.ReadLaws.{sized}
 
 after-assoc : {A B C : Type 0} (a : Outcome A) (b : Outcome B) (c : Outcome C) → after (after a b) c ≡ after a (after b c)
 after-assoc (refused n) b c = refl
 after-assoc (accepted x) b c = refl
 
-pub checks-front : (w : ℕ) (ws : List ℕ) → checksOf w ws ≡ after (frontChecks w ws) (bodyChecks (typeOf w) (bodyOf w ws))
-unfolding checksOf frontChecks
-checks-front w ws =
+checks-headed : (w : ℕ) (ws : List ℕ) → checksOf w ws ≡ after (headedChecks w ws) (bodyChecks (typeOf w) (bodyOf w ws))
+unfolding checksOf headedChecks
+checks-headed w ws =
     let b : Outcome Unit = bodyChecks (typeOf w) (bodyOf w ws) in
     let p : Outcome Unit = prologueChecks w ws in
     let s : Outcome Unit = sizeChecks w (length ws) in
     ap (after (headerChecks w)) (sym (after-assoc s p b)) ∙ sym (after-assoc (headerChecks w) (after s p) b)
 
--- a packet that passes the front fits
-pub front-sized : (w : ℕ) (ws : List ℕ) → frontChecks w ws ≡ accepted tt → (requiredOf w ≤ sizeOf w) × (sizeOf w ≤ length ws)
-unfolding frontChecks
-front-sized w ws e =
-    let h = after-passed (headerChecks w) _ tt e in
-    let s = after-passed (sizeChecks w (length ws)) _ tt (h .2) in
-    sized w (length ws) (s .1)
+module _ (ws : List ℕ) where
+  abbrev header : ℕ
+  header = getD ws 0 0
 
-module _ (w : ℕ) (ws : List ℕ) (some : 0 < length ws) (header : w ≡ getD ws 0 0) where
-  read-checks : readOf ws ≡ after (checksOf w ws) (accepted (packetOf w ws))
-  unfolding readOf
-  read-checks = rw (ne-eqb (length ws) 0 (λ e. omega arith), header)
+  read-front : readOf ws ≡ after (frontChecks ws) (after (bodyChecks (typeOf (getD ws 0 0)) (bodyOf (getD ws 0 0) ws)) (accepted (packetOf (getD ws 0 0) ws)))
+  unfolding readOf frontChecks
+  read-front = rw (checks-headed header ws) (first (eqb (length ws) 0) _ (headedChecks header ws) (bodyChecks (typeOf header) (bodyOf header ws)) (accepted (packetOf header ws)))
+    where
+      first : {A B C : Type 0} (t : Bool) (n : ℕ) (a : Outcome A) (b : Outcome B) (c : Outcome C) → pick t (refused n) (after (after a b) c) ≡ after (pick t (refused n) a) (after b c)
+      first true n a b c = refl
+      first false n a b c = after-assoc a b c
 
-  pub front-refuses : (n : ℕ) → frontChecks w ws ≡ refused n → readOf ws ≡ refused n
-  front-refuses n e = rw (read-checks, checks-front w ws, e)
+  pub front-refuses : (n : ℕ) → frontChecks ws ≡ refused n → readOf ws ≡ refused n
+  front-refuses n e = rw (read-front, e)
 
-  pub front-data : frontChecks w ws ≡ accepted tt → (typeOf w ≡ 4 → ⊥) → readOf ws ≡ accepted (packetOf w ws)
-  unfolding bodyChecks
-  front-data e k = rw (read-checks, checks-front w ws, e, ne-eqb (typeOf w) 4 k)
+  module _ (e : frontChecks ws ≡ accepted tt) where
+    -- there is a header, and the packet fits
+    pub front-some : 0 < length ws
+    unfolding frontChecks
+    front-some =
+        let n = eqb-false (length ws) 0 (passed (eqb (length ws) 0) _ _ tt e .0) in
+        omega (arith, n)
 
-  pub body-refuses : frontChecks w ws ≡ accepted tt → (n : ℕ) → bodyChecks (typeOf w) (bodyOf w ws) ≡ refused n → readOf ws ≡ refused n
-  body-refuses e n b = rw (read-checks, checks-front w ws, e, b)
+    pub front-sized : (requiredOf (getD ws 0 0) ≤ sizeOf (getD ws 0 0)) × (sizeOf (getD ws 0 0) ≤ length ws)
+    unfolding frontChecks headedChecks
+    front-sized =
+        let h = after-passed (headerChecks header) _ tt (passed (eqb (length ws) 0) _ _ tt e .1) in
+        let s = after-passed (sizeChecks header (length ws)) _ tt (h .2) in
+        sized header (length ws) (s .1)
 
-  pub body-accepted : frontChecks w ws ≡ accepted tt → bodyChecks (typeOf w) (bodyOf w ws) ≡ accepted tt → readOf ws ≡ accepted (packetOf w ws)
-  body-accepted e b = rw (read-checks, checks-front w ws, e, b)
+    pub front-data : (typeOf (getD ws 0 0) ≡ 4 → ⊥) → readOf ws ≡ accepted (packetOf (getD ws 0 0) ws)
+    unfolding bodyChecks
+    front-data k = rw (read-front, e, ne-eqb (typeOf header) 4 k)
+
+    pub body-refuses : (n : ℕ) → bodyChecks (typeOf (getD ws 0 0)) (bodyOf (getD ws 0 0) ws) ≡ refused n → readOf ws ≡ refused n
+    body-refuses n b = rw (read-front, e, b)
+
+    pub body-accepted : bodyChecks (typeOf (getD ws 0 0)) (bodyOf (getD ws 0 0) ws) ≡ accepted tt → readOf ws ≡ accepted (packetOf (getD ws 0 0) ws)
+    body-accepted b = rw (read-front, e, b)

@@ -1,18 +1,22 @@
--- The words of a packet by their pieces. The idea: each piece has as many words as the header says, so a packet's words are as many as its size.
-use mathlib.Core.Path.{_≡_, refl, ap, _∙_}
+-- The words of a packet by their pieces. The idea: each piece has as many words as the header says, so a packet's words are as many as its size; and
+-- a body that is copied block by block is at each turn its first words and what was there behind them (`copied-more`).
+use mathlib.Core.Path.{_≡_, refl, sym, ap, _∙_}
 use mathlib.Core.Bool.{Bool, true, false}
-use mathlib.Core.List.{List, [], _∷_, _++_}
-use Prim.Native.Nat.{ℕ, _+_, _*_, _%_, _^_}
+use mathlib.Core.List.{List, [], _∷_, _++_, append-assoc}
+use Prim.Native.Nat.{ℕ, _+_, _*_, _%_, _^_, _≤_}
 use native.Mathlib.Nat.{mod-eq-of-lt}
 use native.Mathlib.Omega.{arith}
 use borrow.Author.Tests.{ltb-true}
 use lib.Dec.{ltb}
 use lib.ListN.{length, take, drop, length-append}
-use lib.Seq.{sets, sets-eq}
+use lib.Seq.{sets, sets-eq, length-take-le, drop-drop, take-add, take-length}
 use Rattle.words.specs.Tests.{when}
 use Rattle.words.specs.Word.{join}
+use Rattle.words.specs.Part.{part, put}
 use Rattle.words.specs.Laid.{Laid}
 use Rattle.words.proofs.Cases.{both-left, both-right}
+use Rattle.words.proofs.PartLaws.{part-is, put-at}
+use Rattle.words.proofs.LaidLaws.{sets-put}
 use Rattle.packet.specs.declared.Parts.{Parts}
 use Rattle.packet.specs.Header.{classed, trailed}
 use Rattle.packet.specs.Parts.{streamed, hasSeconds, hasFraction, classAt, secondsAt, fractionAt, bodyAt}
@@ -58,6 +62,21 @@ class-second true oui information packet second fits e =
     let same : second ≡ packet + 2 ^ 16 * (information + 2 ^ 16 * 0) = omega (arith, mod-eq-of-lt i, mod-eq-of-lt p) in
     rw same
 class-second false oui information packet second fits e = refl
+
+-- ---- the body's first a words are copied to the front, and k more
+pub copied-more : (body out : List ℕ) (a k : ℕ) → a + k ≤ length body → put a k (part a k body) (take a body ++ drop a out) ≡ take (a + k) body ++ drop (a + k) out
+copied-more body out a k h =
+    put-at a k (take a body) (drop a out) (part a k body) (length-take-le a body (omega arith))
+    ∙ rw (part-is a k body, drop-drop k a out, take-add a k body, append-assoc)
+
+-- k more that are all
+pub copied-all : (body out after : List ℕ) (a k : ℕ) → a + k ≡ length body → length body ≤ length out → after ≡ put a k (part a k body) (take a body ++ drop a out)
+    → Laid out 0 body (length body) after
+unfolding put
+copied-all body out after a k e h p = record {
+  past = omega arith;
+  kept = p ∙ copied-more body out a k (omega arith) ∙ rw (e, take-length body) (sym (sets-put out body 0 (omega arith)));
+}
 
 -- ---- a packet that may be written
 module _ (p : Parts) (body : List ℕ) (room at : ℕ) (may : Writable p body room at) where

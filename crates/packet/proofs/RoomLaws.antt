@@ -10,7 +10,7 @@ use lib.Dec.{eqb}
 use Rattle.words.specs.Tests.{pick, when, among}
 use Rattle.words.specs.All.{all}
 use Rattle.words.proofs.AllLaws.{all-at}
-use Rattle.words.proofs.Cases.{when-most}
+use Rattle.words.proofs.Cases.{when-most, true-is-false}
 use Rattle.packet.specs.Header.{classed, trailed, sizeOf}
 use Rattle.packet.specs.Parts.{streamed, hasSeconds, hasFraction, classAt, secondsAt, fractionAt, bodyAt, requiredOf, bodyLength}
 
@@ -42,6 +42,11 @@ room w n h g = record {
   trailer = omega (arith, when-most (trailed w) 1);
   around = omega arith;
 }
+
+-- a part of k words that is there lies inside, whole
+pub when-inside : (t : Bool) (at k n : ℕ) → at + when t k ≤ n → t ≡ true → at + k ≤ n
+when-inside true at k n h e = h
+when-inside false at k n h e = absurd (true-is-false (sym e))
 
 -- ---- the types that have a stream identifier, as the bits of one constant
 

@@ -5,8 +5,8 @@ ghost use lib.ListN.{length};
 ghost use Rattle.words.specs.Outcome.{checked};
 ghost use Rattle.packet.specs.Header.{typeOf, sizeOf};
 ghost use Rattle.packet.specs.Parts.{requiredOf, bodyOf};
-ghost use Rattle.packet.specs.Front.{frontChecks};
-ghost use Rattle.packet.specs.Read.{headerChecks, sizeChecks, timeOver, prologueChecks, bodyChecks, checksOf};
+ghost use Rattle.packet.specs.Front.{headedChecks, frontChecks};
+ghost use Rattle.packet.specs.Read.{headerChecks, sizeChecks, timeOver, prologueChecks, bodyChecks};
 
 // TYPE and BITS.
 fn check_header(w: u32) -> words::Check
@@ -47,8 +47,7 @@ fn check_prologue(w: u32, words: &[u32]) -> words::Check
     requires { ⌜ (requiredOf w ≤ sizeOf w) × (sizeOf w ≤ length (now words)) ⌝ }
     ensures { λ r. ⌜ checked r ≡ prologueChecks w (now (words .entry)) ⌝ }
 {
-    let class = crate::prologue::class_of(w, words);
-    if class.high / 0x100_0000 % 256 != 0 {
+    if crate::prologue::class_high(w, words) / 0x100_0000 % 256 != 0 {
         return words::Check::Refused(words::CLASS);
     }
     let tsf = crate::header::tsf_of(w);
@@ -76,14 +75,17 @@ pub fn check_context(w: u32, words: &[u32]) -> words::Check
     requires { ⌜ (requiredOf w ≤ sizeOf w) × (sizeOf w ≤ length (now words)) ⌝ }
     ensures { λ r. ⌜ checked r ≡ bodyChecks (typeOf w) (bodyOf w (now (words .entry))) ⌝ }
 {
+    if crate::header::type_of(w) != 4 {
+        return words::Check::Fine;
+    }
     let at = crate::header::body_at(w);
-    let end = at + crate::prologue::body_length(w);
-    check_body(crate::header::type_of(w), &words[at..end])
+    let end = crate::prologue::body_end(w);
+    fields::check_body(&words[at..end])
 }
 
-// What is refused before the body is looked at: TYPE, BITS, SHORT, CUT, CLASS and TIME.
-pub fn check_front(w: u32, words: &[u32]) -> words::Check
-    ensures { λ r. ⌜ checked r ≡ frontChecks w (now (words .entry)) ⌝ }
+// TYPE, BITS, SHORT, CUT, CLASS and TIME, of words whose header is w.
+fn check_headed(w: u32, words: &[u32]) -> words::Check
+    ensures { λ r. ⌜ checked r ≡ headedChecks w (now (words .entry)) ⌝ }
 {
     let header = check_header(w);
     if let words::Check::Refused(n) = header {
@@ -96,13 +98,12 @@ pub fn check_front(w: u32, words: &[u32]) -> words::Check
     check_prologue(w, words)
 }
 
-// All of them, in their order.
-pub fn check(w: u32, words: &[u32]) -> words::Check
-    ensures { λ r. ⌜ checked r ≡ checksOf w (now (words .entry)) ⌝ }
+// What is refused before the body is looked at: EMPTY, and then those.
+pub fn check_front(words: &[u32]) -> words::Check
+    ensures { λ r. ⌜ checked r ≡ frontChecks (now (words .entry)) ⌝ }
 {
-    let front = check_front(w, words);
-    if let words::Check::Refused(n) = front {
-        return words::Check::Refused(n);
+    if words.len() == 0 {
+        return words::Check::Refused(words::EMPTY);
     }
-    check_context(w, words)
+    check_headed(words[0], words)
 }

@@ -1,9 +1,8 @@
 // The refusals of writing. Each number of the list is given in one place, but for those that reading has too.
 ghost use mathlib.Core.Path.{_≡_};
-ghost use Prim.Native.Nat.{_≤_, _<_, _^_};
-ghost use mathlib.Core.Bool.{true};
+ghost use Prim.Native.Nat.{_≤_};
 ghost use Rattle.words.specs.Outcome.{checked};
-ghost use Rattle.packet.specs.Write.{codesFit, flagsFit, classFits, partsFit, partsChecks, measureChecks, roomChecks, writeChecks};
+ghost use Rattle.packet.specs.Write.{sizeFor, codesFit, flagsFit, classFits, partsChecks, measureChecks, roomChecks};
 
 // Whether TSI, TSF and the count fit their bits.
 fn codes_fit(tsi: u32, tsf: u32, count: u32) -> bool
@@ -34,7 +33,7 @@ fn class_fits(classed: bool, oui: u32, information: u32, packet: u32) -> bool
 }
 
 // TYPE and VALUE.
-fn check_parts(p: crate::Parts) -> words::Check
+pub fn check_parts(p: crate::Parts) -> words::Check
     ensures { λ r. ⌜ checked r ≡ partsChecks p ⌝ }
 {
     if 5 < p.kind {
@@ -49,15 +48,15 @@ fn check_parts(p: crate::Parts) -> words::Check
     words::Check::Refused(words::VALUE)
 }
 
-// SHORT, SIZE and TIME, of a body of n words.
-fn check_measure(p: crate::Parts, n: usize) -> words::Check
-    requires { ⌜ (partsFit p ≡ true) × (p .kind < 6) × (n < 2 ^ 62) ⌝ }
+// SHORT, SIZE and TIME, of a packet of a size with a body of n words.
+pub fn check_measure(p: crate::Parts, n: usize, size: usize) -> words::Check
+    requires { ⌜ size ≡ sizeFor p n ⌝ }
     ensures { λ r. ⌜ checked r ≡ measureChecks p n ⌝ }
 {
     if words::inner::both_of(p.kind == 4, n == 0) {
         return words::Check::Refused(words::SHORT);
     }
-    if 65535 < crate::laying::size_for(p, n) {
+    if 65535 < size {
         return words::Check::Refused(words::SIZE);
     }
     if crate::checks::time_over(p.tsf, p.fraction) {
@@ -67,7 +66,7 @@ fn check_measure(p: crate::Parts, n: usize) -> words::Check
 }
 
 // ROOM, of a packet of a size in a buffer with room words.
-fn check_room(room: usize, at: usize, size: usize) -> words::Check
+pub fn check_room(room: usize, at: usize, size: usize) -> words::Check
     requires { ⌜ 1 ≤ size ⌝ }
     ensures { λ r. ⌜ checked r ≡ roomChecks room at size ⌝ }
 {
@@ -78,23 +77,4 @@ fn check_room(room: usize, at: usize, size: usize) -> words::Check
         return words::Check::Refused(words::ROOM);
     }
     words::Check::Fine
-}
-
-// All of them, in their order, of a packet to be written at a place of a buffer with room words.
-pub fn check(p: crate::Parts, body: &[u32], room: usize, at: usize) -> words::Check
-    ensures { λ r. ⌜ checked r ≡ writeChecks p (now (body .entry)) room at ⌝ }
-{
-    let parts = check_parts(p);
-    if let words::Check::Refused(n) = parts {
-        return words::Check::Refused(n);
-    }
-    let measure = check_measure(p, body.len());
-    if let words::Check::Refused(n) = measure {
-        return words::Check::Refused(n);
-    }
-    let context = crate::checks::check_body(p.kind, body);
-    if let words::Check::Refused(n) = context {
-        return words::Check::Refused(n);
-    }
-    check_room(room, at, crate::laying::size_for(p, body.len()))
 }

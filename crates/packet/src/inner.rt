@@ -6,5 +6,5 @@ pub use crate::header::count_of;
 pub use crate::header::has_stream;
 pub use crate::header::size_of;
 pub use crate::header::type_of;
-pub use crate::prologue::body_length;
+pub use crate::prologue::body_end;
 pub use crate::prologue::identifier_of;

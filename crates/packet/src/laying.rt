@@ -6,8 +6,10 @@ ghost use Prim.Native.Nat.{_+_, _*_, _%_, _^_, _≤_, _<_};
 ghost use lib.ListN.{length, take, drop};
 ghost use Rattle.words.specs.Tests.{when};
 ghost use Rattle.words.specs.Outcome.{accepted};
+ghost use Rattle.words.specs.Part.{part, put};
 ghost use Rattle.words.specs.Laid.{Laid};
-ghost use Rattle.packet.specs.Header.{classed};
+ghost use Rattle.packet.specs.Header.{classed, trailed};
+ghost use Rattle.packet.specs.Parts.{bodyAt};
 ghost use Rattle.packet.specs.Write.{bit, headerWord, sizeFor, given, headWords, classWords, timeWords, prologueWords, trailerWords, packetWords, classFits, partsFit, writeChecks};
 
 // 1 for a flag that is set.
@@ -18,7 +20,7 @@ fn bit_of(flag: bool) -> u32
 }
 
 // The header word, with a size of 0.
-fn header_word(p: crate::Parts) -> u32
+pub fn header_word(p: crate::Parts) -> u32
     requires { ⌜ (p .kind < 6) × (p .tsi < 4) × (p .tsf < 4) × (p .count < 16) ⌝ }
     ensures { λ r. ⌜ (r ≡ headerWord p 0) × (r < 1610612736) ⌝ }
 {
@@ -34,12 +36,11 @@ fn header_word(p: crate::Parts) -> u32
         + p.count * 0x1_0000
 }
 
-// The words of a packet whose body has n.
-pub fn size_for(p: crate::Parts, n: usize) -> usize
-    requires { ⌜ (partsFit p ≡ true) × (p .kind < 6) × (n < 2 ^ 62) ⌝ }
-    ensures { λ r. ⌜ (r ≡ sizeFor p n) × (1 ≤ r) ⌝ }
+// The words of a packet whose header word is w but for its size, and whose body has n.
+pub fn size_for(w: u32, n: usize) -> usize
+    requires { ⌜ n < 2 ^ 62 ⌝ }
+    ensures { λ r. ⌜ (r ≡ bodyAt w + n + when (trailed w) 1) × (1 ≤ r) ⌝ }
 {
-    let w = header_word(p);
     crate::header::body_at(w) + n + words::inner::when_so(crate::header::has_trailer(w), 1)
 }
 
@@ -115,13 +116,33 @@ fn lay_prologue(w: u32, p: crate::Parts, out: &mut [u32]) -> usize
     lay_time(w, p, out, b)
 }
 
-// The body, from the start of a buffer.
+// The words of a block.
+const BLOCK: usize = 8;
+
+// A block of the body, at the same place of a buffer. Through an array of its own it is copied without a loop.
+fn lay_block(body: &[u32], out: &mut [u32], at: usize)
+    requires { ⌜ (at + 8 ≤ length (now body)) × (at + 8 ≤ length (now out)) ⌝ }
+    ensures { λ _. ⌜ now (out .exit) ≡ put at 8 (part at 8 (now (body .entry))) (now (out .entry)) ⌝ }
+{
+    let mut block = [0u32; BLOCK];
+    words::inner::copy_part(&mut block, 0, body, at, BLOCK);
+    words::inner::copy_part(out, at, &block, 0, BLOCK);
+}
+
+// The body, from the start of a buffer: the whole blocks, and then what is left.
 fn lay_body(body: &[u32], out: &mut [u32]) -> usize
     requires { ⌜ length (now body) ≤ length (now out) ⌝ }
     ensures { λ r. ⌜ Laid (now (out .entry)) 0 (now (body .entry)) r (now (out .exit)) ⌝ }
 {
     let n = body.len();
-    words::inner::copy_part(out, 0, body, 0, n);
+    let blocks = n / BLOCK;
+    let mut i = 0;
+    while i < blocks {
+        lay_block(body, out, i * BLOCK);
+        i += 1;
+    }
+    let done = blocks * BLOCK;
+    words::inner::copy_part(out, done, body, done, n - done);
     n
 }
 
@@ -144,13 +165,11 @@ fn lay_parts(w: u32, p: crate::Parts, body: &[u32], out: &mut [u32], at: usize) 
     b + lay_trailer(w, p, &mut out[b..])
 }
 
-// A packet that nothing refuses, at its place; answers its size.
-pub fn lay(p: crate::Parts, body: &[u32], out: &mut [u32], at: usize) -> usize
+// A packet that nothing refuses, at its place; w is its header word but for its size.
+pub fn lay(w: u32, size: usize, p: crate::Parts, body: &[u32], out: &mut [u32], at: usize)
     requires { ⌜ writeChecks p (now body) (length (now out)) at ≡ accepted tt ⌝ }
-    ensures { λ r. ⌜ (r ≡ sizeFor p (length (now (body .entry)))) × (now (out .exit) ≡ take at (now (out .entry)) ++ packetWords p (now (body .entry)) ++ drop (at + r) (now (out .entry))) ⌝ }
+    requires { ⌜ (w ≡ headerWord p 0) × (w < 1610612736) × (size ≡ sizeFor p (length (now body))) ⌝ }
+    ensures { λ _. ⌜ now (out .exit) ≡ take at (now (out .entry)) ++ packetWords p (now (body .entry)) ++ drop (at + size) (now (out .entry)) ⌝ }
 {
-    let size = size_for(p, body.len());
-    let w = header_word(p) + size as u32;
-    lay_parts(w, p, body, out, at);
-    size
+    lay_parts(w + size as u32, p, body, out, at);
 }

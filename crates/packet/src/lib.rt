@@ -51,12 +51,13 @@ pub enum Parsed {
 pub fn read(words: &[u32]) -> Parsed
     ensures { λ r. ⌜ paper r ≡ readOf (now (words .entry)) ⌝ }
 {
-    if words.len() == 0 {
-        return Parsed::Refused(words::EMPTY);
+    let front = checks::check_front(words);
+    if let words::Check::Refused(n) = front {
+        return Parsed::Refused(n);
     }
     let w = words[0];
-    let found = checks::check(w, words);
-    if let words::Check::Refused(n) = found {
+    let body = checks::check_context(w, words);
+    if let words::Check::Refused(n) = body {
         return Parsed::Refused(n);
     }
     Parsed::Accepted(prologue::packet_of(w, words))
@@ -73,11 +74,26 @@ pub enum Written {
 pub fn write(parts: Parts, body: &[u32], out: &mut [u32], at: usize) -> Written
     ensures { λ r. ⌜ Meets writtenPaper (writeOf parts (now (body .entry)) (now (out .entry)) at) (now (out .entry)) r (now (out .exit)) ⌝ }
 {
-    let found = fit::check(parts, body, out.len(), at);
+    let found = fit::check_parts(parts);
     if let words::Check::Refused(n) = found {
         return Written::Refused(n);
     }
-    Written::Accepted(laying::lay(parts, body, out, at))
+    let w = laying::header_word(parts);
+    let size = laying::size_for(w, body.len());
+    let measure = fit::check_measure(parts, body.len(), size);
+    if let words::Check::Refused(n) = measure {
+        return Written::Refused(n);
+    }
+    let context = checks::check_body(parts.kind, body);
+    if let words::Check::Refused(n) = context {
+        return Written::Refused(n);
+    }
+    let room = fit::check_room(out.len(), at, size);
+    if let words::Check::Refused(n) = room {
+        return Written::Refused(n);
+    }
+    laying::lay(w, size, parts, body, out, at);
+    Written::Accepted(size)
 }
 
 // A trailer word's parts.

@@ -1,38 +1,17 @@
 // The parts of a packet whose words are all there.
 ghost use mathlib.Core.Path.{_≡_};
-ghost use Prim.Native.Nat.{_+_, _≤_};
+ghost use mathlib.Core.Bool.{true};
+ghost use Prim.Native.Nat.{_+_, _≤_, _<_};
 ghost use lib.ListN.{length};
-ghost use Rattle.words.specs.Tests.{when};
 ghost use Rattle.packet.specs.Header.{sizeOf};
-ghost use Rattle.packet.specs.Parts.{streamed, requiredOf, bodyLength, wordIf, classHigh, classLow, fractionOf, partsOf, packetOf};
+ghost use Rattle.packet.specs.Parts.{streamed, requiredOf, bodyAt, bodyLength, wordIf, classHigh, classLow, fractionOf, partsOf, packetOf};
 
 // The word at a place, of a part that may be absent.
 fn word_if(present: bool, at: usize, words: &[u32]) -> u32
-    requires { ⌜ at + when present 1 ≤ length (now words) ⌝ }
+    requires { ⌜ (present ≡ true → at < length (now words)) ⌝ }
     ensures { λ r. ⌜ r ≡ wordIf present at (now (words .entry)) ⌝ }
 {
     if present { words[at] } else { 0 }
-}
-
-// Two words.
-pub struct Pair {
-    pub high: u32,
-    pub low: u32,
-}
-
-// The two words from a place on, of a part that may be absent.
-fn pair_if(present: bool, at: usize, words: &[u32]) -> Pair
-    requires { ⌜ at + when present 2 ≤ length (now words) ⌝ }
-    ensures { λ r. ⌜ (r .high ≡ wordIf present at (now (words .entry))) × (r .low ≡ wordIf present (at + 1) (now (words .entry))) ⌝ }
-{
-    if present {
-        Pair {
-            high: words[at],
-            low: words[at + 1],
-        }
-    } else {
-        Pair { high: 0, low: 0 }
-    }
 }
 
 // The stream identifier.
@@ -43,14 +22,26 @@ pub fn identifier_of(w: u32, words: &[u32]) -> u32
     word_if(crate::header::has_stream(w), 1, words)
 }
 
-// The class's two words.
-pub fn class_of(w: u32, words: &[u32]) -> Pair
+// The class's first word.
+pub fn class_high(w: u32, words: &[u32]) -> u32
     requires { ⌜ (requiredOf w ≤ sizeOf w) × (sizeOf w ≤ length (now words)) ⌝ }
-    ensures { λ r. ⌜ (r .high ≡ classHigh w (now (words .entry))) × (r .low ≡ classLow w (now (words .entry))) ⌝ }
+    ensures { λ r. ⌜ r ≡ classHigh w (now (words .entry)) ⌝ }
 {
-    pair_if(
+    word_if(
         crate::header::has_class(w),
         crate::header::class_at(w),
+        words,
+    )
+}
+
+// The class's second word.
+fn class_low(w: u32, words: &[u32]) -> u32
+    requires { ⌜ (requiredOf w ≤ sizeOf w) × (sizeOf w ≤ length (now words)) ⌝ }
+    ensures { λ r. ⌜ r ≡ classLow w (now (words .entry)) ⌝ }
+{
+    word_if(
+        crate::header::has_class(w),
+        crate::header::class_at(w) + 1,
         words,
     )
 }
@@ -60,21 +51,19 @@ pub fn fraction_of(w: u32, words: &[u32]) -> u64
     requires { ⌜ (requiredOf w ≤ sizeOf w) × (sizeOf w ≤ length (now words)) ⌝ }
     ensures { λ r. ⌜ r ≡ fractionOf w (now (words .entry)) ⌝ }
 {
-    let pair = pair_if(
-        crate::header::has_fraction(w),
-        crate::header::fraction_at(w),
-        words,
-    );
-    words::inner::high_first(pair.high, pair.low)
+    let present = crate::header::has_fraction(w);
+    let at = crate::header::fraction_at(w);
+    let high = word_if(present, at, words);
+    let low = word_if(present, at + 1, words);
+    words::inner::high_first(high, low)
 }
 
-// The words of the body.
-pub fn body_length(w: u32) -> usize
+// Where the body ends.
+pub fn body_end(w: u32) -> usize
     requires { ⌜ requiredOf w ≤ sizeOf w ⌝ }
-    ensures { λ r. ⌜ r ≡ bodyLength w ⌝ }
+    ensures { λ r. ⌜ r ≡ bodyAt w + bodyLength w ⌝ }
 {
-    crate::header::size_of(w)
-        - (crate::header::body_at(w) + words::inner::when_so(crate::header::has_trailer(w), 1))
+    crate::header::size_of(w) - words::inner::when_so(crate::header::has_trailer(w), 1)
 }
 
 // All parts beside the body.
@@ -82,9 +71,8 @@ fn parts_of(w: u32, words: &[u32]) -> crate::Parts
     requires { ⌜ (requiredOf w ≤ sizeOf w) × (sizeOf w ≤ length (now words)) ⌝ }
     ensures { λ r. ⌜ r ≡ partsOf w (now (words .entry)) ⌝ }
 {
-    let class = class_of(w, words);
-    let high = class.high;
-    let low = class.low;
+    let high = class_high(w, words);
+    let low = class_low(w, words);
     crate::Parts {
         kind: crate::header::type_of(w),
         classed: crate::header::has_class(w),
@@ -117,10 +105,11 @@ pub fn packet_of(w: u32, words: &[u32]) -> crate::Packet
     ensures { λ r. ⌜ r ≡ packetOf w (now (words .entry)) ⌝ }
 {
     let parts = parts_of(w, words);
+    let body = crate::header::body_at(w);
     crate::Packet {
         parts,
         size: crate::header::size_of(w),
-        body: crate::header::body_at(w),
-        length: body_length(w),
+        body,
+        length: body_end(w) - body,
     }
 }

@@ -71,20 +71,20 @@ module _ (w s : ℕ) (ws t : List ℕ) (p : Headed w ws) where
   }
 
   -- of type 4: its body is lent
-  module _ (from n : ℕ) (f : from ≡ bodyAt w) (g : n ≡ bodyLength w) (k : typeOf w ≡ 4) where
-    body-seen : take (from + n - from) (drop from ws) ≡ part (bodyAt w) (bodyLength w) ws
-    body-seen = seen from (from + n) n ws refl ∙ rw (f, g)
+  module _ (from to : ℕ) (f : from ≡ bodyAt w) (g : to ≡ bodyAt w + bodyLength w) (k : typeOf w ≡ 4) where
+    body-seen : take (to - from) (drop from ws) ≡ part (bodyAt w) (bodyLength w) ws
+    body-seen = rw (f, g) (seen (bodyAt w) (bodyAt w + bodyLength w) (bodyLength w) ws refl)
 
-    pub body-lent : from + n ≤ length ws
+    pub body-lent : (from ≤ to) × (to ≤ length ws)
     unfolding packetOf
-    body-lent = rw (f, g) (le-trans (body-inside ws (packetOf w ws) (p .reads)) (read-inside ws (packetOf w ws) (p .reads)))
+    body-lent = (omega (arith, f, g), rw g (le-trans (body-inside ws (packetOf w ws) (p .reads)) (read-inside ws (packetOf w ws) (p .reads))))
 
-    pub body-good : contextOf (take (from + n - from) (drop from ws)) ≡ accepted tt
+    pub body-good : contextOf (take (to - from) (drop from ws)) ≡ accepted tt
     unfolding packetOf partsOf
     body-good = ap contextOf body-seen ∙ body-context ws (packetOf w ws) (p .reads) k
 
     pub heard-context : (count more : ℕ) (left : List ℕ) → count ≡ countOf w
-        → (more ≡ addedBy 4 count (recordAt s t)) × (left ≡ withRecord s (recordAfter 4 count (take (from + n - from) (drop from ws)) (recordAt s t)) t) → HeardAs w s ws t more left
+        → (more ≡ addedBy 4 count (recordAt s t)) × (left ≡ withRecord s (recordAfter 4 count (take (to - from) (drop from ws)) (recordAt s t)) t) → HeardAs w s ws t more left
     unfolding packetOf partsOf tableAfter
     heard-context count more left c h = record {
       adds = rw k (rw c at h .0);

@@ -5,10 +5,10 @@ use mathlib.Core.Bool.{Bool, true, false, not}
 use mathlib.Core.List.{List, [], _∷_}
 use Prim.Native.Nat.{ℕ, _≤_, _<_}
 use native.Mathlib.Omega.{arith}
-use borrow.Author.Tests.{eq-eqb, ne-eqb, ltb-false, le-leb, lt-leb, leb-false}
+use borrow.Author.Tests.{ne-eqb, ltb-false, le-leb, lt-leb, leb-false}
 use lib.Dec.{eqb, leb, ltb}
 use lib.ListN.{length, getD}
-use Rattle.words.specs.Numbers.{EMPTY, STREAM}
+use Rattle.words.specs.Numbers.{STREAM}
 use Rattle.words.specs.Tests.{pick, among}
 use Rattle.words.specs.All.{all}
 use Rattle.words.specs.Outcome.{Outcome, refused, accepted}
@@ -16,7 +16,7 @@ use Rattle.words.proofs.Cases.{passed, accepted-same, true-is-false}
 use Rattle.words.proofs.AllLaws.{all-at}
 use Rattle.packet.specs.Header.{typeOf, sizeOf}
 use Rattle.packet.specs.Parts.{streamed, wordIf, requiredOf, bodyOf, partsOf, packetOf}
-use Rattle.packet.specs.Read.{headerChecks, bodyChecks, readOf}
+use Rattle.packet.specs.Read.{headerChecks, bodyChecks}
 use Rattle.packet.specs.Front.{frontChecks}
 use Rattle.packet.proofs.ReadLaws.{sized, Passed, Accepts, read-accepts}
 use Rattle.packet.proofs.FrontLaws.{body-accepted}
@@ -93,13 +93,9 @@ sought-data kind identifier t s h n e =
 
 -- ---- an accepted packet, whose header is w
 
-pub read-empty : (ws : List ℕ) → length ws ≡ 0 → readOf ws ≡ refused EMPTY
-unfolding readOf
-read-empty ws e = rw (eq-eqb (length ws) 0 e)
-
 -- words that pass both steps
-pub body-headed : (ws : List ℕ) → 0 < length ws → frontChecks (getD ws 0 0) ws ≡ accepted tt → bodyChecks (typeOf (getD ws 0 0)) (bodyOf (getD ws 0 0) ws) ≡ accepted tt → Headed (getD ws 0 0) ws
-body-headed ws h f b = record { header = refl; reads = body-accepted (getD ws 0 0) ws h refl f b }
+pub body-headed : (ws : List ℕ) → frontChecks ws ≡ accepted tt → bodyChecks (typeOf (getD ws 0 0)) (bodyOf (getD ws 0 0) ws) ≡ accepted tt → Headed (getD ws 0 0) ws
+body-headed ws f b = record { header = refl; reads = body-accepted ws f b }
 
 module _ (w : ℕ) (ws : List ℕ) (p : Headed w ws) where
   headed-passed : Passed w ws

@@ -67,11 +67,11 @@ pub fn enter(table: &mut [u32], words: &[u32]) -> Entry
     requires { ⌜ (wellMade (now table) ≡ true) × (0 < length (now words)) ⌝ }
     ensures { λ r. ⌜ Entered (now (table .entry)) (now (words .entry)) r (now (table .exit)) ⌝ }
 {
-    let w = words[0];
-    let front = packet::inner::check_front(w, words);
+    let front = packet::inner::check_front(words);
     let words::Check::Fine = front else {
         return unheard(crate::streams::unmade(front), 0);
     };
+    let w = words[0];
     if packet::inner::type_of(w) != 4 {
         return enter_data(table, words, w);
     }

@@ -32,14 +32,11 @@ fn play_on(table: &mut [u32], words: &[u32]) -> Played
     requires { ⌜ wellMade (now table) ≡ true ⌝ }
     ensures { λ r. ⌜ Meets paper (stepOf (now (table .entry)) (now (words .entry))) (now (table .entry)) r (now (table .exit)) ⌝ }
 {
-    if words.len() == 0 {
-        return Played::Refused(words::EMPTY);
-    }
-    let w = words[0];
-    let front = packet::inner::check_front(w, words);
+    let front = packet::inner::check_front(words);
     let words::Check::Fine = front else {
         return Played::Refused(streams::unmade(front));
     };
+    let w = words[0];
     let body = packet::inner::check_context(w, words);
     let words::Check::Fine = body else {
         return Played::Refused(streams::unmade(body));

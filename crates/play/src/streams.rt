@@ -108,7 +108,7 @@ pub fn hear_context(table: &mut [u32], s: usize, words: &[u32], w: u32) -> u32
     let at = 1 + record::inner::RECORD_WORDS * s;
     let end = at + record::inner::RECORD_WORDS;
     let from = packet::inner::body_at(w);
-    let to = from + packet::inner::body_length(w);
+    let to = packet::inner::body_end(w);
     record::inner::hear_context(&mut table[at..end], count, &words[from..to])
 }
 

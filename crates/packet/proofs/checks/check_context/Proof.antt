@@ -1,26 +1,28 @@
--- `check_context` meets its promise: the body lies inside (`room`), and is what is lent.
-use mathlib.Core.Path.{refl}
+-- `check_context` meets its promise: the body of a type 4 packet lies inside (`room`), and is what is lent.
 use native.Mathlib.Omega.{arith}
+use denote.Ref.{now}
+use borrow.Author.Tests.{eq-eqb}
+use Rattle.words.proofs.Cases.{cases}
 use Rattle.words.proofs.PartLaws.{seen}
-use Rattle.packet.specs.Parts.{bodyOf}
+use Rattle.packet.specs.Parts.{bodyLength, bodyOf}
+use Rattle.packet.specs.Read.{bodyChecks}
 use Rattle.packet.proofs.RoomLaws.{room}
 use borrow.Author.Needs.{needs}
 use Rattle.packet.proofs.checks.check_context.Statement.{statement}
 use Rattle.packet.proofs.checks.check_context.Tie as tie
 
+type-of-requires : tie.Need-type-of-requires
+type-of-requires c κs = search needs
+
+returns : tie.Need-returns
+unfolding bodyChecks
+returns c = search (cases, ← c .before .type-of .ensures)
+
 body-at-requires : tie.Need-body-at-requires
 body-at-requires c κs = search needs
 
-body-length-requires : tie.Need-body-length-requires
-body-length-requires c κs = search needs
-
-add-end : tie.Need-add-end
-add-end c =
-    let s = c .before .before .before in
-    omega (arith, room _ _ (s .pre .0) (s .pre .1) .body, c .body-length .ensures, c .before .body-at .ensures .0)
-
-type-of-requires : tie.Need-type-of-requires
-type-of-requires c κs = search needs
+body-end-requires : tie.Need-body-end-requires
+body-end-requires c κs = search needs
 
 mul-check-body : tie.Need-mul-check-body
 mul-check-body c = search needs
@@ -33,29 +35,32 @@ part-check-body-start c = search needs
 
 part-check-body-end : tie.Need-part-check-body-end
 part-check-body-end c =
-    let s = c .before .before .before .before in
-    omega (arith, room _ _ (s .pre .0) (s .pre .1) .body, c .before .body-length .ensures, c .before .before .body-at .ensures .0)
+    let s = c .before .before .before .before .before in
+    omega (arith, room _ _ (s .pre .0) (s .pre .1) .body, c .body-end .ensures, c .before .body-at .ensures .0)
 
 check-body-requires : tie.Need-check-body-requires
 check-body-requires c κs = search needs
 
-returns : tie.Need-returns
-unfolding bodyOf
-returns c =
+returns-2 : tie.Need-returns-2
+unfolding bodyChecks bodyOf
+returns-2 c =
     let b = c .before .before .before in
-    rw (← c .before .before .type-of .ensures, ← b .before .body-at .ensures .0, ← b .body-length .ensures, ← seen _ _ _ _ refl) (c .check-body .ensures)
+    let t = b .before .before in
+    let a = t .before .before .args in
+    let e = seen (b .body-at .result) (c .before .before .body-end .result) (bodyLength (a .w)) (now (a .words)) (omega (arith, c .before .before .body-end .ensures, b .body-at .ensures .0)) in
+    rw (← t .type-of .ensures, eq-eqb _ _ (b .before .if1 .left), ← b .body-at .ensures .0, ← e) (c .check-body .ensures)
 
 pub check-context-spec : {M : Type 1} → statement M
 check-context-spec =
     tie.close
     (tie.spec
-    body-at-requires
-    body-length-requires
-    add-end
     type-of-requires
+    returns
+    body-at-requires
+    body-end-requires
     mul-check-body
     sub-check-body
     part-check-body-start
     part-check-body-end
     check-body-requires
-    returns)
+    returns-2)

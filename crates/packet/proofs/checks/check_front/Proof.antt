@@ -1,56 +1,23 @@
--- `check_front` meets its promise: a refusal found ends the chain there, and else the chain goes on.
-use mathlib.Core.Path.{sym, ap, _∙_}
-use Rattle.words.specs.Outcome.{checked}
+-- `check_front` meets its promise: no words are EMPTY, and else the header word decides.
+use borrow.Author.Tests.{eq-eqb, ne-eqb}
 use Rattle.packet.specs.Front.{frontChecks}
-use Rattle.packet.proofs.ReadLaws.{sized}
 use borrow.Author.Needs.{needs}
 use Rattle.packet.proofs.checks.check_front.Statement.{statement}
 use Rattle.packet.proofs.checks.check_front.Tie as tie
 
-check-header-requires : tie.Need-check-header-requires
-check-header-requires c κs = search needs
-
-enum-known-header : tie.Need-enum-known-header
-enum-known-header c = search needs
-
 returns : tie.Need-returns
 unfolding frontChecks
-returns c = rw (← c .before .before .before .check-header .ensures, c .before .header .given .1)
+returns c = rw (eq-eqb _ _ (c .if1 .taken))
 
-enum-told : tie.Need-enum-told
-enum-told c = search needs
+shared-slice-read-check-headed : tie.Need-shared-slice-read-check-headed
+shared-slice-read-check-headed c = search needs
 
-check-size-requires : tie.Need-check-size-requires
-check-size-requires c κs = search needs
-
-enum-known-size : tie.Need-enum-known-size
-enum-known-size c = search needs
+check-headed-requires : tie.Need-check-headed-requires
+check-headed-requires c κs = search needs
 
 returns-2 : tie.Need-returns-2
 unfolding frontChecks
-returns-2 c = rw (← c .before .before .before .before .before .before .check-header .ensures, c .before .before .before .before .enum-told .given .1, ← c .before .before .before .check-size .ensures, c .before .size .given .1)
-
-enum-told-2 : tie.Need-enum-told-2
-enum-told-2 c = search needs
-
-check-prologue-requires : tie.Need-check-prologue-requires
-check-prologue-requires c κs = sized _ _ (sym (c .before .before .check-size .ensures) ∙ ap checked (c .enum-told2 .given .1))
-
-returns-3 : tie.Need-returns-3
-unfolding frontChecks
-returns-3 c = rw (← c .before .before .before .before .before .before .check-header .ensures, c .before .before .before .before .enum-told .given .1, ← c .before .before .before .check-size .ensures, c .before .enum-told2 .given .1) (c .check-prologue .ensures)
+returns-2 c = rw (ne-eqb _ _ (c .before .before .if1 .left)) (c .check-headed .ensures)
 
 pub check-front-spec : {M : Type 1} → statement M
-check-front-spec =
-    tie.close
-    (tie.spec
-    check-header-requires
-    enum-known-header
-    returns
-    enum-told
-    check-size-requires
-    enum-known-size
-    returns-2
-    enum-told-2
-    check-prologue-requires
-    returns-3)
+check-front-spec = tie.close (tie.spec returns shared-slice-read-check-headed check-headed-requires returns-2)

@@ -5,19 +5,19 @@ use borrow.Author.Needs.{needs}
 use Rattle.packet.proofs.checks.check_prologue.Statement.{statement}
 use Rattle.packet.proofs.checks.check_prologue.Tie as tie
 
-class-of-requires : tie.Need-class-of-requires
-class-of-requires c κs = search needs
+class-high-requires : tie.Need-class-high-requires
+class-high-requires c κs = search needs
 
 returns : tie.Need-returns
 unfolding prologueChecks
-returns c = search (cases, ← c .before .before .class-of .ensures .0)
+returns c = search (cases, ← c .before .class-high .ensures)
 
 tsf-of-requires : tie.Need-tsf-of-requires
 tsf-of-requires c κs = search needs
 
 returns-2 : tie.Need-returns-2
 unfolding prologueChecks timeOver
-returns-2 c = search (cases, ← c .before .before .before .before .class-of .ensures .0, ← c .before .tsf-of .ensures)
+returns-2 c = search (cases, ← c .before .before .before .class-high .ensures, ← c .before .tsf-of .ensures)
 
 fraction-of-requires : tie.Need-fraction-of-requires
 fraction-of-requires c κs = search needs
@@ -27,17 +27,17 @@ time-over-requires c κs = search needs
 
 returns-3 : tie.Need-returns-3
 unfolding prologueChecks
-returns-3 c = search (cases, ← c .before .before .before .before .before .before .before .class-of .ensures .0, ← c .before .before .before .before .tsf-of .ensures, ← c .before .before .fraction-of .ensures, ← c .before .time-over .ensures, c .if3 .taken)
+returns-3 c = search (cases, ← c .before .before .before .before .before .before .class-high .ensures, ← c .before .before .before .before .tsf-of .ensures, ← c .before .before .fraction-of .ensures, ← c .before .time-over .ensures, c .if3 .taken)
 
 returns-4 : tie.Need-returns-4
 unfolding prologueChecks
-returns-4 c = search (cases, ← c .before .before .before .before .before .before .before .class-of .ensures .0, ← c .before .before .before .before .tsf-of .ensures, ← c .before .before .fraction-of .ensures, ← c .before .time-over .ensures, c .if3 .left)
+returns-4 c = search (cases, ← c .before .before .before .before .before .before .class-high .ensures, ← c .before .before .before .before .tsf-of .ensures, ← c .before .before .fraction-of .ensures, ← c .before .time-over .ensures, c .if3 .left)
 
 pub check-prologue-spec : {M : Type 1} → statement M
 check-prologue-spec =
     tie.close
     (tie.spec
-    class-of-requires
+    class-high-requires
     returns
     tsf-of-requires
     returns-2

@@ -12,12 +12,11 @@ returns : tie.Need-returns
 unfolding measureChecks
 returns c = search (cases, ← c .before .both-of .ensures, c .if1 .taken)
 
-size-for-requires : tie.Need-size-for-requires
-size-for-requires c κs = search needs
-
 returns-2 : tie.Need-returns-2
 unfolding measureChecks
-returns-2 c = search (cases, ← c .before .before .before .both-of .ensures, c .before .before .if1 .left, ← c .before .size-for .ensures .0)
+returns-2 c =
+    let b = c .before .before in
+    search (cases, ← b .both-of .ensures, c .before .if1 .left, ← b .before .before .pre)
 
 time-over-requires : tie.Need-time-over-requires
 time-over-requires c κs = search needs
@@ -25,23 +24,15 @@ time-over-requires c κs = search needs
 returns-3 : tie.Need-returns-3
 unfolding measureChecks
 returns-3 c =
-    let s = c .before .before .before in
-    search (cases, ← s .before .before .both-of .ensures, s .before .if1 .left, ← s .size-for .ensures .0, ← c .before .time-over .ensures, c .if3 .taken)
+    let b = c .before .before .before .before in
+    search (cases, ← b .both-of .ensures, c .before .before .before .if1 .left, ← b .before .before .pre, ← c .before .time-over .ensures, c .if3 .taken)
 
 returns-4 : tie.Need-returns-4
 unfolding measureChecks
 returns-4 c =
-    let s = c .before .before .before in
-    search (cases, ← s .before .before .both-of .ensures, s .before .if1 .left, ← s .size-for .ensures .0, ← c .before .time-over .ensures, c .if3 .left)
+    let b = c .before .before .before .before in
+    search (cases, ← b .both-of .ensures, c .before .before .before .if1 .left, ← b .before .before .pre, ← c .before .time-over .ensures, c .if3 .left)
 
 pub check-measure-spec : {M : Type 1} → statement M
 check-measure-spec =
-    tie.close
-    (tie.spec
-    both-of-requires
-    returns
-    size-for-requires
-    returns-2
-    time-over-requires
-    returns-3
-    returns-4)
+    tie.close (tie.spec both-of-requires returns returns-2 time-over-requires returns-3 returns-4)

@@ -14,32 +14,25 @@ use Rattle.packet.proofs.laying.lay.Tie as tie
 
 -- nothing refuses the packet
 may : (c : tie.Start) → Writable (c .args .p) (now (c .args .body)) (length (now (c .args .out))) (c .args .at)
-may c = writable _ _ _ _ (c .pre)
+may c = writable _ _ _ _ (c .pre .0)
 
 -- the header word, with the packet's size
-word : (c : tie.After-header-word)
-    → c .header-word .result + c .before .size-for .result ≡ headerWord (c .before .before .before .before .args .p) (sizeFor (c .before .before .before .before .args .p) (length (now (c .before .before .before .before .args .body))))
-word c = rw (c .header-word .ensures .0, c .before .size-for .ensures .0) (sym (header-size _ _))
+word : (c : tie.Start) → c .args .w + c .args .size ≡ headerWord (c .args .p) (sizeFor (c .args .p) (length (now (c .args .body))))
+word c = rw (c .pre .1 .0, c .pre .1 .2) (sym (header-size _ _))
 
-size-for-requires : tie.Need-size-for-requires
-size-for-requires c κs = let m = may (c .before .before) in (m .fit, m .kind, omega arith)
+cast-lay-parts : tie.Need-cast-lay-parts
+cast-lay-parts c = let s = c .before .before in omega (arith, may s .small, s .pre .1)
 
-header-word-requires : tie.Need-header-word-requires
-header-word-requires c κs = let m = may (c .before .before .before) in omega (arith, m .kind, parts-fit _ (m .fit))
-
-cast-w : tie.Need-cast-w
-cast-w c = omega (arith, may (c .before .before .before .before) .small, c .before .size-for .ensures .0)
-
-add-w : tie.Need-add-w
-add-w c = omega (arith, may (c .before .before .before .before) .small, c .before .size-for .ensures .0)
+add-lay-parts : tie.Need-add-lay-parts
+add-lay-parts c = let s = c .before .before in omega (arith, may s .small, s .pre .1)
 
 lay-parts-requires : tie.Need-lay-parts-requires
 lay-parts-requires c κs =
-    let s = c .before .before .before .before .before in
+    let s = c .before .before .before in
     let m = may s in
     let p = s .args .p in
     let size = sizeFor p (length (now (s .args .body))) in
-    rw (word (c .before)) (
+    rw (word s) (
       rw (classed-is p size (m .kind) (parts-fit p (m .fit)) (m .small)) (parts-fit p (m .fit) .class),
       omega (arith, prologue-length (headerWord p size) p, trailer-length (headerWord p size) p, size-for-is p size (m .kind) (parts-fit p (m .fit)) (m .small) (length (now (s .args .body))), m .inside),
     )
@@ -49,18 +42,8 @@ same-length c = search needs
 
 returns : tie.Need-returns
 returns c =
-    let s = c .before .before .before .before .before .before .before .before in
-    let h = c .before .before .before .before in
-    (h .before .size-for .ensures .0, rw (h .before .size-for .ensures .0) (laid-packet _ _ _ _ _ _ _ (may s) (word h) (c .before .before .lay-parts .ensures)))
+    let s = c .before .before .before .before .before .before in
+    rw (s .pre .1 .2) (laid-packet _ _ _ _ _ _ _ (may s) (word s) (c .before .before .lay-parts .ensures))
 
 pub lay-spec : {M : Type 1} → statement M
-lay-spec =
-    tie.close
-    (tie.spec
-    size-for-requires
-    header-word-requires
-    cast-w
-    add-w
-    lay-parts-requires
-    same-length
-    returns)
+lay-spec = tie.close (tie.spec cast-lay-parts add-lay-parts lay-parts-requires same-length returns)

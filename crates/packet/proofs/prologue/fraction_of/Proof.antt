@@ -1,9 +1,19 @@
 -- `fraction_of` meets its promise: the two words lie inside (`room`).
-use Rattle.packet.specs.Parts.{fractionOf}
-use Rattle.packet.proofs.RoomLaws.{room}
+use mathlib.Core.Path.{_≡_}
+use mathlib.Core.Bool.{true}
+use Prim.Native.Nat.{_+_, _≤_}
+use denote.Ref.{now}
+use native.Mathlib.Omega.{arith}
+use lib.ListN.{length}
+use Rattle.packet.specs.Parts.{hasFraction, fractionAt, fractionOf}
+use Rattle.packet.proofs.RoomLaws.{room, when-inside}
 use borrow.Author.Needs.{needs}
 use Rattle.packet.proofs.prologue.fraction_of.Statement.{statement}
 use Rattle.packet.proofs.prologue.fraction_of.Tie as tie
+
+-- a fraction that is there ends inside
+inside : (c : tie.Start) → hasFraction (c .args .w) ≡ true → fractionAt (c .args .w) + 2 ≤ length (now (c .args .words))
+inside c there = when-inside _ _ _ _ (room _ _ (c .pre .0) (c .pre .1) .fraction) there
 
 has-fraction-requires : tie.Need-has-fraction-requires
 has-fraction-requires c κs = search needs
@@ -11,10 +21,15 @@ has-fraction-requires c κs = search needs
 fraction-at-requires : tie.Need-fraction-at-requires
 fraction-at-requires c κs = search needs
 
-pair-if-requires : tie.Need-pair-if-requires
-pair-if-requires c κs =
-    let p = c .before .before .before .pre in
-    rw (c .fraction-at .ensures .0, c .before .has-fraction .ensures) (room _ _ (p .0) (p .1) .fraction)
+word-if-requires : tie.Need-word-if-requires
+word-if-requires c κs = rw (c .fraction-at .ensures .0, c .before .has-fraction .ensures) (λ there. omega (arith, inside (c .before .before .before) there))
+
+add-word-if : tie.Need-add-word-if
+add-word-if c = search needs
+
+word-if-requires-2 : tie.Need-word-if-requires-2
+word-if-requires-2 c κs =
+    rw (c .before .fraction-at .ensures .0, c .before .before .has-fraction .ensures) (λ there. omega (arith, inside (c .before .before .before .before) there))
 
 high-first-requires : tie.Need-high-first-requires
 high-first-requires c κs = search needs
@@ -22,8 +37,8 @@ high-first-requires c κs = search needs
 returns : tie.Need-returns
 unfolding fractionOf
 returns c =
-    let p = c .before .pair-if .ensures in
-    rw (← c .before .before .fraction-at .ensures .0, ← c .before .before .before .has-fraction .ensures, ← p .0, ← p .1) (c .high-first .ensures)
+    let at = c .before .before .before in
+    rw (← at .fraction-at .ensures .0, ← at .before .has-fraction .ensures, ← c .before .before .word-if .ensures, ← c .before .word-if2 .ensures) (c .high-first .ensures)
 
 pub fraction-of-spec : {M : Type 1} → statement M
 fraction-of-spec =
@@ -31,6 +46,8 @@ fraction-of-spec =
     (tie.spec
     has-fraction-requires
     fraction-at-requires
-    pair-if-requires
+    word-if-requires
+    add-word-if
+    word-if-requires-2
     high-first-requires
     returns)

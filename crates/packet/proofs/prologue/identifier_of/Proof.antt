@@ -1,5 +1,6 @@
 -- `identifier_of` meets its promise: the identifier lies inside (`room`).
-use Rattle.packet.proofs.RoomLaws.{room}
+use native.Mathlib.Omega.{arith}
+use Rattle.packet.proofs.RoomLaws.{room, when-inside}
 use borrow.Author.Needs.{needs}
 use Rattle.packet.proofs.prologue.identifier_of.Statement.{statement}
 use Rattle.packet.proofs.prologue.identifier_of.Tie as tie
@@ -8,7 +9,9 @@ has-stream-requires : tie.Need-has-stream-requires
 has-stream-requires c κs = search needs
 
 word-if-requires : tie.Need-word-if-requires
-word-if-requires c κs = rw (c .has-stream .ensures) (room _ _ (c .before .before .pre .0) (c .before .before .pre .1) .identifier)
+word-if-requires c κs =
+    let p = c .before .before .pre in
+    rw (c .has-stream .ensures) (λ there. omega (arith, when-inside _ _ _ _ (room _ _ (p .0) (p .1) .identifier) there))
 
 returns : tie.Need-returns
 returns c = rw (← c .before .has-stream .ensures) (c .word-if .ensures)

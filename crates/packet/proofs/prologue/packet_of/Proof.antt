@@ -1,5 +1,8 @@
 -- `packet_of` meets its promise: the parts, the size, and the body's place and length.
-use Rattle.packet.specs.Parts.{packetOf}
+use mathlib.Core.Path.{_≡_}
+use Prim.Native.Nat.{_-_}
+use native.Mathlib.Omega.{arith}
+use Rattle.packet.specs.Parts.{bodyLength, packetOf}
 use borrow.Author.Needs.{needs}
 use Rattle.packet.proofs.prologue.packet_of.Statement.{statement}
 use Rattle.packet.proofs.prologue.packet_of.Tie as tie
@@ -7,20 +10,26 @@ use Rattle.packet.proofs.prologue.packet_of.Tie as tie
 parts-of-requires : tie.Need-parts-of-requires
 parts-of-requires c κs = search needs
 
-size-of-requires : tie.Need-size-of-requires
-size-of-requires c κs = search needs
-
 body-at-requires : tie.Need-body-at-requires
 body-at-requires c κs = search needs
 
-body-length-requires : tie.Need-body-length-requires
-body-length-requires c κs = search needs
+size-of-requires : tie.Need-size-of-requires
+size-of-requires c κs = search needs
+
+body-end-requires : tie.Need-body-end-requires
+body-end-requires c κs = search needs
+
+sub-t7 : tie.Need-sub-t7
+sub-t7 c = search needs
 
 returns : tie.Need-returns
 unfolding packetOf
-returns c = simp (c .body-length .ensures, c .before .body-at .ensures .0, c .before .before .size-of .ensures .0, c .before .before .before .parts-of .ensures)
+returns c =
+    let b = c .before .before in
+    let long : c .body-end .result - b .body-at .result ≡ bodyLength (b .before .before .before .args .w) = omega (arith, c .body-end .ensures, b .body-at .ensures .0) in
+    rw (long, b .body-at .ensures .0, c .before .size-of .ensures .0, b .before .parts-of .ensures)
 
 pub packet-of-spec : {M : Type 1} → statement M
 packet-of-spec =
     tie.close
-    (tie.spec parts-of-requires size-of-requires body-at-requires body-length-requires returns)
+    (tie.spec parts-of-requires body-at-requires size-of-requires body-end-requires sub-t7 returns)

@@ -1,8 +1,9 @@
 -- `parts_of` meets its promise: each part is what its function answers, and lies inside (`room`).
 use denote.Ref.{now}
+use native.Mathlib.Omega.{arith}
 use lib.ListN.{length}
 use Rattle.packet.specs.Parts.{partsOf}
-use Rattle.packet.proofs.RoomLaws.{Room, room}
+use Rattle.packet.proofs.RoomLaws.{Room, room, when-inside}
 use borrow.Author.Needs.{needs}
 use Rattle.packet.proofs.prologue.parts_of.Statement.{statement}
 use Rattle.packet.proofs.prologue.parts_of.Tie as tie
@@ -11,8 +12,11 @@ use Rattle.packet.proofs.prologue.parts_of.Tie as tie
 inside : (c : tie.Start) → Room (c .args .w) (length (now (c .args .words)))
 inside c = room _ _ (c .pre .0) (c .pre .1)
 
-class-of-requires : tie.Need-class-of-requires
-class-of-requires c κs = search needs
+class-high-requires : tie.Need-class-high-requires
+class-high-requires c κs = search needs
+
+class-low-requires : tie.Need-class-low-requires
+class-low-requires c κs = search needs
 
 type-of-requires : tie.Need-type-of-requires
 type-of-requires c κs = search needs
@@ -45,7 +49,7 @@ seconds-at-requires : tie.Need-seconds-at-requires
 seconds-at-requires c κs = search needs
 
 word-if-requires : tie.Need-word-if-requires
-word-if-requires c κs = rw (c .seconds-at .ensures .0, c .before .has-seconds .ensures) (inside (c .before .before .before .before .before .before .before .before .before .before .before .before) .seconds)
+word-if-requires c κs = rw (c .seconds-at .ensures .0, c .before .has-seconds .ensures) (λ there. omega (arith, when-inside _ _ _ _ (inside (c .before .before .before .before .before .before .before .before .before .before .before .before .before) .seconds) there))
 
 fraction-of-requires : tie.Need-fraction-of-requires
 fraction-of-requires c κs = search needs
@@ -57,10 +61,10 @@ size-of-requires : tie.Need-size-of-requires
 size-of-requires c κs = search needs
 
 sub-word-if : tie.Need-sub-word-if
-sub-word-if c = rw (c .size-of .ensures .0) (inside (c .before .before .before .before .before .before .before .before .before .before .before .before .before .before .before .before) .header)
+sub-word-if c = rw (c .size-of .ensures .0) (inside (c .before .before .before .before .before .before .before .before .before .before .before .before .before .before .before .before .before) .header)
 
 word-if-requires-2 : tie.Need-word-if-requires-2
-word-if-requires-2 c κs = rw (c .size-of .ensures .0, c .before .has-trailer2 .ensures) (inside (c .before .before .before .before .before .before .before .before .before .before .before .before .before .before .before .before) .trailer)
+word-if-requires-2 c κs = rw (c .size-of .ensures .0, c .before .has-trailer2 .ensures) (λ there. omega (arith, when-inside _ _ _ _ (inside (c .before .before .before .before .before .before .before .before .before .before .before .before .before .before .before .before .before) .trailer) there))
 
 returns : tie.Need-returns
 unfolding partsOf
@@ -81,15 +85,16 @@ returns c =
       c .before .before .before .before .before .before .before .before .before .before .before .before .has-trailer .ensures,
       c .before .before .before .before .before .before .before .before .before .before .before .before .before .has-class .ensures,
       c .before .before .before .before .before .before .before .before .before .before .before .before .before .before .type-of .ensures,
-      c .before .before .before .before .before .before .before .before .before .before .before .before .before .before .before .class-of .ensures .1,
-      c .before .before .before .before .before .before .before .before .before .before .before .before .before .before .before .class-of .ensures .0,
+      c .before .before .before .before .before .before .before .before .before .before .before .before .before .before .before .class-low .ensures,
+      c .before .before .before .before .before .before .before .before .before .before .before .before .before .before .before .before .class-high .ensures,
     )
 
 pub parts-of-spec : {M : Type 1} → statement M
 parts-of-spec =
     tie.close
     (tie.spec
-    class-of-requires
+    class-high-requires
+    class-low-requires
     type-of-requires
     has-class-requires
     has-trailer-requires

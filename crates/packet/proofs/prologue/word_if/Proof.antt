@@ -1,15 +1,14 @@
 -- `word_if` meets its promise: a part that is there lies inside.
 use Rattle.packet.specs.Parts.{wordIf}
-use native.Mathlib.Omega.{arith}
 use borrow.Author.Needs.{needs}
 use Rattle.packet.proofs.prologue.word_if.Statement.{statement}
 use Rattle.packet.proofs.prologue.word_if.Tie as tie
 
 mul-result : tie.Need-mul-result
-mul-result c = search needs
+mul-result c = search (needs, c .before .pre (c .if1 .taken))
 
 shared-slice-read-result : tie.Need-shared-slice-read-result
-shared-slice-read-result c = let h = rw (c .before .if1 .taken) at (c .before .before .pre) in omega arith
+shared-slice-read-result c = c .before .before .pre (c .before .if1 .taken)
 
 returns : tie.Need-returns
 unfolding wordIf

@@ -22,13 +22,8 @@ add-end c = omega (arith, lent-few _ _ (c .before .before .before .pre .0) (c .b
 body-at-requires : tie.Need-body-at-requires
 body-at-requires c κs = search needs
 
-body-length-requires : tie.Need-body-length-requires
-body-length-requires c κs = headed-sized _ _ (c .before .before .before .before .pre .2) .0
-
-add-to : tie.Need-add-to
-add-to c =
-    let b = c .before .before .before .before .before in
-    omega (arith, body-lent (b .args .w) (b .args .s) (now (b .args .words)) (now (b .args .table)) (b .pre .2) _ _ (c .before .body-at .ensures .0) (c .body-length .ensures) (b .pre .3))
+body-end-requires : tie.Need-body-end-requires
+body-end-requires c κs = headed-sized _ _ (c .before .before .before .before .pre .2) .0
 
 mul-hear-context : tie.Need-mul-hear-context
 mul-hear-context c =
@@ -50,15 +45,19 @@ mul-hear-context-2 : tie.Need-mul-hear-context-2
 mul-hear-context-2 c = search needs
 
 sub-hear-context-2 : tie.Need-sub-hear-context-2
-sub-hear-context-2 c = search needs
+sub-hear-context-2 c =
+    let b = c .before .before .before .before .before .before in
+    omega (arith, body-lent (b .args .w) (b .args .s) (now (b .args .words)) (now (b .args .table)) (b .pre .2) _ _ (c .before .before .body-at .ensures .0) (c .before .body-end .ensures) (b .pre .3))
 
 part-hear-context-start-2 : tie.Need-part-hear-context-start-2
-part-hear-context-start-2 c = search needs
+part-hear-context-start-2 c =
+    let b = c .before .before .before .before .before .before in
+    body-lent (b .args .w) (b .args .s) (now (b .args .words)) (now (b .args .table)) (b .pre .2) _ _ (c .before .before .body-at .ensures .0) (c .before .body-end .ensures) (b .pre .3) .0
 
 part-hear-context-end-2 : tie.Need-part-hear-context-end-2
 part-hear-context-end-2 c =
     let b = c .before .before .before .before .before .before in
-    body-lent (b .args .w) (b .args .s) (now (b .args .words)) (now (b .args .table)) (b .pre .2) _ _ (c .before .before .body-at .ensures .0) (c .before .body-length .ensures) (b .pre .3)
+    body-lent (b .args .w) (b .args .s) (now (b .args .words)) (now (b .args .table)) (b .pre .2) _ _ (c .before .before .body-at .ensures .0) (c .before .body-end .ensures) (b .pre .3) .1
 
 hear-context-requires : tie.Need-hear-context-requires
 hear-context-requires c κs =
@@ -67,7 +66,7 @@ hear-context-requires c κs =
       a .0,
       a .1,
       omega (arith, c .before .before .before .before .count-of .ensures),
-      body-good (b .args .w) (b .args .s) (now (b .args .words)) (now (b .args .table)) (b .pre .2) _ _ (c .before .before .before .body-at .ensures .0) (c .before .before .body-length .ensures) (b .pre .3),
+      body-good (b .args .w) (b .args .s) (now (b .args .words)) (now (b .args .table)) (b .pre .2) _ _ (c .before .before .before .body-at .ensures .0) (c .before .before .body-end .ensures) (b .pre .3),
     )
 
 same-length : tie.Need-same-length
@@ -76,7 +75,7 @@ same-length c = search needs
 returns : tie.Need-returns
 returns c =
     let b = c .before .before .before .before .before .before .before .before .before .before in
-    heard-context (b .args .w) (b .args .s) (now (b .args .words)) (now (b .args .table)) (b .pre .2) _ _ (c .before .before .before .before .before .before .body-at .ensures .0) (c .before .before .before .before .before .body-length .ensures) (b .pre .3) _ _ _
+    heard-context (b .args .w) (b .args .s) (now (b .args .words)) (now (b .args .table)) (b .pre .2) _ _ (c .before .before .before .before .before .before .body-at .ensures .0) (c .before .before .before .before .before .body-end .ensures) (b .pre .3) _ _ _
     (c .before .before .before .before .before .before .before .count-of .ensures)
     (lent-heard (b .args .s) (b .args .table .now) (b .pre .0) (b .pre .1) _ _ _ _ _ (c .before .before .hear-context .ensures .0) (c .before .before .hear-context .ensures .1))
 
@@ -89,8 +88,7 @@ hear-context-spec =
     add-at
     add-end
     body-at-requires
-    body-length-requires
-    add-to
+    body-end-requires
     mul-hear-context
     sub-hear-context
     part-hear-context-start

@@ -1,0 +1,32 @@
+-- `body_end` meets its promise: the prologue and the trailer lie inside the size (`room`).
+use native.Mathlib.Nat.{le-refl}
+use native.Mathlib.Omega.{arith}
+use Rattle.packet.specs.Parts.{bodyLength}
+use Rattle.packet.proofs.RoomLaws.{room}
+use borrow.Author.Needs.{needs}
+use Rattle.packet.proofs.prologue.body_end.Statement.{statement}
+use Rattle.packet.proofs.prologue.body_end.Tie as tie
+
+size-of-requires : tie.Need-size-of-requires
+size-of-requires c κs = search needs
+
+has-trailer-requires : tie.Need-has-trailer-requires
+has-trailer-requires c κs = search needs
+
+when-so-requires : tie.Need-when-so-requires
+when-so-requires c κs = search needs
+
+sub-result : tie.Need-sub-result
+sub-result c =
+    let s = c .before .before in
+    rw (c .when-so .ensures .0, c .before .has-trailer .ensures, s .size-of .ensures .0) (omega (arith, room _ _ (s .before .pre) (le-refl _) .around))
+
+returns : tie.Need-returns
+unfolding bodyLength
+returns c =
+    let s = c .before .before in
+    rw (c .when-so .ensures .0, c .before .has-trailer .ensures, s .size-of .ensures .0) (omega (arith, room _ _ (s .before .pre) (le-refl _) .around))
+
+pub body-end-spec : {M : Type 1} → statement M
+body-end-spec =
+    tie.close (tie.spec size-of-requires has-trailer-requires when-so-requires sub-result returns)

@@ -1,0 +1,29 @@
+-- `class_low` meets its promise: the word lies inside (`room`).
+use native.Mathlib.Omega.{arith}
+use Rattle.packet.specs.Parts.{classLow}
+use Rattle.packet.proofs.RoomLaws.{room, when-inside}
+use borrow.Author.Needs.{needs}
+use Rattle.packet.proofs.prologue.class_low.Statement.{statement}
+use Rattle.packet.proofs.prologue.class_low.Tie as tie
+
+has-class-requires : tie.Need-has-class-requires
+has-class-requires c κs = search needs
+
+class-at-requires : tie.Need-class-at-requires
+class-at-requires c κs = search needs
+
+add-word-if : tie.Need-add-word-if
+add-word-if c = search needs
+
+word-if-requires : tie.Need-word-if-requires
+word-if-requires c κs =
+    let p = c .before .before .before .pre in
+    rw (c .class-at .ensures .0, c .before .has-class .ensures) (λ there. omega (arith, when-inside _ _ _ _ (room _ _ (p .0) (p .1) .class) there))
+
+returns : tie.Need-returns
+unfolding classLow
+returns c = rw (← c .before .class-at .ensures .0, ← c .before .before .has-class .ensures) (c .word-if .ensures)
+
+pub class-low-spec : {M : Type 1} → statement M
+class-low-spec =
+    tie.close (tie.spec has-class-requires class-at-requires add-word-if word-if-requires returns)
