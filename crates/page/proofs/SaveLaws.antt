@@ -208,23 +208,21 @@ module _ (t before : List ℕ) (w : wellMade t ≡ true) (h : pageLength t ≤ l
           ap (λ (r : List ℕ). length (bodyOf r)) (record-seen t (p .mid) w mid-room after n s at e (p .bodies) g) in
           omega (arith, q .past, l, held-length t w s (omega arith))
 
-      pub writing-fits : (at ≤ to) × (to ≤ 2882) × (3 + 2 * s < length after′)
-      writing-fits =
-          let past : at ≤ to = omega (arith, q .past) in (
-            past,
-            omega (arith, past, summing-most t w n s at (to - at) e (p .pairs .sums) g length-is),
-            omega (arith, pairing-room t before w h (p .mid) n s at e (p .pairs) g, laid-length (p .bodies .laid), laid-length q),
-          )
+      pub pair-asks : (3 + 2 * s < length after′) × (at + (to - at) ≤ 2882)
+      pair-asks = (
+        omega (arith, pairing-room t before w h (p .mid) n s at e (p .pairs) g, laid-length (p .bodies .laid), laid-length q),
+        summing-most t w n s at (to - at) e (p .pairs .sums) g length-is,
+      )
 
-      pub writing-turn : Writing t before (set (set after′ (2 + 2 * s) at) (3 + 2 * s) (to - at)) n (s + 1) to
-      writing-turn =
+      pub writing-turn : (after″ : List ℕ) → after″ ≡ set (set after′ (2 + 2 * s) at) (3 + 2 * s) (to - at) → Writing t before after″ n (s + 1) to
+      writing-turn after″ f =
           let sum : at + (to - at) ≡ to = omega (arith, q .past) in
           let next = laying-turn t (p .mid) w mid-room after n s at e (p .bodies) g after′ to q in
-          record {
+          rw f (record {
             mid = set (set (p .mid) (2 + 2 * s) at) (3 + 2 * s) (to - at);
             pairs = rw sum at (pairing-turn t before w h (p .mid) n s at e (p .pairs) g (to - at) length-is);
             bodies = record { most = next .most; laid = laid-before (3 + 2 * s) (to - at) (laid-before (2 + 2 * s) at (next .laid) (omega arith)) (omega arith) };
-          }
+          })
 
   pub writing-length : {after : List ℕ} {n s at : ℕ} → Writing t before after n s at → length after ≡ length before
   writing-length p = laid-length (p .bodies .laid) ∙ laid-length (p .pairs .laid)

@@ -2,11 +2,20 @@
 ghost use mathlib.Core.Path.{_≡_};
 ghost use mathlib.Core.Bool.{true};
 ghost use mathlib.Core.List.{_++_};
-ghost use Prim.Native.Nat.{_≤_};
-ghost use lib.ListN.{length, drop};
+ghost use Prim.Native.Nat.{_+_, _*_, _≤_, _<_};
+ghost use lib.ListN.{length, drop, set};
 ghost use Rattle.words.specs.Laid.{Laid};
 ghost use Rattle.table.specs.Well.{wellMade};
 ghost use Rattle.page.specs.Layout.{pairsOf, bodiesOf, pageOf, pageLength};
+
+// The pair of body s, into the contents: its offset and its size.
+fn write_pair(page: &mut [u32], s: usize, offset: usize, size: usize)
+    requires { ⌜ (3 + 2 * s < length (now page)) × (offset + size ≤ 2882) ⌝ }
+    ensures { λ _. ⌜ now (page .exit) ≡ set (set (now (page .entry)) (2 + 2 * s) offset) (3 + 2 * s) size ⌝ }
+{
+    page[2 + 2 * s] = offset as u32;
+    page[3 + 2 * s] = size as u32;
+}
 
 // The pair and the body of each stream: the pairs are the contents, in list order without gaps, and the bodies stand behind them.
 fn write_streams(page: &mut [u32], table: &[u32])
@@ -22,8 +31,7 @@ fn write_streams(page: &mut [u32], table: &[u32])
         let from = 1 + record::inner::RECORD_WORDS * s;
         let end = from + record::inner::RECORD_WORDS;
         let past = crate::bodies::write_body(page, at, &table[from..end], &sizes, &places);
-        page[2 + 2 * s] = at as u32;
-        page[3 + 2 * s] = (past - at) as u32;
+        write_pair(page, s, at, past - at);
         at = past;
         s += 1;
     }

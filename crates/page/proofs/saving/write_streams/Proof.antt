@@ -2,12 +2,11 @@
 use mathlib.Core.Path.{refl}
 use Prim.Native.Nat.{_-_}
 use native.Mathlib.Omega.{arith}
-use lib.ListN.{length-set}
 use Rattle.words.specs.All.{all}
 use Rattle.fields.specs.Sizes.{sizeOf}
 use Rattle.record.proofs.SlotLaws.{places-tabled}
 use Rattle.table.proofs.WellLaws.{well-whole}
-use Rattle.page.proofs.SaveLaws.{Writing, writing-start, writing-asks, writing-fits, writing-turn, writing-length, writing-end}
+use Rattle.page.proofs.SaveLaws.{Writing, writing-start, writing-asks, pair-asks, writing-turn, writing-length, writing-end}
 use borrow.Author.Needs.{needs}
 use Rattle.page.proofs.saving.write_streams.Statement.{statement}
 use Rattle.page.proofs.saving.write_streams.Tie as tie
@@ -58,53 +57,13 @@ write-body-requires c κs =
     let q = writing-asks _ _ (b .pre .0) (b .pre .1) _ _ _ _ (c .before .before .before .before .before .before .streams .ensures .0) (c .before .before .before .before .before .loop .inv) (c .before .before .before .before .loop-test .taken) in
     (q .0, q .1, q .2, refl, places-tabled)
 
-cast-page : tie.Need-cast-page Inv-loop μ-loop
-cast-page c =
-    let b = c .before .before .before .before .before .before .before .before .before .before .before .before in
-    let q = writing-fits _ _ (b .pre .0) (b .pre .1) _ _ _ _ (c .before .before .before .before .before .before .before .before .before .streams .ensures .0) (c .before .before .before .before .before .before .before .before .loop .inv) (c .before .before .before .before .before .before .before .loop-test .taken) _ _ (c .before .before .write-body .ensures) in
-    omega (arith, q .0, q .1)
+sub-write-pair : tie.Need-sub-write-pair Inv-loop μ-loop
+sub-write-pair c = omega (arith, c .before .before .before .write-body .ensures .past)
 
-mul-page : tie.Need-mul-page Inv-loop μ-loop
-mul-page c = search needs
-
-add-page : tie.Need-add-page Inv-loop μ-loop
-add-page c = search needs
-
-mul-page-2 : tie.Need-mul-page-2 Inv-loop μ-loop
-mul-page-2 c = search needs
-
-slice-write-page : tie.Need-slice-write-page Inv-loop μ-loop
-slice-write-page c =
-    let b = c .before .before .before .before .before .before .before .before .before .before .before .before in
-    let q = writing-fits _ _ (b .pre .0) (b .pre .1) _ _ _ _ (c .before .before .before .before .before .before .before .before .before .streams .ensures .0) (c .before .before .before .before .before .before .before .before .loop .inv) (c .before .before .before .before .before .before .before .loop-test .taken) _ _ (c .before .before .write-body .ensures) in
-    omega (arith, q .2)
-
-sub-page : tie.Need-sub-page Inv-loop μ-loop
-sub-page c =
-    let b = c .before .before .before .before .before .before .before .before .before .before .before .before in
-    let q = writing-fits _ _ (b .pre .0) (b .pre .1) _ _ _ _ (c .before .before .before .before .before .before .before .before .before .streams .ensures .0) (c .before .before .before .before .before .before .before .before .loop .inv) (c .before .before .before .before .before .before .before .loop-test .taken) _ _ (c .before .before .write-body .ensures) in
-    q .0
-
-cast-page-2 : tie.Need-cast-page-2 Inv-loop μ-loop
-cast-page-2 c =
-    let b = c .before .before .before .before .before .before .before .before .before .before .before .before in
-    let q = writing-fits _ _ (b .pre .0) (b .pre .1) _ _ _ _ (c .before .before .before .before .before .before .before .before .before .streams .ensures .0) (c .before .before .before .before .before .before .before .before .loop .inv) (c .before .before .before .before .before .before .before .loop-test .taken) _ _ (c .before .before .write-body .ensures) in
-    omega (arith, q .1)
-
-mul-page-3 : tie.Need-mul-page-3 Inv-loop μ-loop
-mul-page-3 c = search needs
-
-add-page-2 : tie.Need-add-page-2 Inv-loop μ-loop
-add-page-2 c = search needs
-
-mul-page-4 : tie.Need-mul-page-4 Inv-loop μ-loop
-mul-page-4 c = search needs
-
-slice-write-page-2 : tie.Need-slice-write-page-2 Inv-loop μ-loop
-slice-write-page-2 c =
-    let b = c .before .before .before .before .before .before .before .before .before .before .before .before in
-    let q = writing-fits _ _ (b .pre .0) (b .pre .1) _ _ _ _ (c .before .before .before .before .before .before .before .before .before .streams .ensures .0) (c .before .before .before .before .before .before .before .before .loop .inv) (c .before .before .before .before .before .before .before .loop-test .taken) _ _ (c .before .before .write-body .ensures) in
-    simp length-set (q .2)
+write-pair-requires : tie.Need-write-pair-requires Inv-loop μ-loop
+write-pair-requires c κs =
+    let b = c .before .before .before .before .before .before .before .before .before .before .before .before .before in
+    pair-asks _ _ (b .pre .0) (b .pre .1) _ _ _ _ (c .before .before .before .before .before .before .before .before .before .before .streams .ensures .0) (c .before .before .before .before .before .before .before .before .before .loop .inv) (c .before .before .before .before .before .before .before .before .loop-test .taken) _ _ (c .before .before .before .write-body .ensures)
 
 add-s : tie.Need-add-s Inv-loop μ-loop
 add-s c = search needs
@@ -114,8 +73,8 @@ loop-less c = search needs
 
 loop-again : tie.Need-loop-again Inv-loop μ-loop
 loop-again c =
-    let b = c .before .before .before .before .before .before .before .before .before .before .before .before in
-    writing-turn _ _ (b .pre .0) (b .pre .1) _ _ _ _ (c .before .before .before .before .before .before .before .before .before .streams .ensures .0) (c .before .before .before .before .before .before .before .before .loop .inv) (c .before .before .before .before .before .before .before .loop-test .taken) _ _ (c .before .before .write-body .ensures)
+    let b = c .before .before .before .before .before .before .before .before .before .before .before .before .before .before .before .before in
+    writing-turn _ _ (b .pre .0) (b .pre .1) _ _ _ _ (c .before .before .before .before .before .before .before .before .before .before .before .before .before .streams .ensures .0) (c .before .before .before .before .before .before .before .before .before .before .before .before .loop .inv) (c .before .before .before .before .before .before .before .before .before .before .before .loop-test .taken) _ _ (c .before .before .before .before .before .before .write-body .ensures) _ (c .before .before .write-pair .ensures)
 
 same-length : tie.Need-same-length Inv-loop μ-loop
 same-length c = let b = c .before .before .before .before .before in writing-length _ _ (b .pre .0) (b .pre .1) (c .before .loop .inv)
@@ -141,17 +100,8 @@ write-streams-spec =
     part-write-body-start
     part-write-body-end
     write-body-requires
-    cast-page
-    mul-page
-    add-page
-    mul-page-2
-    slice-write-page
-    sub-page
-    cast-page-2
-    mul-page-3
-    add-page-2
-    mul-page-4
-    slice-write-page-2
+    sub-write-pair
+    write-pair-requires
     add-s
     loop-less
     loop-again
