@@ -2,7 +2,7 @@
 -- squeezing say that slots give the words again and words the slots (`record-body`, `body-record`).
 use mathlib.Core.Path.{_≡_, refl, sym, ap, ap₂, _∙_}
 use mathlib.Core.Logic.{⊎-elim}
-use mathlib.Core.Bool.{true, false}
+use mathlib.Core.Bool.{Bool, true, false}
 use mathlib.Core.List.{List, _∷_, _++_}
 use Prim.Native.Nat.{ℕ, zero, suc, _+_, _-_, _%_, _^_, _≤_, _<_}
 use native.Mathlib.Nat.{zero-add, mod-lt}
@@ -12,6 +12,7 @@ use lib.Bits.{bitAnd}
 use lib.Dec.{eqb}
 use lib.ListN.{length, drop, getD, replicate, length-append, length-drop, length-replicate, take-append-drop}
 use lib.Seq.{drop-at, ext-getD}
+use Rattle.words.specs.Tests.{both}
 use Rattle.words.specs.Word.{has}
 use Rattle.words.specs.Part.{part}
 use Rattle.words.specs.SetBits.{bitsOf}
@@ -26,7 +27,7 @@ use Rattle.record.specs.Held.{heldMask, holds, heldBits, slotAt}
 use Rattle.record.specs.Layout.{headWords, slotWords, recordWords, heldOf, countOf, lastOf, slotIn, slotsOf, slotOf}
 use Rattle.record.specs.After.{slotAfter, refilled, heldWords}
 use Rattle.record.specs.Good.{recordGood, heldGood}
-use Rattle.record.proofs.SlotLaws.{placed, placed-inside, in-order-length, slots-whole}
+use Rattle.record.proofs.SlotLaws.{placed, placed-inside, in-order-length, in-order-at, slots-whole, held-high}
 use Rattle.record.proofs.HoldLaws.{slot-inside}
 use Rattle.record.proofs.GoodLaws.{zero-at, good-of}
 use Rattle.record.proofs.SqueezeLaws.{refilled-drop, held-length, refilled-held, held-refilled}
@@ -52,10 +53,14 @@ pub record-word : (b : List ℕ) (i : ℕ) → i < headWords → headWords ≤ l
 unfolding recordOf
 record-word b i h g = front-word i b _ h g
 
--- a good record holds no bit but those of held fields
+-- first words that are good hold no bit but those of held fields; and so a good record
+pub head-within : (r : List ℕ) (rest : Bool) → both (heldGood (heldOf r) (lastOf (countOf 2 r))) rest ≡ true → bitAnd (heldOf r) heldMask ≡ heldOf r
+unfolding heldGood
+head-within r rest e = eqb-true _ _ (both-left (eqb (bitAnd (heldOf r) heldMask) (heldOf r)) _ (both-left (heldGood (heldOf r) (lastOf (countOf 2 r))) rest e))
+
 pub good-within : (r : List ℕ) → recordGood r ≡ true → bitAnd (heldOf r) heldMask ≡ heldOf r
-unfolding recordGood heldGood
-good-within r e = eqb-true _ _ (both-left (eqb (bitAnd (heldOf r) heldMask) (heldOf r)) _ (both-left (heldGood (heldOf r) (lastOf (countOf 2 r))) _ e))
+unfolding recordGood
+good-within r e = head-within r _ e
 
 -- ---- zeroed slots
 
@@ -189,15 +194,30 @@ module _ (b : List ℕ) (l : length b ≡ bodyWords (heldOf b)) where
   unfolding recordOf
   record-length = length-append (part 0 headWords b) _ ∙ omega (arith, front-length, refilled-here)
 
+  -- the slots of its record
+  record-slots : slotsOf (recordOf b) ≡ refilled (heldOf b) 0 (drop headWords b) (replicate slotWords 0)
+  unfolding recordOf slotsOf
+  record-slots =
+      let rest : List ℕ = refilled (heldOf b) headWords b (replicate slotWords 0) in
+      let m : length rest ≡ slotWords = refilled-here in
+      part-past headWords 0 slotWords (part 0 headWords b) rest front-length ∙ rw m at (part-whole rest) ∙ refilled-drop (heldOf b) headWords b (replicate slotWords 0)
+
+  -- a slot has the words of its field where the body holds it, and is else zero
+  pub record-slot : (x : ℕ) → holds x ≡ true
+      → slotOf x (recordOf b) ≡ slotAfter (has (heldOf b) x) (part (placed 31 (heldOf b) x) (sizeOf x) (drop headWords b)) (replicate (sizeOf x) 0)
+  unfolding slotOf slotIn slotAt refilled heldBits holds
+  record-slot x o =
+      let ws : List ℕ = drop headWords b in
+      ap (slotIn x) record-slots
+      ∙ in-order-at 31 heldMask x _ (refilled-sized (heldOf b) ws (replicate slotWords 0) rest-length zeros-length) (held-high x o) o
+      ∙ ap₂ (λ (n : ℕ) (z : List ℕ). slotAfter (has (heldOf b) x) (part n (sizeOf x) ws) z) (zero-add (placed 31 (heldOf b) x)) (zero-slot x o)
+
   pub body-record : bitAnd (heldOf b) heldMask ≡ heldOf b → bodyOf (recordOf b) ≡ b
-  unfolding recordOf bodyOf slotsOf
+  unfolding recordOf bodyOf
   body-record w =
       let rest : List ℕ = refilled (heldOf b) headWords b (replicate slotWords 0) in
       let h : heldOf (recordOf b) ≡ heldOf b = record-word b 1 (omega arith) body-some in
       let f : part 0 headWords (recordOf b) ≡ part 0 headWords b = part-front headWords (part 0 headWords b) rest front-length in
-      let m : length rest ≡ slotWords = refilled-here in
-      let s : slotsOf (recordOf b) ≡ rest =
-      part-past headWords 0 slotWords (part 0 headWords b) rest front-length ∙ rw m at (part-whole rest) in
       let q : heldWords (heldOf (recordOf b)) (slotsOf (recordOf b)) ≡ drop headWords b =
-      rw (h, s, refilled-drop (heldOf b) headWords b (replicate slotWords 0)) (held-refilled (heldOf b) w (drop headWords b) (replicate slotWords 0) rest-length zeros-length) in
+      rw (h, record-slots) (held-refilled (heldOf b) w (drop headWords b) (replicate slotWords 0) rest-length zeros-length) in
       ap₂ (λ (x y : List ℕ). x ++ y) f q ∙ rw part-is (take-append-drop headWords b)

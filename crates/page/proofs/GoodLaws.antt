@@ -1,26 +1,47 @@
 -- How a program tests a page. The idea: while the pairs before it are right, body s begins where the lengths say (`Paired`), so one pass tests them all; the
--- identifiers are gathered into a list (`Gathering`), and each test is a row of its definition.
-use mathlib.Core.Path.{_≡_, refl, ap, _∙_}
+-- identifiers are gathered into a list (`Gathering`), and each test is a row of its definition. The record of a body need not be made to be tested: its first words
+-- are the body's, the slots of held fields have the words that a walk over the body finds, and the other slots are zero (`rules-below`).
+use mathlib.Core.Path.{_≡_, refl, sym, ap, ap₂, _∙_}
 use mathlib.Core.Bool.{Bool, true, false}
 use mathlib.Core.Logic.{⊎-elim}
 use mathlib.Core.List.{List}
-use Prim.Native.Nat.{ℕ, _+_, _*_, _≤_, _<_}
-use native.Mathlib.Nat.{zero-add, one-mul}
+use Prim.Native.Nat.{ℕ, zero, suc, _+_, _-_, _*_, _^_, _≤_, _<_}
+use native.Mathlib.Nat.{zero-add, one-mul, lt-of-le-of-lt}
 use native.Mathlib.Numerals.{add-one}
 use native.Mathlib.Omega.{arith}
 use borrow.Author.Tests.{eq-eqb, ne-eqb, le-leb, lt-leb}
+use lib.Bits.{bitAnd, and-le-r}
 use lib.Dec.{eqb, leb}
-use lib.ListN.{length, getD, set, length-set}
-use lib.Seq.{getD-set-same, getD-set-other}
+use lib.ListN.{length, take, drop, getD, set, length-set}
+use lib.Seq.{getD-set-same, getD-set-other, drop-drop}
 use Rattle.words.specs.Tests.{both}
+use Rattle.words.specs.Word.{has}
+use Rattle.words.specs.SetBits.{bitsOf}
 use Rattle.words.specs.All.{all}
-use Rattle.words.proofs.Cases.{le-or-lt}
-use Rattle.words.proofs.AllLaws.{all-none, all-more, all-fails, all-end}
+use Rattle.words.proofs.Cases.{le-or-lt, true-or-false, both-yes, both-no, pick-true}
+use Rattle.words.proofs.AllLaws.{all-none, all-more, all-fails, all-end, all-same}
+use Rattle.words.proofs.PartLaws.{part-is}
+use Rattle.words.proofs.SetBitLaws.{bits-zero, bits-yes, bits-no}
+use Rattle.fields.specs.Sizes.{sizeOf, sizesOf}
+use Rattle.fields.specs.Rules.{ruleOf}
+use Rattle.fields.specs.Layout.{obeyed}
+use Rattle.fields.proofs.PlaceLaws.{rest-whole}
+use Rattle.fields.proofs.SizeLaws.{sizes-more, words-fixed}
+use Rattle.fields.proofs.RuleLaws.{rule-own}
+use Rattle.fields.proofs.WalkLaws.{rules-cons}
+use Rattle.record.specs.Held.{heldMask, holds}
+use Rattle.record.specs.Layout.{headWords, heldOf, countAt, countOf, lastOf}
+use Rattle.record.specs.After.{slotAfter}
+use Rattle.record.specs.Good.{countGoodAt, heldGood, slotGood, recordGood}
+use Rattle.record.proofs.SlotLaws.{placed, placed-split, held-small, held-low, held-high}
+use Rattle.record.proofs.HoldLaws.{within-holds}
+use Rattle.record.proofs.GoodLaws.{counts-at, last-at, zeros-good, good-head-ill, good-slots}
 use Rattle.table.specs.Identifiers.{spaced, listGood}
 use Rattle.table.proofs.ListLaws.{list-same}
-use Rattle.page.specs.Body.{bodyWords}
+use Rattle.page.specs.Body.{bodyWords, recordOf}
 use Rattle.page.specs.Layout.{contentsWords, bodiesIn, offsetAt, lengthAt, beginsAt}
 use Rattle.page.specs.Good.{pairGood, pairsGood, contentsGood, identifierAt, Gathered, recordGoodIn, pageOk}
+use Rattle.page.proofs.BodyLaws.{head-within, body-some, record-word, record-slot}
 use Rattle.page.proofs.ContentsLaws.{pair-of}
 
 -- ---- one pair: a is its offset, l its length, and w the words of its body's held indicator; the bodies before it end at the place at
@@ -110,6 +131,80 @@ gathering-end p before ids n s q h = λ u g. q .found u (omega arith)
 
 pub list-gathered : (p ids : List ℕ) (n : ℕ) → Gathered n p ids → listGood n (spaced 0 1 ids) ≡ listGood n (identifierAt p)
 list-gathered p ids n g = list-same n (spaced 0 1 ids) (identifierAt p) (λ s h. ap (λ (i : ℕ). getD ids i 0) (zero-add (1 * s) ∙ one-mul s) ∙ g s h)
+
+-- ---- the record of a body, as a program tests it in the body
+
+both-swap : (s t : Bool) → both s t ≡ both t s
+both-swap true t = sym (both-yes t)
+both-swap false t = sym (both-no t)
+
+module _ (b : List ℕ) (l : length b ≡ bodyWords (heldOf b)) where
+  -- the slot of a field that is held, and of one that is not
+  slot-held : (x : ℕ) → holds x ≡ true → has (heldOf b) x ≡ true → slotGood (recordOf b) x ≡ ruleOf x (drop (placed 31 (heldOf b) x) (drop headWords b))
+  unfolding slotGood slotAfter
+  slot-held x o y =
+      let h : heldOf (recordOf b) ≡ heldOf b = record-word b 1 (omega arith) (body-some b l) in
+      rw (o, h, y, record-slot b l x o, y, part-is (placed 31 (heldOf b) x) (sizeOf x) (drop headWords b)) (rule-own x _ (held-low x o) (held-high x o))
+
+  slot-blank : (x : ℕ) → has (heldOf b) x ≡ false → slotGood (recordOf b) x ≡ true
+  unfolding slotGood slotAfter
+  slot-blank x n =
+      let h : heldOf (recordOf b) ≡ heldOf b = record-word b 1 (omega arith) (body-some b l) in
+      pick-true (holds x) _ (λ o. rw (h, n, record-slot b l x o, n) (zeros-good (sizeOf x)))
+
+  -- the fields of the bits below k, which stand from a on among the held words
+  rules-below : (k a : ℕ) → bitAnd (heldOf b) heldMask ≡ heldOf b → k ≤ 31 → a + sizesOf (bitsOf k (heldOf b)) ≡ sizesOf (bitsOf 31 (heldOf b))
+      → obeyed (bitsOf k (heldOf b)) (drop a (drop headWords b)) ≡ all k (slotGood (recordOf b))
+  unfolding all obeyed
+  rules-below zero a w h e = rw (bits-zero (heldOf b))
+  rules-below (suc k) a w h e =
+      let held : ℕ = heldOf b in
+      let ws : List ℕ = drop headWords b in
+      ⊎-elim
+      (λ (y : has held k ≡ true).
+      let o : holds k ≡ true = within-holds held w k y in
+      let f : sizesOf (bitsOf (suc k) held) ≡ sizeOf k + sizesOf (bitsOf k held) = ap sizesOf (bits-yes k held y) ∙ sizes-more k (bitsOf k held) in
+      let i : a ≡ placed 31 held k = omega (arith, e, f, placed-split 31 held k (omega arith) y) in
+      ap (λ (bs : List ℕ). obeyed bs (drop a ws)) (bits-yes k held y)
+      ∙ rules-cons k (sizeOf k) a (bitsOf k held) ws (sym (words-fixed k (drop a ws) (held-low k o)))
+      ∙ ap₂ both (ap (λ (n : ℕ). ruleOf k (drop n ws)) i ∙ sym (slot-held k o y)) (rules-below k (a + sizeOf k) w (omega arith) (omega (arith, e, f)))
+      ∙ both-swap (slotGood (recordOf b) k) (all k (slotGood (recordOf b))))
+      (λ (n : has held k ≡ false).
+      ap (λ (bs : List ℕ). obeyed bs (drop a ws)) (bits-no k held n)
+      ∙ rules-below k a w (omega arith) (omega (arith, e, ap sizesOf (bits-no k held n)))
+      ∙ sym (ap (both (all k (slotGood (recordOf b)))) (slot-blank k n) ∙ both-yes (all k (slotGood (recordOf b)))))
+      (true-or-false (has held k))
+
+  -- the counts are those of the body
+  count-same : (k : ℕ) → k < 4 → countGoodAt b k ≡ countGoodAt (recordOf b) k
+  count-same k h =
+      let word : (i : ℕ) → i < 3 → getD b (countAt k + i) 0 ≡ getD (recordOf b) (countAt k + i) 0 = λ i g. sym (record-word b (countAt k + i) (omega arith) (body-some b l)) in
+      let first : getD b (countAt k) 0 ≡ getD (recordOf b) (countAt k) 0 = sym (record-word b (countAt k) (omega arith) (body-some b l)) in
+      counts-at b k ∙ rw (first, word 1 (omega arith), word 2 (omega arith)) (sym (counts-at (recordOf b) k))
+
+  -- head is the test of the first words
+  module _ (head : Bool) (e : head ≡ both (heldGood (heldOf b) (lastOf (countOf 2 b))) (all 4 (countGoodAt b))) where
+    head-same : head ≡ both (heldGood (heldOf (recordOf b)) (lastOf (countOf 2 (recordOf b)))) (all 4 (countGoodAt (recordOf b)))
+    head-same =
+        let h : heldOf b ≡ heldOf (recordOf b) = sym (record-word b 1 (omega arith) (body-some b l)) in
+        let last : lastOf (countOf 2 b) ≡ lastOf (countOf 2 (recordOf b)) = last-at b ∙ sym (record-word b 10 (omega arith) (body-some b l)) ∙ sym (last-at (recordOf b)) in
+        e ∙ ap₂ both (ap₂ heldGood h last) (all-same (countGoodAt b) (countGoodAt (recordOf b)) 4 count-same)
+
+    pub body-ill : head ≡ false → false ≡ recordGood (recordOf b)
+    body-ill h = good-head-ill (recordOf b) head head-same h
+
+    module _ (h : head ≡ true) where
+      held-within : bitAnd (heldOf b) heldMask ≡ heldOf b
+      held-within = head-within b _ (sym e ∙ h)
+
+      pub body-held : heldOf b < 2 ^ 31
+      body-held = rw held-within at (lt-of-le-of-lt (and-le-r (heldOf b) heldMask) held-small)
+
+      -- the walk begins one word before the held words
+      pub body-rules : (kept : Bool) → kept ≡ obeyed (bitsOf 31 (heldOf b)) (drop 1 (take (length b - (headWords - 1)) (drop (headWords - 1) b))) → kept ≡ recordGood (recordOf b)
+      body-rules kept g =
+          let d : drop 1 (take (length b - (headWords - 1)) (drop (headWords - 1) b)) ≡ drop headWords b = ap (drop 1) (rest-whole (headWords - 1) b) ∙ drop-drop 1 (headWords - 1) b in
+          good-slots (recordOf b) head head-same kept h (g ∙ rw d (rules-below 31 0 held-within (omega arith) (zero-add _)))
 
 -- ---- the page, n being S
 

@@ -106,21 +106,18 @@ module _ (p : List ℕ) (s : ℕ) (c : contentsGood p ≡ true) (h : s < bodiesI
     pub load-inside : at + l ≤ length p
     load-inside = let g = contents-of p c in omega (arith, g .gapless s h, g .inside s h)
 
-    load-body : take (at + l - at) (drop at p) ≡ bodyAt p s
+    pub load-body : take (at + l - at) (drop at p) ≡ bodyAt p s
     unfolding bodyAt
     load-body = seen at (at + l) l p refl ∙ ap₂ (λ (a n : ℕ). part a n p) e f
 
-    pub load-asks : length (take (at + l - at) (drop at p)) ≡ bodyWords (heldOf (take (at + l - at) (drop at p)))
-    load-asks = rw load-body (body-words p (contents-of p c) s h)
+  -- what `fill_record` and `body_good` ask of it
+  pub load-asks : (body : List ℕ) → body ≡ bodyAt p s → length body ≡ bodyWords (heldOf body)
+  load-asks body e = rw e (body-words p (contents-of p c) s h)
 
-    pub load-record : recordOf (take (at + l - at) (drop at p)) ≡ savedRecord p s
-    unfolding savedRecord
-    load-record = ap recordOf load-body
-
-  pub put-record : (rec t after : List ℕ) → rec ≡ savedRecord p s → after ≡ put (base s) recordWords (part 0 recordWords rec) t → after ≡ withRecord s (savedRecord p s) t
-  unfolding withRecord
-  put-record rec t after e f =
-      f ∙ ap (λ (r : List ℕ). put (base s) recordWords r t) (ap (part 0 recordWords) e ∙ rw loaded-length at (part-whole (savedRecord p s)))
+  pub put-record : (body rec t after : List ℕ) → body ≡ bodyAt p s → rec ≡ recordOf body → after ≡ put (base s) recordWords (part 0 recordWords rec) t → after ≡ withRecord s (savedRecord p s) t
+  unfolding withRecord savedRecord
+  put-record body rec t after b e f =
+      f ∙ ap (λ (r : List ℕ). put (base s) recordWords r t) (ap (part 0 recordWords) (e ∙ ap recordOf b) ∙ rw loaded-length at (part-whole (savedRecord p s)))
 
 -- ---- the loop that writes the records
 

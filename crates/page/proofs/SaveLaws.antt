@@ -1,5 +1,6 @@
 -- How saving goes. The idea: after s streams the length is the offset of body s (`Summing`), and a body's length is that of the held indicator in its record;
--- the pairs and the bodies are pieces laid one after the other (`Pairing`, `Laying`).
+-- the pairs and the bodies are pieces laid one after the other (`Pairing`, `Laying`), in one pass: a pair stands before the bodies, so writing it leaves them
+-- (`Writing`).
 use mathlib.Core.Path.{_≡_, refl, sym, ap, ap₂, _∙_}
 use mathlib.Core.Bool.{Bool, true, false, not}
 use mathlib.Core.List.{List, [], _∷_, _++_}
@@ -37,7 +38,7 @@ use Rattle.page.specs.declared.Saved.the-variants.{Accepted, Refused}
 use Rattle.page.proofs.BodyLaws.{good-within, body-length}
 use Rattle.page.proofs.LayoutLaws.{offset-first, offset-next, offset-inside}
 use Rattle.page.proofs.Bounds.{page-between, page-small, page-whole}
-use Rattle.page.proofs.WriteLaws.{laid-part, laid-two, laid-none, laid-next, laid-front}
+use Rattle.page.proofs.WriteLaws.{laid-part, laid-two, laid-before, laid-none, laid-next, laid-front}
 
 -- ---- the loop that adds the bodies' lengths
 
@@ -109,27 +110,34 @@ module _ (r page : List ℕ) (at : ℕ) (l : length r ≡ recordWords) (g : reco
   unfolding bodyOf
   body-laid page′ page″ to e p = then (head-laid page′ e) (rw slots-seen at p)
 
--- ---- the loop that writes the pairs
+-- ---- the pairs
 
 pub record Pairing (t before after : List ℕ) (n s at : ℕ) : Type 0 where
   pub sums : Summing t n s at
   pub laid : Laid before 2 (joined s (pairOf (streamsOf t) (savedBody t))) (2 + 2 * s) after
 
--- ---- the loop that writes the bodies
+-- ---- the bodies
 
 pub record Laying (t before after : List ℕ) (n s at : ℕ) : Type 0 where
   pub most : s ≤ n
   pub laid : Laid before (bodiesFrom t) (joined s (savedBody t)) at after
 
+-- ---- the loop that writes both: the pairs are laid in `before`, and the bodies in what that leaves
+
+pub record Writing (t before after : List ℕ) (n s at : ℕ) : Type 0 where
+  pub mid : List ℕ
+  pub pairs : Pairing t before mid n s at
+  pub bodies : Laying t mid after n s at
+
 module _ (t before : List ℕ) (w : wellMade t ≡ true) (h : pageLength t ≤ length before) where
-  pub pairing-start : (n : ℕ) → n ≡ streamsOf t → Pairing t before before n 0 (2 + 2 * n)
+  pairing-start : (n : ℕ) → n ≡ streamsOf t → Pairing t before before n 0 (2 + 2 * n)
   pairing-start n e = record { sums = summing-start t w n e; laid = laid-none before 2 (pairOf (streamsOf t) (savedBody t)) }
 
   module _ (after : List ℕ) (n s at : ℕ) (e : n ≡ streamsOf t) (p : Pairing t before after n s at) (g : s < n) where
-    pub pairing-room : 3 + 2 * s < length after
+    pairing-room : 3 + 2 * s < length after
     pairing-room = omega (arith, laid-length (p .laid), page-between t w .0)
 
-    pub pairing-turn : (k : ℕ) → k ≡ bodyWords (getD t (base s + 1) 0)
+    pairing-turn : (k : ℕ) → k ≡ bodyWords (getD t (base s + 1) 0)
         → Pairing t before (set (set after (2 + 2 * s) at) (3 + 2 * s) k) n (s + 1) (at + k)
     unfolding pairOf
     pairing-turn k l =
@@ -142,11 +150,11 @@ module _ (t before : List ℕ) (w : wellMade t ≡ true) (h : pageLength t ≤ l
           laid = laid-next s (pairOf (streamsOf t) (savedBody t)) (p .laid) (rw (i, j, pair) at (laid-two after (2 + 2 * s) at k));
         }
 
-  pub pairing-end : (after : List ℕ) (n s at : ℕ) → n ≡ streamsOf t → Pairing t before after n s at → n ≤ s
+  pairing-end : (after : List ℕ) (n s at : ℕ) → n ≡ streamsOf t → Pairing t before after n s at → n ≤ s
       → Laid before 2 (pairsOf t) (bodiesFrom t) after
   pairing-end after n s at e p g = let i : s ≡ streamsOf t = omega (arith, p .sums .most) in rw i at (p .laid)
 
-  pub laying-start : (n : ℕ) → n ≡ streamsOf t → Laying t before before n 0 (2 + 2 * n)
+  laying-start : (n : ℕ) → n ≡ streamsOf t → Laying t before before n 0 (2 + 2 * n)
   laying-start n e = record { most = omega arith; laid = rw e (laid-none before (bodiesFrom t) (savedBody t)) }
 
   module _ (after : List ℕ) (n s at : ℕ) (e : n ≡ streamsOf t) (p : Laying t before after n s at) (g : s < n) where
@@ -154,7 +162,7 @@ module _ (t before : List ℕ) (w : wellMade t ≡ true) (h : pageLength t ≤ l
     unfolding recordAt
     record-seen = seen (base s) (base s + recordWords) recordWords t refl
 
-    pub laying-asks : (length (take (base s + recordWords - base s) (drop (base s) t)) ≡ recordWords)
+    laying-asks : (length (take (base s + recordWords - base s) (drop (base s) t)) ≡ recordWords)
         × (recordGood (take (base s + recordWords - base s) (drop (base s) t)) ≡ true)
         × (at + length (bodyOf (take (base s + recordWords - base s) (drop (base s) t))) ≤ length after)
     unfolding savedBody pageLength offsetOf
@@ -166,11 +174,11 @@ module _ (t before : List ℕ) (w : wellMade t ≡ true) (h : pageLength t ≤ l
           omega (arith, h, p .laid .past, laid-length (p .laid), offset-inside (streamsOf t) (savedBody t) s i),
         )
 
-    pub laying-turn : (after′ : List ℕ) (to : ℕ) → Laid after at (bodyOf (take (base s + recordWords - base s) (drop (base s) t))) to after′ → Laying t before after′ n (s + 1) to
+    laying-turn : (after′ : List ℕ) (to : ℕ) → Laid after at (bodyOf (take (base s + recordWords - base s) (drop (base s) t))) to after′ → Laying t before after′ n (s + 1) to
     unfolding savedBody
     laying-turn after′ to q = record { most = omega arith; laid = laid-next s (savedBody t) (p .laid) (rw record-seen at q) }
 
-  pub laying-end : (after : List ℕ) (n s at : ℕ) → n ≡ streamsOf t → Laying t before after n s at → n ≤ s
+  laying-end : (after : List ℕ) (n s at : ℕ) → n ≡ streamsOf t → Laying t before after n s at → n ≤ s
       → Laid before (bodiesFrom t) (bodiesOf t) (pageLength t) after
   unfolding pageLength offsetOf
   laying-end after n s at e p g =
@@ -178,15 +186,59 @@ module _ (t before : List ℕ) (w : wellMade t ≡ true) (h : pageLength t ≤ l
       let q : Laid before (bodiesFrom t) (bodiesOf t) at after = rw i at (p .laid) in
       rw (q .past) at q
 
+module _ (t before : List ℕ) (w : wellMade t ≡ true) (h : pageLength t ≤ length before) where
+  pub writing-start : (n : ℕ) → n ≡ streamsOf t → Writing t before before n 0 (2 + 2 * n)
+  writing-start n e = record { mid = before; pairs = pairing-start t before w h n e; bodies = laying-start t before w h n e }
+
+  module _ (after : List ℕ) (n s at : ℕ) (e : n ≡ streamsOf t) (p : Writing t before after n s at) (g : s < n) where
+    mid-room : pageLength t ≤ length (p .mid)
+    mid-room = omega (arith, laid-length (p .pairs .laid))
+
+    pub writing-asks : (length (take (base s + recordWords - base s) (drop (base s) t)) ≡ recordWords)
+        × (recordGood (take (base s + recordWords - base s) (drop (base s) t)) ≡ true)
+        × (at + length (bodyOf (take (base s + recordWords - base s) (drop (base s) t))) ≤ length after)
+    writing-asks = laying-asks t (p .mid) w mid-room after n s at e (p .bodies) g
+
+    -- the body is written
+    module _ (after′ : List ℕ) (to : ℕ) (q : Laid after at (bodyOf (take (base s + recordWords - base s) (drop (base s) t))) to after′) where
+      length-is : to - at ≡ bodyWords (getD t (base s + 1) 0)
+      unfolding savedBody
+      length-is =
+          let l : length (bodyOf (take (base s + recordWords - base s) (drop (base s) t))) ≡ length (savedBody t s) =
+          ap (λ (r : List ℕ). length (bodyOf r)) (record-seen t (p .mid) w mid-room after n s at e (p .bodies) g) in
+          omega (arith, q .past, l, held-length t w s (omega arith))
+
+      pub pair-asks : (3 + 2 * s < length after′) × (at + (to - at) ≤ 2882)
+      pair-asks = (
+        omega (arith, pairing-room t before w h (p .mid) n s at e (p .pairs) g, laid-length (p .bodies .laid), laid-length q),
+        summing-most t w n s at (to - at) e (p .pairs .sums) g length-is,
+      )
+
+      pub writing-turn : (after″ : List ℕ) → after″ ≡ set (set after′ (2 + 2 * s) at) (3 + 2 * s) (to - at) → Writing t before after″ n (s + 1) to
+      writing-turn after″ f =
+          let sum : at + (to - at) ≡ to = omega (arith, q .past) in
+          let next = laying-turn t (p .mid) w mid-room after n s at e (p .bodies) g after′ to q in
+          rw f (record {
+            mid = set (set (p .mid) (2 + 2 * s) at) (3 + 2 * s) (to - at);
+            pairs = rw sum at (pairing-turn t before w h (p .mid) n s at e (p .pairs) g (to - at) length-is);
+            bodies = record { most = next .most; laid = laid-before (3 + 2 * s) (to - at) (laid-before (2 + 2 * s) at (next .laid) (omega arith)) (omega arith) };
+          })
+
+  pub writing-length : {after : List ℕ} {n s at : ℕ} → Writing t before after n s at → length after ≡ length before
+  writing-length p = laid-length (p .bodies .laid) ∙ laid-length (p .pairs .laid)
+
+  pub writing-end : (after : List ℕ) (n s at : ℕ) → n ≡ streamsOf t → Writing t before after n s at → n ≤ s → Laid before 2 (pairsOf t ++ bodiesOf t) (pageLength t) after
+  writing-end after n s at e p g =
+      then (pairing-end t before w h (p .mid) n s at e (p .pairs) g) (laying-end t (p .mid) w (omega (arith, laid-length (p .pairs .laid))) after n s at e (p .bodies) g)
+
   -- S, the length, the pairs and the bodies are the page
-  pub page-laid : (n size : ℕ) (pairs after : List ℕ) → n ≡ streamsOf t → size ≡ pageLength t
-      → Laid (set (set before 0 n) 1 size) 2 (pairsOf t) (bodiesFrom t) pairs
-      → Laid pairs (bodiesFrom t) (bodiesOf t) (pageLength t) after → after ≡ pageOf t ++ drop (pageLength t) before
+  pub page-laid : (n size : ℕ) (after : List ℕ) → n ≡ streamsOf t → size ≡ pageLength t
+      → Laid (set (set before 0 n) 1 size) 2 (pairsOf t ++ bodiesOf t) (pageLength t) after → after ≡ pageOf t ++ drop (pageLength t) before
   unfolding pageOf pageFrom pageLength
-  page-laid n size pairs after e f p q =
+  page-laid n size after e f p =
       let l = page-whole t w in
       let first : Laid before 0 (streamsOf t ∷ pageLength t ∷ []) 2 (set (set before 0 n) 1 size) = rw (e, f) (laid-two before 0 (streamsOf t) (pageLength t)) in
-      rw l at (laid-front (then (then first p) q) (omega (arith, h, l)))
+      rw l at (laid-front (then first p) (omega (arith, h, l)))
 
 -- ---- the answers of the length
 

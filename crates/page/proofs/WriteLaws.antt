@@ -2,12 +2,12 @@
 -- law; and words laid from the front on are followed by what stood there (`laid-front`).
 use mathlib.Core.Path.{_≡_, refl, sym, ap, _∙_}
 use mathlib.Core.List.{List, [], _∷_, _++_}
-use Prim.Native.Nat.{ℕ, _+_, _≤_}
+use Prim.Native.Nat.{ℕ, suc, _+_, _≤_, _<_}
 use native.Mathlib.Nat.{add-zero, zero-add}
 use native.Mathlib.Numerals.{add-one}
 use native.Mathlib.Omega.{arith}
 use lib.ListN.{length, drop, set}
-use lib.Seq.{sets, sets-eq}
+use lib.Seq.{sets, sets-eq, set-comm}
 use Rattle.words.specs.Part.{put}
 use Rattle.words.specs.Laid.{Laid}
 use Rattle.words.proofs.LaidLaws.{then, sets-put}
@@ -29,6 +29,15 @@ laid-one before at a = record { past = refl; kept = refl }
 
 pub laid-two : (before : List ℕ) (at a b : ℕ) → Laid before at (a ∷ b ∷ []) (at + 2) (set (set before at a) (at + 1) b)
 laid-two before at a b = record { past = refl; kept = ap (λ (i : ℕ). set (set before at a) i b) (add-one at) }
+
+-- a word before them is as before
+sets-before : (ws before : List ℕ) (at i x : ℕ) → i < at → set (sets before at ws) i x ≡ sets (set before i x) at ws
+sets-before [] before at i x h = refl
+sets-before (w ∷ ws) before at i x h =
+    sets-before ws (set before at w) (suc at) i x (omega arith) ∙ ap (λ (l : List ℕ). sets l (suc at) ws) (set-comm before at i w x (λ e. omega arith))
+
+pub laid-before : {before ws after : List ℕ} {at to : ℕ} (i x : ℕ) → Laid before at ws to after → i < at → Laid (set before i x) at ws to (set after i x)
+laid-before {before} {ws} {after} {at} {to} i x p h = record { past = p .past; kept = ap (λ (l : List ℕ). set l i x) (p .kept) ∙ sets-before ws before at i x h }
 
 -- ---- pieces joined
 

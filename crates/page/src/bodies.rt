@@ -1,29 +1,32 @@
 // The bodies of a page, one for each stream.
 ghost use mathlib.Core.Path.{_≡_};
 ghost use mathlib.Core.Bool.{true};
-ghost use Prim.Native.Nat.{_+_, _≤_};
+ghost use Prim.Native.Nat.{_+_, _≤_, _<_};
 ghost use lib.Bits.{bitAnd};
 ghost use lib.ListN.{length};
 ghost use Rattle.words.specs.SetBits.{bitsOf};
 ghost use Rattle.words.specs.Laid.{Laid};
-ghost use Rattle.fields.specs.Sizes.{sizesOf};
-ghost use Rattle.record.specs.Held.{heldMask};
+ghost use Rattle.words.specs.All.{tabled};
+ghost use Rattle.fields.specs.Sizes.{sizeOf, sizesOf};
+ghost use Rattle.record.specs.Held.{heldMask, slotAt};
 ghost use Rattle.record.specs.Layout.{slotWords, recordWords};
 ghost use Rattle.record.specs.After.{heldWords};
 ghost use Rattle.record.specs.Good.{recordGood};
 ghost use Rattle.table.specs.Well.{wellMade};
 ghost use Rattle.page.specs.Body.{bodyOf, bodyWords};
-ghost use Rattle.page.specs.Layout.{pageLength};
+ghost use Rattle.page.specs.Layout.{pageLength, bodiesIn, bodyAt};
+ghost use Rattle.page.specs.Good.{contentsGood};
 
-// The length of a body, by its held indicator: the first words, and the words of each held field.
-pub fn body_words(held: u32) -> usize
+// The length of a body, by its held indicator: the first words, and the words of each held field. The table of sizes is lent.
+pub fn body_words(held: u32, sizes: &[u8; 32]) -> usize
+    requires { ⌜ tabled 32 sizeOf (now sizes) ≡ true ⌝ }
     ensures { λ r. ⌜ (r ≡ bodyWords held) × (r ≤ recordWords) ⌝ }
 {
     let mut rest = held % 0x8000_0000;
     let mut length = record::inner::HEAD_WORDS;
     while rest != 0 {
         let f = fields::inner::next_field(rest);
-        length += fields::inner::size_of(f.bit);
+        length += fields::inner::size_in(sizes, f.bit);
         rest = f.rest;
     }
     length
@@ -34,38 +37,52 @@ pub fn page_words(table: &[u32]) -> usize
     requires { ⌜ wellMade (now table) ≡ true ⌝ }
     ensures { λ r. ⌜ (r ≡ pageLength (now (table .entry))) × (r ≤ 2882) ⌝ }
 {
+    let sizes = fields::inner::SIZES;
     let n = table::inner::streams(table);
     let mut length = 2 + 2 * n;
     let mut s = 0;
     while s < n {
         let at = 1 + record::inner::RECORD_WORDS * s;
-        length += body_words(table[at + 1]);
+        length += body_words(table[at + 1], &sizes);
         s += 1;
     }
     length
 }
 
-// The held words of a record's slots, in field order, into a page from a place on. Gives the place past them.
-fn squeeze(page: &mut [u32], at: usize, held: u32, slots: &[u32]) -> usize
-    requires { ⌜ (length (now slots) ≡ slotWords) × (bitAnd held heldMask ≡ held) × (at + sizesOf (bitsOf 31 held) ≤ length (now page)) ⌝ }
+// The held words of a record's slots, in field order, into a page from a place on. Gives the place past them. The tables are lent.
+fn squeeze(
+    page: &mut [u32],
+    at: usize,
+    held: u32,
+    slots: &[u32],
+    sizes: &[u8; 32],
+    places: &[u8; 32],
+) -> usize
+    requires { ⌜ (length (now slots) ≡ slotWords) × (bitAnd held heldMask ≡ held) × (at + sizesOf (bitsOf 31 held) ≤ length (now page)) × (tabled 32 sizeOf (now sizes) ≡ true) × (tabled 32 slotAt (now places) ≡ true) ⌝ }
     ensures { λ r. ⌜ Laid (now (page .entry)) at (heldWords held (now (slots .entry))) r (now (page .exit)) ⌝ }
 {
     let mut rest = held;
     let mut to = at;
     while rest != 0 {
         let f = fields::inner::next_field(rest);
-        let n = fields::inner::size_of(f.bit);
-        let from = record::inner::slot_at(f.bit);
-        words::inner::copy_part(page, to, slots, from, n);
+        let n = fields::inner::size_in(sizes, f.bit);
+        let from = record::inner::slot_in(places, f.bit);
+        record::inner::copy_field(page, to, slots, from, n);
         to += n;
         rest = f.rest;
     }
     to
 }
 
-// The body of a good record, into a page from a place on: the record's first words, and then the held words. Gives the place past it.
-pub fn write_body(page: &mut [u32], at: usize, rec: &[u32]) -> usize
-    requires { ⌜ (length (now rec) ≡ recordWords) × (recordGood (now rec) ≡ true) × (at + length (bodyOf (now rec)) ≤ length (now page)) ⌝ }
+// The body of a good record, into a page from a place on: the record's first words, and then the held words. Gives the place past it. The tables are lent.
+pub fn write_body(
+    page: &mut [u32],
+    at: usize,
+    rec: &[u32],
+    sizes: &[u8; 32],
+    places: &[u8; 32],
+) -> usize
+    requires { ⌜ (length (now rec) ≡ recordWords) × (recordGood (now rec) ≡ true) × (at + length (bodyOf (now rec)) ≤ length (now page)) × (tabled 32 sizeOf (now sizes) ≡ true) × (tabled 32 slotAt (now places) ≡ true) ⌝ }
     ensures { λ r. ⌜ Laid (now (page .entry)) at (bodyOf (now (rec .entry))) r (now (page .exit)) ⌝ }
 {
     words::inner::copy_part(page, at, rec, 0, record::inner::HEAD_WORDS);
@@ -74,5 +91,17 @@ pub fn write_body(page: &mut [u32], at: usize, rec: &[u32]) -> usize
         at + record::inner::HEAD_WORDS,
         rec[1],
         &rec[record::inner::HEAD_WORDS..record::inner::RECORD_WORDS],
+        sizes,
+        places,
     )
+}
+
+// Body s of a page whose contents are right.
+pub fn body_in(page: &[u32], s: usize) -> &[u32]
+    requires { ⌜ (contentsGood (now page) ≡ true) × (s < bodiesIn (now page)) ⌝ }
+    ensures { λ r. ⌜ now r ≡ bodyAt (now (page .entry)) s ⌝ }
+{
+    let at = words::inner::word_at(page, 2 + 2 * s) as usize;
+    let end = at + words::inner::word_at(page, 3 + 2 * s) as usize;
+    &page[at..end]
 }

@@ -3,22 +3,26 @@ ghost use mathlib.Core.Path.{_≡_};
 ghost use mathlib.Core.Bool.{true};
 ghost use Prim.Native.Nat.{_≤_, _<_};
 ghost use lib.ListN.{length};
-ghost use Rattle.words.specs.All.{all};
+ghost use Rattle.words.specs.All.{all, tabled};
+ghost use Rattle.fields.specs.Sizes.{sizeOf};
+ghost use Rattle.record.specs.Layout.{heldOf};
+ghost use Rattle.record.specs.Good.{recordGood};
 ghost use Rattle.table.specs.Identifiers.{listGood};
+ghost use Rattle.page.specs.Body.{bodyWords, recordOf};
 ghost use Rattle.page.specs.Layout.{contentsWords, bodiesIn, beginsAt};
 ghost use Rattle.page.specs.Good.{pairGood, pairsGood, contentsGood, identifierAt, Gathered, recordGoodIn, pageOk};
 
 // Whether pair s is right, where the bodies before it end at a place: its offset is that place, its body ends inside the page, and its length is that of the
-// body's held indicator.
-fn pair_good(page: &[u32], s: usize, at: usize) -> bool
-    requires { ⌜ (at ≡ beginsAt (now page) s) × (at ≤ length (now page)) × (s < 32) ⌝ }
+// body's held indicator. The table of sizes is lent.
+fn pair_good(page: &[u32], s: usize, at: usize, sizes: &[u8; 32]) -> bool
+    requires { ⌜ (at ≡ beginsAt (now page) s) × (at ≤ length (now page)) × (s < 32) × (tabled 32 sizeOf (now sizes) ≡ true) ⌝ }
     ensures { λ r. ⌜ r ≡ pairGood (now (page .entry)) s ⌝ }
 {
     let here = words::inner::word_at(page, 2 + 2 * s) as usize == at;
     let length = words::inner::word_at(page, 3 + 2 * s) as usize;
     let inside = at + length <= page.len();
     let held = words::inner::word_at(page, at + 1);
-    let fits = length == crate::bodies::body_words(held);
+    let fits = length == crate::bodies::body_words(held, sizes);
     words::inner::both_of(here, words::inner::both_of(inside, fits))
 }
 
@@ -27,10 +31,11 @@ fn pairs_good(page: &[u32], n: usize) -> bool
     requires { ⌜ (n ≡ bodiesIn (now page)) × (n ≤ 32) × (contentsWords n ≤ length (now page)) ⌝ }
     ensures { λ r. ⌜ r ≡ pairsGood (now (page .entry)) n ⌝ }
 {
+    let sizes = fields::inner::SIZES;
     let mut at = 2 + 2 * n;
     let mut s = 0;
     while s < n {
-        if !pair_good(page, s, at) {
+        if !pair_good(page, s, at, &sizes) {
             return false;
         }
         at += words::inner::word_at(page, 3 + 2 * s) as usize;
@@ -79,14 +84,24 @@ fn list_good(page: &[u32], n: usize) -> bool
     table::inner::list_good(&ids, 0, 1, n)
 }
 
+// Whether the record of a body is good: the body's first words are, and the held fields obey their rules. The slots of the other fields would be zero.
+fn body_good(body: &[u32]) -> bool
+    requires { ⌜ length (now body) ≡ bodyWords (heldOf (now body)) ⌝ }
+    ensures { λ r. ⌜ r ≡ recordGood (recordOf (now (body .entry))) ⌝ }
+{
+    if !record::inner::head_good(body) {
+        return false;
+    }
+    let walked = fields::inner::walk(body[1], &body[record::inner::HEAD_WORDS - 1..]);
+    walked.kept
+}
+
 // Whether the record of body s is good.
 fn record_good_in(page: &[u32], s: usize) -> bool
     requires { ⌜ (contentsGood (now page) ≡ true) × (s < bodiesIn (now page)) ⌝ }
     ensures { λ r. ⌜ r ≡ recordGoodIn (now (page .entry)) s ⌝ }
 {
-    let mut rec = [0u32; record::inner::RECORD_WORDS];
-    crate::putting::load_record(&mut rec, page, s);
-    record::inner::record_good(&rec)
+    body_good(crate::bodies::body_in(page, s))
 }
 
 // Whether the records of n bodies are good.

@@ -25,23 +25,13 @@ fn fill_record(rec: &mut [u32], body: &[u32])
     );
 }
 
-// The record of body s of a page whose contents are right, into zeroed words.
-pub fn load_record(rec: &mut [u32], page: &[u32], s: usize)
-    requires { ⌜ (now rec ≡ replicate recordWords 0) × (contentsGood (now page) ≡ true) × (s < bodiesIn (now page)) ⌝ }
-    ensures { λ _. ⌜ now (rec .exit) ≡ savedRecord (now (page .entry)) s ⌝ }
-{
-    let at = words::inner::word_at(page, 2 + 2 * s) as usize;
-    let end = at + words::inner::word_at(page, 3 + 2 * s) as usize;
-    fill_record(rec, &page[at..end]);
-}
-
 // The record of body s, to its place in a table.
 fn put_record(table: &mut [u32], page: &[u32], s: usize)
     requires { ⌜ (contentsGood (now page) ≡ true) × (s < bodiesIn (now page)) × Has s (now table) ⌝ }
     ensures { λ _. ⌜ now (table .exit) ≡ withRecord s (savedRecord (now (page .entry)) s) (now (table .entry)) ⌝ }
 {
     let mut rec = [0u32; record::inner::RECORD_WORDS];
-    load_record(&mut rec, page, s);
+    fill_record(&mut rec, crate::bodies::body_in(page, s));
     let at = 1 + record::inner::RECORD_WORDS * s;
     words::inner::copy_part(table, at, &rec, 0, record::inner::RECORD_WORDS);
 }

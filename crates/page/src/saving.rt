@@ -2,42 +2,37 @@
 ghost use mathlib.Core.Path.{_≡_};
 ghost use mathlib.Core.Bool.{true};
 ghost use mathlib.Core.List.{_++_};
-ghost use Prim.Native.Nat.{_≤_};
-ghost use lib.ListN.{length, drop};
+ghost use Prim.Native.Nat.{_+_, _*_, _≤_, _<_};
+ghost use lib.ListN.{length, drop, set};
 ghost use Rattle.words.specs.Laid.{Laid};
 ghost use Rattle.table.specs.Well.{wellMade};
-ghost use Rattle.page.specs.Layout.{pairsOf, bodiesOf, bodiesFrom, pageOf, pageLength};
+ghost use Rattle.page.specs.Layout.{pairsOf, bodiesOf, pageOf, pageLength};
 
-// The pairs of the contents: offset and length of each body, in list order without gaps.
-fn write_pairs(page: &mut [u32], table: &[u32])
-    requires { ⌜ (wellMade (now table) ≡ true) × (pageLength (now table) ≤ length (now page)) ⌝ }
-    ensures { λ _. ⌜ Laid (now (page .entry)) 2 (pairsOf (now (table .entry))) (bodiesFrom (now (table .entry))) (now (page .exit)) ⌝ }
+// The pair of body s, into the contents: its offset and its size.
+fn write_pair(page: &mut [u32], s: usize, offset: usize, size: usize)
+    requires { ⌜ (3 + 2 * s < length (now page)) × (offset + size ≤ 2882) ⌝ }
+    ensures { λ _. ⌜ now (page .exit) ≡ set (set (now (page .entry)) (2 + 2 * s) offset) (3 + 2 * s) size ⌝ }
 {
-    let n = table::inner::streams(table);
-    let mut at = 2 + 2 * n;
-    let mut s = 0;
-    while s < n {
-        let held = table[1 + record::inner::RECORD_WORDS * s + 1];
-        let length = crate::bodies::body_words(held);
-        page[2 + 2 * s] = at as u32;
-        page[3 + 2 * s] = length as u32;
-        at += length;
-        s += 1;
-    }
+    page[2 + 2 * s] = offset as u32;
+    page[3 + 2 * s] = size as u32;
 }
 
-// The bodies, one for each stream, behind the contents.
-fn write_bodies(page: &mut [u32], table: &[u32])
+// The pair and the body of each stream: the pairs are the contents, in list order without gaps, and the bodies stand behind them.
+fn write_streams(page: &mut [u32], table: &[u32])
     requires { ⌜ (wellMade (now table) ≡ true) × (pageLength (now table) ≤ length (now page)) ⌝ }
-    ensures { λ _. ⌜ Laid (now (page .entry)) (bodiesFrom (now (table .entry))) (bodiesOf (now (table .entry))) (pageLength (now (table .entry))) (now (page .exit)) ⌝ }
+    ensures { λ _. ⌜ Laid (now (page .entry)) 2 (pairsOf (now (table .entry)) ++ bodiesOf (now (table .entry))) (pageLength (now (table .entry))) (now (page .exit)) ⌝ }
 {
+    let sizes = fields::inner::SIZES;
+    let places = record::inner::SLOTS;
     let n = table::inner::streams(table);
     let mut at = 2 + 2 * n;
     let mut s = 0;
     while s < n {
         let from = 1 + record::inner::RECORD_WORDS * s;
         let end = from + record::inner::RECORD_WORDS;
-        at = crate::bodies::write_body(page, at, &table[from..end]);
+        let past = crate::bodies::write_body(page, at, &table[from..end], &sizes, &places);
+        write_pair(page, s, at, past - at);
+        at = past;
         s += 1;
     }
 }
@@ -49,6 +44,5 @@ pub fn write_page(page: &mut [u32], table: &[u32], size: usize)
 {
     page[0] = table::inner::streams(table) as u32;
     page[1] = size as u32;
-    write_pairs(page, table);
-    write_bodies(page, table);
+    write_streams(page, table);
 }

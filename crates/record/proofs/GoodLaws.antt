@@ -3,24 +3,24 @@
 use mathlib.Core.Path.{_≡_, refl, sym, ap, _∙_}
 use mathlib.Core.Bool.{Bool, true, false}
 use mathlib.Core.Logic.{⊎-elim}
-use mathlib.Core.List.{List}
+use mathlib.Core.List.{List, [], _∷_}
 use Prim.Native.Nat.{ℕ, zero, suc, _+_, _-_, _%_, _^_, _≤_, _<_}
-use native.Mathlib.Nat.{add-zero, zero-div, lt-of-le-of-lt}
+use native.Mathlib.Nat.{add-zero, add-suc, add-assoc, zero-div, lt-of-le-of-lt}
 use native.Mathlib.Omega.{arith}
 use borrow.Author.Tests.{eq-eqb, ne-eqb, le-leb, eqb-true, leb-true}
 use lib.Bits.{bitAnd, and-le-r, and-le-l, or-lt}
 use lib.Dec.{eqb}
 use lib.ListN.{length, take, drop, getD, replicate, length-replicate}
 use lib.Seq.{ext-getD}
-use Rattle.words.specs.Tests.{pick, both}
+use Rattle.words.specs.Tests.{pick, both, among}
 use Rattle.words.specs.Word.{has}
 use Rattle.words.specs.Part.{part}
 use Rattle.words.specs.All.{all}
 use Rattle.words.specs.Outcome.{accepted}
-use Rattle.words.proofs.Cases.{true-or-false, same-or-not, both-left, both-right, both-true, both-yes, pick-true, true-is-false}
-use Rattle.words.proofs.AllLaws.{all-at, all-intro}
+use Rattle.words.proofs.Cases.{true-or-false, same-or-not, both-left, both-right, both-true, both-yes, both-assoc, pick-true, true-is-false}
+use Rattle.words.proofs.AllLaws.{all-at, all-intro, all-same}
 use Rattle.words.proofs.BitLaws.{has-and, word-same}
-use Rattle.words.proofs.PartLaws.{seen, getD-part, part-part, part-length}
+use Rattle.words.proofs.PartLaws.{seen, getD-part, part-part, part-length, part-whole}
 use Rattle.fields.specs.Sizes.{sizeOf}
 use Rattle.fields.specs.Rules.{ruleOf}
 use Rattle.fields.proofs.SizeLaws.{size-some}
@@ -32,6 +32,7 @@ use Rattle.record.specs.Counts.{countedOf, countRecord}
 use Rattle.record.specs.After.{slotAfter, heldAfter, holdRecord}
 use Rattle.record.specs.Good.{zeros, countGood, countGoodAt, heldGood, slotGood, recordGood, GoodCount, Good}
 use Rattle.record.proofs.SlotLaws.{held-small, held-not, held-low, held-high}
+use Rattle.record.proofs.CopyLaws.{size-held}
 use Rattle.record.proofs.HoldLaws.{slot-inside, within-holds}
 use Rattle.record.proofs.AfterLaws.{hold-slot, hold-held, hold-count, held-bit, count-count, count-other, count-slot, count-held}
 
@@ -77,6 +78,10 @@ module _ (r : List ℕ) (b at n : ℕ) (l : length r ≡ recordWords) (o : holds
   pub slot-there : 0 < length (take (headWords + at + n - (headWords + at)) (drop (headWords + at) r))
   slot-there = omega (arith, ap length slot-seen, slot-length b r l o, size-some b (held-low b o) (held-high b o))
 
+  -- and 1, 2, 11 or 13 of them
+  pub slot-few : among (length (take (headWords + at + n - (headWords + at)) (drop (headWords + at) r))) (1 ∷ 2 ∷ 11 ∷ 13 ∷ []) ≡ true
+  slot-few = size-held b _ o (ap length slot-seen ∙ slot-length b r l o)
+
   pub slot-ruled : (t : Bool) → has (heldOf r) b ≡ true → t ≡ ruleOf b (take (headWords + at + n - (headWords + at)) (drop (headWords + at) r)) → t ≡ slotGood r b
   unfolding slotGood
   slot-ruled t h e = rw (o, h) (e ∙ ap (ruleOf b) slot-seen)
@@ -85,15 +90,32 @@ module _ (r : List ℕ) (b at n : ℕ) (l : length r ≡ recordWords) (o : holds
   unfolding slotGood
   slot-zeroed t h e = rw (o, h) (e ∙ ap zeros slot-seen)
 
--- ---- a slot that is zero, of one word or two
+-- ---- words that are zero, piece by piece
 
-pub zeros-one : (ws : List ℕ) → length ws ≡ 1 → eqb (getD ws 0 0) 0 ≡ zeros ws
-unfolding zeros all
-zeros-one ws l = rw l
+all-join : (f : ℕ → Bool) (n m : ℕ) → both (all n f) (all m (λ i. f (n + i))) ≡ all (n + m) f
+unfolding all
+all-join f n zero = both-yes (all n f) ∙ ap (λ (k : ℕ). all k f) (sym (add-zero n))
+all-join f n (suc m) = sym (both-assoc (all n f) (all m (λ i. f (n + i))) (f (n + m))) ∙ ap (λ (t : Bool). both t (f (n + m))) (all-join f n m) ∙ ap (λ (k : ℕ). all k f) (sym (add-suc n m))
 
-pub zeros-two : (ws : List ℕ) → length ws ≡ 2 → both (eqb (getD ws 0 0) 0) (eqb (getD ws 1 0) 0) ≡ zeros ws
-unfolding zeros all
-zeros-two ws l = rw l
+zeros-part : (a n : ℕ) (ws : List ℕ) → a + n ≤ length ws → zeros (part a n ws) ≡ all n (λ i. eqb (getD ws (a + i) 0) 0)
+unfolding zeros
+zeros-part a n ws h = rw (part-length a n ws h) (all-same _ _ n (λ i g. ap (λ (x : ℕ). eqb x 0) (getD-part a n i ws g)))
+
+-- one word
+pub zeros-one : (a : ℕ) (ws : List ℕ) → a + 1 ≤ length ws → eqb (getD ws a 0) 0 ≡ zeros (part a 1 ws)
+unfolding all
+zeros-one a ws h = ap (λ (i : ℕ). eqb (getD ws i 0) 0) (sym (add-zero a)) ∙ sym (zeros-part a 1 ws h)
+
+-- n words, and m behind them
+pub zeros-then : (a n m : ℕ) (ws : List ℕ) (s t : Bool) → a + (n + m) ≤ length ws → s ≡ zeros (part a n ws) → t ≡ zeros (part (a + n) m ws) → both s t ≡ zeros (part a (n + m) ws)
+zeros-then a n m ws s t h e f =
+    rw (e, f, zeros-part a n ws (omega arith), zeros-part (a + n) m ws (omega arith))
+    (ap (both (all n (λ i. eqb (getD ws (a + i) 0) 0))) (all-same _ _ m (λ i g. ap (λ (k : ℕ). eqb (getD ws k 0) 0) (add-assoc a n i)))
+    ∙ all-join (λ i. eqb (getD ws (a + i) 0) 0) n m ∙ sym (zeros-part a (n + m) ws h))
+
+-- all words
+pub zeros-all : (n : ℕ) (ws : List ℕ) (t : Bool) → length ws ≡ n → t ≡ zeros (part 0 n ws) → t ≡ zeros ws
+zeros-all n ws t l e = e ∙ ap zeros (rw l at (part-whole ws))
 
 -- ---- the tests as facts
 
@@ -138,6 +160,18 @@ unfolding holds
 within-mask held h e =
     word-same 31 (bitAnd held heldMask) held (lt-of-le-of-lt (and-le-l held heldMask) h) h
     (λ b l. has-and held heldMask b ∙ ⊎-elim (λ t. rw t (e b t)) (λ t. rw t) (true-or-false (has held b)))
+
+-- the words before the slots, and then the slots: as a program tests a record
+module _ (r : List ℕ) (head : Bool) (e : head ≡ both (heldGood (heldOf r) (lastOf (countOf 2 r))) (all 4 (countGoodAt r))) where
+  good-tests : both head (all 31 (slotGood r)) ≡ recordGood r
+  unfolding recordGood
+  good-tests = rw e (both-assoc (heldGood (heldOf r) (lastOf (countOf 2 r))) (all 4 (countGoodAt r)) (all 31 (slotGood r)))
+
+  pub good-head-ill : head ≡ false → false ≡ recordGood r
+  good-head-ill h = rw h at good-tests
+
+  pub good-slots : (slots : Bool) → head ≡ true → slots ≡ all 31 (slotGood r) → slots ≡ recordGood r
+  good-slots slots h f = f ∙ rw h at good-tests
 
 -- a record
 pub good-of : (r : List ℕ) → length r ≡ recordWords → recordGood r ≡ true → Good r

@@ -7,10 +7,14 @@ mod held;
 
 pub use after::hear_context;
 pub use after::hear_data;
+pub use copies::copy_field;
+pub use good::head_good;
 pub use good::record_good;
 pub use held::HELD;
+pub use held::SLOTS;
 pub use held::refill;
 pub use held::slot_at;
+pub use held::slot_in;
 
 // The words of a record before its slots, those of its slots, and all.
 pub const HEAD_WORDS: usize = 14;

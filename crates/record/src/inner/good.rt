@@ -1,40 +1,62 @@
 // Whether a record is good: a function for each rule, with one loop at most.
 ghost use mathlib.Core.Path.{_≡_};
 ghost use mathlib.Core.Bool.{true};
-ghost use Prim.Native.Nat.{_<_};
+ghost use mathlib.Core.List.{[], _∷_};
+ghost use Prim.Native.Nat.{_+_, _≤_, _<_};
 ghost use lib.ListN.{length};
+ghost use Rattle.words.specs.Tests.{both, among};
+ghost use Rattle.words.specs.Part.{part};
 ghost use Rattle.words.specs.All.{all, tabled};
 ghost use Rattle.fields.specs.Sizes.{sizeOf};
 ghost use Rattle.fields.specs.Rules.{ruleOf};
 ghost use Rattle.record.specs.Held.{holds, slotAt};
-ghost use Rattle.record.specs.Layout.{recordWords};
+ghost use Rattle.record.specs.Layout.{headWords, recordWords, heldOf, countOf, lastOf};
 ghost use Rattle.record.specs.Good.{zeros, countGood, countGoodAt, heldGood, slotGood, recordGood};
 
-// Whether words are all zero.
-fn all_zero(ws: &[u32]) -> bool
-    ensures { λ r. ⌜ r ≡ zeros (now (ws .entry)) ⌝ }
+// Whether the two words from a place on are zero.
+fn two_zero(ws: &[u32], at: usize) -> bool
+    requires { ⌜ at + 2 ≤ length (now ws) ⌝ }
+    ensures { λ r. ⌜ r ≡ zeros (part at 2 (now (ws .entry))) ⌝ }
 {
-    let mut i = 0;
-    while i < ws.len() {
-        if ws[i] != 0 {
-            return false;
-        }
-        i += 1;
-    }
-    true
+    words::inner::both_of(ws[at] == 0, ws[at + 1] == 0)
 }
 
-// The same of a slot: most have one word or two.
+// The same of four.
+fn four_zero(ws: &[u32], at: usize) -> bool
+    requires { ⌜ at + 4 ≤ length (now ws) ⌝ }
+    ensures { λ r. ⌜ r ≡ zeros (part at 4 (now (ws .entry))) ⌝ }
+{
+    let two = two_zero(ws, at);
+    words::inner::both_of(two, two_zero(ws, at + 2))
+}
+
+// Whether the first eleven are.
+fn eleven_zero(ws: &[u32]) -> bool
+    requires { ⌜ 11 ≤ length (now ws) ⌝ }
+    ensures { λ r. ⌜ r ≡ zeros (part 0 11 (now (ws .entry))) ⌝ }
+{
+    let four = four_zero(ws, 0);
+    let eight = words::inner::both_of(four, four_zero(ws, 4));
+    let ten = words::inner::both_of(eight, two_zero(ws, 8));
+    words::inner::both_of(ten, ws[10] == 0)
+}
+
+// Whether a slot is zero. It has 1, 2, 11 or 13 words, so that no test needs a loop.
 fn slot_zero(ws: &[u32]) -> bool
+    requires { ⌜ among (length (now ws)) (1 ∷ 2 ∷ 11 ∷ 13 ∷ []) ≡ true ⌝ }
     ensures { λ r. ⌜ r ≡ zeros (now (ws .entry)) ⌝ }
 {
     if ws.len() == 1 {
         return ws[0] == 0;
     }
     if ws.len() == 2 {
-        return words::inner::both_of(ws[0] == 0, ws[1] == 0);
+        return two_zero(ws, 0);
     }
-    all_zero(ws)
+    let eleven = eleven_zero(ws);
+    if ws.len() == 13 {
+        return words::inner::both_of(eleven, two_zero(ws, 11));
+    }
+    eleven
 }
 
 // Whether a count is good: one not started has zeros, and a last count is at most 15.
@@ -49,7 +71,7 @@ fn count_good(seen: u32, missing: u32, last: u32) -> bool
 
 // Whether the four counts of a record are good.
 fn counts_good(rec: &[u32]) -> bool
-    requires { ⌜ length (now rec) ≡ recordWords ⌝ }
+    requires { ⌜ headWords ≤ length (now rec) ⌝ }
     ensures { λ r. ⌜ r ≡ all 4 (countGoodAt (now (rec .entry))) ⌝ }
 {
     let mut k = 0;
@@ -122,15 +144,23 @@ fn slots_good(rec: &[u32]) -> bool
     true
 }
 
+// Whether the words before the slots are good, of a record or of a body: the held indicator, and the counts.
+pub fn head_good(rec: &[u32]) -> bool
+    requires { ⌜ headWords ≤ length (now rec) ⌝ }
+    ensures { λ r. ⌜ r ≡ both (heldGood (heldOf (now (rec .entry))) (lastOf (countOf 2 (now (rec .entry))))) (all 4 (countGoodAt (now (rec .entry)))) ⌝ }
+{
+    if !held_good(rec[1], rec[10]) {
+        return false;
+    }
+    counts_good(rec)
+}
+
 // Whether a record is good.
 pub fn record_good(rec: &[u32]) -> bool
     requires { ⌜ length (now rec) ≡ recordWords ⌝ }
     ensures { λ r. ⌜ r ≡ recordGood (now (rec .entry)) ⌝ }
 {
-    if !held_good(rec[1], rec[10]) {
-        return false;
-    }
-    if !counts_good(rec) {
+    if !head_good(rec) {
         return false;
     }
     slots_good(rec)

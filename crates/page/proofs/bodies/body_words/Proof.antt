@@ -8,10 +8,10 @@ use Rattle.page.proofs.bodies.body_words.Statement.{statement}
 use Rattle.page.proofs.bodies.body_words.Tie as tie
 
 abbrev Inv-loop : tie.InvT-loop
-Inv-loop held rest₀ length₀ rest length = Adding held rest length
+Inv-loop held sizes rest₀ length₀ rest length = Adding held rest length
 
 abbrev μ-loop : tie.MeasureT-loop
-μ-loop held rest₀ length₀ rest length = rest
+μ-loop held sizes rest₀ length₀ rest length = rest
 
 loop-holds : tie.Need-loop-holds Inv-loop μ-loop
 loop-holds c = adding-start _ _ refl
@@ -19,17 +19,17 @@ loop-holds c = adding-start _ _ refl
 next-field-requires : tie.Need-next-field-requires Inv-loop μ-loop
 next-field-requires c κs = pos-of-ne-zero (c .loop-test .taken)
 
-size-of-requires : tie.Need-size-of-requires Inv-loop μ-loop
-size-of-requires c κs = search needs
+size-in-requires : tie.Need-size-in-requires Inv-loop μ-loop
+size-in-requires c κs = search needs
 
 add-length : tie.Need-add-length Inv-loop μ-loop
-add-length c = omega (arith, adding-most _ _ _ _ _ _ (c .before .before .before .loop .inv) (c .before .next-field .ensures .0) (c .size-of .ensures .0))
+add-length c = omega (arith, adding-most _ _ _ _ _ _ (c .before .before .before .loop .inv) (c .before .next-field .ensures .0) (c .size-in .ensures .0))
 
 loop-less : tie.Need-loop-less Inv-loop μ-loop
 loop-less c = search needs
 
 loop-again : tie.Need-loop-again Inv-loop μ-loop
-loop-again c = adding-turn _ _ _ _ _ _ (c .before .before .before .loop .inv) (c .before .next-field .ensures .0) (c .size-of .ensures .0)
+loop-again c = adding-turn _ _ _ _ _ _ (c .before .before .before .loop .inv) (c .before .next-field .ensures .0) (c .size-in .ensures .0)
 
 returns : tie.Need-returns Inv-loop μ-loop
 returns c = adding-end _ _ _ (c .before .loop .inv) (c .loop-test .left)
@@ -42,7 +42,7 @@ body-words-spec =
     μ-loop
     loop-holds
     next-field-requires
-    size-of-requires
+    size-in-requires
     add-length
     loop-less
     loop-again

@@ -1,5 +1,8 @@
 -- `page_words` meets its promise. After s streams the length is the offset of body s (`Summing`); its laws carry the turn.
 use Prim.Native.Nat.{_-_}
+use mathlib.Core.Path.{refl}
+use Rattle.words.specs.All.{all}
+use Rattle.fields.specs.Sizes.{sizeOf}
 use Rattle.page.proofs.SaveLaws.{Summing, held-inside, summing-start, summing-turn, summing-most, summing-end}
 use native.Mathlib.Omega.{arith}
 use borrow.Author.Needs.{needs}
@@ -7,10 +10,10 @@ use Rattle.page.proofs.bodies.page_words.Statement.{statement}
 use Rattle.page.proofs.bodies.page_words.Tie as tie
 
 abbrev Inv-loop : tie.InvT-loop
-Inv-loop table n length₀ s₀ length s = Summing table n s length
+Inv-loop table sizes n length₀ s₀ length s = Summing table n s length
 
 abbrev μ-loop : tie.MeasureT-loop
-μ-loop table n length₀ s₀ length s = n - s
+μ-loop table sizes n length₀ s₀ length s = n - s
 
 streams-requires : tie.Need-streams-requires Inv-loop μ-loop
 streams-requires c κs = search needs
@@ -42,12 +45,13 @@ shared-slice-read-body-words c =
     held-inside _ (b .before .before .pre) (c .before .before .loop .s) (omega (arith, b .streams .ensures .0, c .before .loop-test .taken))
 
 body-words-requires : tie.Need-body-words-requires Inv-loop μ-loop
-body-words-requires c κs = search needs
+unfolding sizeOf all
+body-words-requires c κs = refl
 
 add-length-2 : tie.Need-add-length-2 Inv-loop μ-loop
 add-length-2 c =
-    let b = c .before .before .before .before in
-    omega (arith, summing-most _ (b .before .before .pre) _ _ _ _ (b .streams .ensures .0) (c .before .before .before .loop .inv) (c .before .before .loop-test .taken) (c .body-words .ensures .0))
+    let b = c .before .before .before .before .before in
+    omega (arith, summing-most _ (b .before .before .pre) _ _ _ _ (b .streams .ensures .0) (c .before .before .before .before .loop .inv) (c .before .before .before .loop-test .taken) (c .body-words .ensures .0))
 
 add-s : tie.Need-add-s Inv-loop μ-loop
 add-s c = search needs
@@ -57,8 +61,8 @@ loop-less c = search needs
 
 loop-again : tie.Need-loop-again Inv-loop μ-loop
 loop-again c =
-    let b = c .before .before .before .before in
-    summing-turn _ (b .before .before .pre) _ _ _ _ (b .streams .ensures .0) (c .before .before .before .loop .inv) (c .before .before .loop-test .taken) (c .body-words .ensures .0)
+    let b = c .before .before .before .before .before in
+    summing-turn _ (b .before .before .pre) _ _ _ _ (b .streams .ensures .0) (c .before .before .before .before .loop .inv) (c .before .before .before .loop-test .taken) (c .body-words .ensures .0)
 
 returns : tie.Need-returns Inv-loop μ-loop
 returns c = summing-end _ (c .before .before .before .before .pre) _ _ _ (c .before .before .streams .ensures .0) (c .before .loop .inv) (c .loop-test .left)

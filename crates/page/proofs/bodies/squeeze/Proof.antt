@@ -1,6 +1,7 @@
 -- `squeeze` meets its promise. What is laid, with the slots of the bits that are left, is all held words (`Squeezing`); its laws carry the turn.
 use native.Mathlib.Nat.{pos-of-ne-zero}
 use Rattle.words.proofs.LaidLaws.{laid-length}
+use Rattle.record.proofs.CopyLaws.{size-held}
 use Rattle.record.proofs.HoldLaws.{slot-inside}
 use Rattle.page.proofs.SqueezeLaws.{Squeezing, squeezing-start, squeezing-holds, squeezing-room, squeezing-turn, squeezing-end}
 use native.Mathlib.Omega.{arith}
@@ -9,10 +10,10 @@ use Rattle.page.proofs.bodies.squeeze.Statement.{statement}
 use Rattle.page.proofs.bodies.squeeze.Tie as tie
 
 abbrev Inv-loop : tie.InvT-loop
-Inv-loop page₀ at held slots rest₀ to₀ page rest to = Squeezing held at slots page₀ page rest to
+Inv-loop page₀ at held slots sizes places rest₀ to₀ page rest to = Squeezing held at slots page₀ page rest to
 
 abbrev μ-loop : tie.MeasureT-loop
-μ-loop page₀ at held slots rest₀ to₀ page rest to = rest
+μ-loop page₀ at held slots sizes places rest₀ to₀ page rest to = rest
 
 loop-holds : tie.Need-loop-holds Inv-loop μ-loop
 loop-holds c = squeezing-start _ _ _ _ (c .before .before .pre .1)
@@ -20,20 +21,22 @@ loop-holds c = squeezing-start _ _ _ _ (c .before .before .pre .1)
 next-field-requires : tie.Need-next-field-requires Inv-loop μ-loop
 next-field-requires c κs = pos-of-ne-zero (c .loop-test .taken)
 
-size-of-requires : tie.Need-size-of-requires Inv-loop μ-loop
-size-of-requires c κs = search needs
+size-in-requires : tie.Need-size-in-requires Inv-loop μ-loop
+size-in-requires c κs = search needs
 
-slot-at-requires : tie.Need-slot-at-requires Inv-loop μ-loop
-slot-at-requires c κs = search needs
+slot-in-requires : tie.Need-slot-in-requires Inv-loop μ-loop
+slot-in-requires c κs = search needs
 
-copy-part-requires : tie.Need-copy-part-requires Inv-loop μ-loop
-copy-part-requires c κs =
+copy-field-requires : tie.Need-copy-field-requires Inv-loop μ-loop
+copy-field-requires c κs =
     let h = c .before .before .before .before .before in
     let b = h .before .before .before in
     let f = c .before .before .before .next-field in
-    let n = c .before .before .size-of in (
+    let n = c .before .before .size-in in
+    let held = squeezing-holds (h .loop .inv) _ _ 0 (f .ensures .0) in (
       squeezing-room (h .loop .inv) _ _ _ (f .ensures .0) (n .ensures .0) (b .pre .2),
-      omega (arith, b .pre .0, c .before .slot-at .ensures .0, n .ensures .0, slot-inside _ (squeezing-holds (h .loop .inv) _ _ 0 (f .ensures .0))),
+      omega (arith, b .pre .0, c .before .slot-in .ensures .0, n .ensures .0, slot-inside _ held),
+      size-held _ _ held (n .ensures .0),
     )
 
 add-to : tie.Need-add-to Inv-loop μ-loop
@@ -47,9 +50,9 @@ loop-again c =
     let h = c .before .before .before .before .before .before .before .before in
     let b = h .before .before .before in
     let f = c .before .before .before .before .before .before .next-field in
-    let n = c .before .before .before .before .before .size-of in
+    let n = c .before .before .before .before .before .size-in in
     squeezing-turn (h .loop .inv) _ _ _ _ (f .ensures .0) (n .ensures .0) (squeezing-holds (h .loop .inv) _ _ 0 (f .ensures .0)) (b .pre .0)
-    (squeezing-room (h .loop .inv) _ _ _ (f .ensures .0) (n .ensures .0) (b .pre .2)) (rw (c .before .before .before .before .slot-at .ensures .0) at (c .before .before .copy-part .ensures))
+    (squeezing-room (h .loop .inv) _ _ _ (f .ensures .0) (n .ensures .0) (b .pre .2)) (rw (c .before .before .before .before .slot-in .ensures .0) at (c .before .before .copy-field .ensures))
 
 same-length : tie.Need-same-length Inv-loop μ-loop
 same-length c = laid-length (c .before .loop .inv .laid)
@@ -65,9 +68,9 @@ squeeze-spec =
     μ-loop
     loop-holds
     next-field-requires
-    size-of-requires
-    slot-at-requires
-    copy-part-requires
+    size-in-requires
+    slot-in-requires
+    copy-field-requires
     add-to
     loop-less
     loop-again

@@ -24,7 +24,7 @@ part-squeeze-end : tie.Need-part-squeeze-end
 part-squeeze-end c = search needs
 
 squeeze-requires : tie.Need-squeeze-requires
-squeeze-requires c κs = let b = c .before .before .before .before .before .before .before .before .before in squeeze-asks _ _ _ (b .pre .0) (b .pre .1) (b .pre .2) _ (c .before .before .before .before .before .copy-part .ensures)
+squeeze-requires c κs = let b = c .before .before .before .before .before .before .before .before .before in let q = squeeze-asks _ _ _ (b .pre .0) (b .pre .1) (b .pre .2) _ (c .before .before .before .before .before .copy-part .ensures) in (q .0, q .1, q .2, b .pre .3, b .pre .4)
 
 same-length : tie.Need-same-length
 same-length c = search needs

@@ -1,6 +1,8 @@
 -- `pairs_good` meets its promise. While the pairs passed are right, the next body begins where the lengths say (`Paired`); its laws carry the turn.
 use Prim.Native.Nat.{_-_}
-use mathlib.Core.Path.{sym, _∙_}
+use mathlib.Core.Path.{refl, sym, _∙_}
+use Rattle.words.specs.All.{all}
+use Rattle.fields.specs.Sizes.{sizeOf}
 use borrow.Author.Tests.{not-true, not-false}
 use Rattle.page.proofs.GoodLaws.{Paired, paired-start, paired-fails, paired-turn, paired-end}
 use borrow.Author.Needs.{needs}
@@ -8,10 +10,10 @@ use Rattle.page.proofs.good.pairs_good.Statement.{statement}
 use Rattle.page.proofs.good.pairs_good.Tie as tie
 
 abbrev Inv-loop : tie.InvT-loop
-Inv-loop page n at₀ s₀ at s = Paired page n s at
+Inv-loop page n sizes at₀ s₀ at s = Paired page n s at
 
 abbrev μ-loop : tie.MeasureT-loop
-μ-loop page n at₀ s₀ at s = n - s
+μ-loop page n sizes at₀ s₀ at s = n - s
 
 mul-at : tie.Need-mul-at Inv-loop μ-loop
 mul-at c = search needs
@@ -23,10 +25,11 @@ loop-holds : tie.Need-loop-holds Inv-loop μ-loop
 loop-holds c = paired-start _ _ (c .before .pre .0) (c .before .pre .2)
 
 pair-good-requires : tie.Need-pair-good-requires Inv-loop μ-loop
-pair-good-requires c κs = search needs
+unfolding sizeOf all
+pair-good-requires c κs = (search needs, search needs, search needs, refl)
 
 returns : tie.Need-returns Inv-loop μ-loop
-returns c = paired-fails _ _ _ _ (c .before .before .before .loop .inv) (c .before .before .loop-test .taken) (sym (c .before .pair-good .ensures) ∙ not-true _ (c .if1 .taken))
+returns c = paired-fails _ _ _ _ (c .before .before .before .before .loop .inv) (c .before .before .before .loop-test .taken) (sym (c .before .pair-good .ensures) ∙ not-true _ (c .if1 .taken))
 
 mul-word-at : tie.Need-mul-word-at Inv-loop μ-loop
 mul-word-at c = search needs
@@ -50,7 +53,7 @@ loop-less : tie.Need-loop-less Inv-loop μ-loop
 loop-less c = search needs
 
 loop-again : tie.Need-loop-again Inv-loop μ-loop
-loop-again c = paired-turn _ _ _ _ (c .before .before .before .before .loop .inv) _ (sym (c .before .before .pair-good .ensures) ∙ not-false _ (c .before .if1 .left)) (c .word-at .ensures) (c .before .before .before .loop-test .taken)
+loop-again c = paired-turn _ _ _ _ (c .before .before .before .before .before .loop .inv) _ (sym (c .before .before .pair-good .ensures) ∙ not-false _ (c .before .if1 .left)) (c .word-at .ensures) (c .before .before .before .before .loop-test .taken)
 
 returns-2 : tie.Need-returns-2 Inv-loop μ-loop
 returns-2 c = paired-end _ _ _ _ (c .before .loop .inv) (c .loop-test .left)

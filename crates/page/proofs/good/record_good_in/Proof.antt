@@ -1,33 +1,23 @@
--- `record_good_in` meets its promise: the record of the body is tested.
+-- `record_good_in` meets its promise: the body is tested for its record.
 use mathlib.Core.Path.{ap, _∙_}
 use Rattle.record.specs.Good.{recordGood}
+use Rattle.page.specs.Body.{recordOf}
+use Rattle.page.specs.Layout.{savedRecord}
 use Rattle.page.specs.Good.{recordGoodIn}
+use Rattle.page.proofs.PutLaws.{load-asks}
 use borrow.Author.Needs.{needs}
 use Rattle.page.proofs.good.record_good_in.Statement.{statement}
 use Rattle.page.proofs.good.record_good_in.Tie as tie
 
-slice-aggregate-load-record : tie.Need-slice-aggregate-load-record
-slice-aggregate-load-record c = search needs
+body-in-requires : tie.Need-body-in-requires
+body-in-requires c κs = search needs
 
-load-record-requires : tie.Need-load-record-requires
-load-record-requires c κs = search needs
-
-slice-aggregate-record-good : tie.Need-slice-aggregate-record-good
-slice-aggregate-record-good c = search needs
-
-record-good-requires : tie.Need-record-good-requires
-record-good-requires c κs = search needs
+body-good-requires : tie.Need-body-good-requires
+body-good-requires c κs = let b = c .before .before in load-asks _ _ (b .pre .0) (b .pre .1) _ (c .body-in .ensures)
 
 returns : tie.Need-returns
-unfolding recordGoodIn
-returns c = c .record-good .ensures ∙ ap recordGood (c .before .before .before .load-record .ensures)
+unfolding recordGoodIn savedRecord
+returns c = c .body-good .ensures ∙ ap (λ x. recordGood (recordOf x)) (c .before .body-in .ensures)
 
 pub record-good-in-spec : {M : Type 1} → statement M
-record-good-in-spec =
-    tie.close
-    (tie.spec
-    slice-aggregate-load-record
-    load-record-requires
-    slice-aggregate-record-good
-    record-good-requires
-    returns)
+record-good-in-spec = tie.close (tie.spec body-in-requires body-good-requires returns)

@@ -16,25 +16,22 @@ cast-page : tie.Need-cast-page
 cast-page c = search needs
 
 slice-write-page : tie.Need-slice-write-page
-slice-write-page c = omega (arith, page-between _ (c .before .before .before .pre .0) .0, c .before .before .before .pre .1, c .before .before .before .pre .2)
+slice-write-page c = let b = c .before .before .before in omega (arith, page-between _ (b .pre .0) .0, b .pre .1, b .pre .2)
 
 cast-page-2 : tie.Need-cast-page-2
-cast-page-2 c = omega (arith, page-small _ (c .before .before .before .pre .0), c .before .before .before .pre .1)
+cast-page-2 c = let b = c .before .before .before in omega (arith, page-small _ (b .pre .0), b .pre .1)
 
 slice-write-page-2 : tie.Need-slice-write-page-2
-slice-write-page-2 c = simp length-set (omega (arith, page-between _ (c .before .before .before .pre .0) .0, c .before .before .before .pre .1, c .before .before .before .pre .2))
+slice-write-page-2 c = let b = c .before .before .before in simp length-set (omega (arith, page-between _ (b .pre .0) .0, b .pre .1, b .pre .2))
 
-write-pairs-requires : tie.Need-write-pairs-requires
-write-pairs-requires c κs = (c .before .before .before .before .pre .0, simp length-set (omega (arith, c .before .before .before .before .pre .1, c .before .before .before .before .pre .2)))
-
-write-bodies-requires : tie.Need-write-bodies-requires
-write-bodies-requires c κs = let b = c .before .before .before .before .before .before .before .before in (b .pre .0, simp (laid-length (c .before .before .before .write-pairs .ensures), length-set) (omega (arith, b .pre .1, b .pre .2)))
+write-streams-requires : tie.Need-write-streams-requires
+write-streams-requires c κs = let b = c .before .before .before .before in (b .pre .0, simp length-set (omega (arith, b .pre .1, b .pre .2)))
 
 same-length : tie.Need-same-length
-same-length c = laid-length (c .before .before .write-bodies .ensures) ∙ laid-length (c .before .before .before .before .before .before .write-pairs .ensures) ∙ simp length-set
+same-length c = laid-length (c .before .before .write-streams .ensures) ∙ simp length-set
 
 returns : tie.Need-returns
-returns c = let b = c .before .before .before .before .before .before .before .before .before .before .before in page-laid _ _ (b .pre .0) (omega (arith, b .pre .1, b .pre .2)) _ _ _ _ (c .before .before .before .before .before .before .before .before .streams .ensures .0) (b .pre .1) (c .before .before .before .before .before .before .write-pairs .ensures) (c .before .before .write-bodies .ensures)
+returns c = let b = c .before .before .before .before .before .before .before in page-laid _ _ (b .pre .0) (omega (arith, b .pre .1, b .pre .2)) _ _ _ (c .before .before .before .before .streams .ensures .0) (b .pre .1) (c .before .before .write-streams .ensures)
 
 pub write-page-spec : {M : Type 1} → statement M
 write-page-spec =
@@ -45,7 +42,6 @@ write-page-spec =
     slice-write-page
     cast-page-2
     slice-write-page-2
-    write-pairs-requires
-    write-bodies-requires
+    write-streams-requires
     same-length
     returns)

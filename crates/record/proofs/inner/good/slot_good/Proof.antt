@@ -2,7 +2,7 @@
 use native.Mathlib.Omega.{arith}
 use borrow.Author.Tests.{eq-eqb, ne-eqb}
 use Rattle.record.proofs.SlotLaws.{held-high}
-use Rattle.record.proofs.GoodLaws.{slot-end, slot-there, slot-ruled, slot-zeroed}
+use Rattle.record.proofs.GoodLaws.{slot-end, slot-there, slot-few, slot-ruled, slot-zeroed}
 use borrow.Author.Needs.{needs}
 use Rattle.record.proofs.inner.good.slot_good.Statement.{statement}
 use Rattle.record.proofs.inner.good.slot_good.Tie as tie
@@ -53,7 +53,7 @@ part-slot-zero-end : tie.Need-part-slot-zero-end
 part-slot-zero-end c = slot-end (c .before .before .before .before .before .args .rec .now) (c .before .before .before .before .before .args .bit) _ _ (c .before .before .before .before .before .pre .0) (c .before .before .before .before .before .pre .1) (c .before .before .before .slot-in .ensures .0) (c .before .before .size-in .ensures .0)
 
 slot-zero-requires : tie.Need-slot-zero-requires
-slot-zero-requires c κs = search needs
+slot-zero-requires c κs = slot-few (c .before .before .before .before .before .before .args .rec .now) (c .before .before .before .before .before .before .args .bit) _ _ (c .before .before .before .before .before .before .pre .0) (c .before .before .before .before .before .before .pre .1) (c .before .before .before .before .slot-in .ensures .0) (c .before .before .before .size-in .ensures .0)
 
 returns : tie.Need-returns
 returns c = slot-ruled _ _ _ _ (c .before .before .before .before .before .before .before .pre .0) (c .before .before .before .before .before .before .before .pre .1) (c .before .before .before .before .before .slot-in .ensures .0) (c .before .before .before .before .size-in .ensures .0) _ (eq-eqb _ _ (c .before .before .if1 .taken)) (c .rule-good .ensures)

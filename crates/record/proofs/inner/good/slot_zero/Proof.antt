@@ -1,6 +1,8 @@
--- `slot_zero` meets its promise: one word or two are looked at by themselves.
+-- `slot_zero` meets its promise: a slot that has neither 1 nor 2 words has 11, or 13 in two pieces.
 use mathlib.Core.Path.{_∙_}
-use Rattle.record.proofs.GoodLaws.{zeros-one, zeros-two}
+use native.Mathlib.Omega.{arith}
+use Rattle.record.proofs.CopyLaws.{size-long, size-eleven}
+use Rattle.record.proofs.GoodLaws.{zeros-one, zeros-then, zeros-all}
 use borrow.Author.Needs.{needs}
 use Rattle.record.proofs.inner.good.slot_zero.Statement.{statement}
 use Rattle.record.proofs.inner.good.slot_zero.Tie as tie
@@ -9,25 +11,28 @@ shared-slice-read-result : tie.Need-shared-slice-read-result
 shared-slice-read-result c = search needs
 
 returns : tie.Need-returns
-returns c = zeros-one _ (c .before .if1 .taken)
+returns c = zeros-all 1 _ _ (c .before .if1 .taken) (zeros-one 0 _ (omega (arith, c .before .if1 .taken)))
 
-shared-slice-read-both-of : tie.Need-shared-slice-read-both-of
-shared-slice-read-both-of c = search needs
+two-zero-requires : tie.Need-two-zero-requires
+two-zero-requires c κs = search needs
 
-shared-slice-read-both-of-2 : tie.Need-shared-slice-read-both-of-2
-shared-slice-read-both-of-2 c = search needs
+returns-2 : tie.Need-returns-2
+returns-2 c = zeros-all 2 _ _ (c .before .if2 .taken) (c .two-zero .ensures)
+
+eleven-zero-requires : tie.Need-eleven-zero-requires
+eleven-zero-requires c κs = size-long _ (c .before .before .before .pre) (c .before .if1 .left) (c .if2 .left)
+
+two-zero-requires-2 : tie.Need-two-zero-requires-2
+two-zero-requires-2 c κs = search needs
 
 both-of-requires : tie.Need-both-of-requires
 both-of-requires c κs = search needs
 
-returns-2 : tie.Need-returns-2
-returns-2 c = c .both-of .ensures ∙ zeros-two _ (c .before .before .before .if2 .taken)
-
-all-zero-requires : tie.Need-all-zero-requires
-all-zero-requires c κs = search needs
-
 returns-3 : tie.Need-returns-3
-returns-3 c = search needs
+returns-3 c = let n = c .before .before .if3 .taken in zeros-all 13 _ _ n (c .both-of .ensures ∙ zeros-then 0 11 2 _ _ _ (omega (arith, n)) (c .before .before .before .eleven-zero .ensures) (c .before .two-zero2 .ensures))
+
+returns-4 : tie.Need-returns-4
+returns-4 c = zeros-all 11 _ _ (size-eleven _ (c .before .before .before .before .before .pre) (c .before .before .before .if1 .left) (c .before .before .if2 .left) (c .if3 .left)) (c .before .eleven-zero .ensures)
 
 pub slot-zero-spec : {M : Type 1} → statement M
 slot-zero-spec =
@@ -35,9 +40,10 @@ slot-zero-spec =
     (tie.spec
     shared-slice-read-result
     returns
-    shared-slice-read-both-of
-    shared-slice-read-both-of-2
-    both-of-requires
+    two-zero-requires
     returns-2
-    all-zero-requires
-    returns-3)
+    eleven-zero-requires
+    two-zero-requires-2
+    both-of-requires
+    returns-3
+    returns-4)
