@@ -57,7 +57,7 @@ returns : tie.Need-returns
 unfolding partsOf
 returns c =
     let p = c .before .before .before .before .before .before .before .before .before .before .before .before .before .before .before .before .before .pre in
-    rw (c .before .high-first .ensures, mod-eq-of-lt (p .1), mod-eq-of-lt (p .2), mod-eq-of-lt (p .3))
+    simp (c .before .high-first .ensures, mod-eq-of-lt (p .1), mod-eq-of-lt (p .2), mod-eq-of-lt (p .3))
 
 pub parts-of-spec : {M : Type 1} → statement M
 parts-of-spec =
