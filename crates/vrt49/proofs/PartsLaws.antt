@@ -1,9 +1,12 @@
 -- The parts of a packet as words: what their checks let through, and what writing answers behind them.
 use mathlib.Core.Path.{_≡_, refl}
+use mathlib.Core.Bool.{not}
 use mathlib.Core.List.{List}
-use Prim.Native.Nat.{ℕ}
-use borrow.Author.Tests.{eqb-true}
-use lib.ListN.{length}
+use Prim.Native.Nat.{ℕ, _<_}
+use native.Mathlib.Omega.{arith}
+use borrow.Author.Tests.{eqb-true, ltb-false}
+use lib.Dec.{eqb, ltb}
+use lib.ListN.{length, getD}
 use Rattle.words.specs.Outcome.{refused, accepted, Meets}
 use Rattle.words.proofs.Cases.{passed}
 use Rattle.payload.proofs.FormatLaws.{not-false}
@@ -17,6 +20,16 @@ use Rattle.vrt49.specs.Packets.{partsOf, wordsChecks, writeWordsOf}
 pub fifteen : (ws : List ℕ) → wordsChecks ws ≡ accepted tt → length ws ≡ 15
 unfolding wordsChecks
 fifteen ws e = eqb-true (length ws) 15 (not-false _ (passed _ _ _ tt e .0))
+
+-- and the three flags among them are 0 or 1
+pub flags-small : (ws : List ℕ) → wordsChecks ws ≡ accepted tt → (getD ws 1 0 < 2) × (getD ws 2 0 < 2) × (getD ws 3 0 < 2)
+unfolding wordsChecks
+flags-small ws e =
+    let kind = passed (ltb 5 (getD ws 0 0)) _ _ tt (passed (not (eqb (length ws) 15)) _ _ tt e .1) in
+    let c = passed (ltb 1 (getD ws 1 0)) _ _ tt (kind .1) in
+    let t = passed (ltb 1 (getD ws 2 0)) _ _ tt (c .1) in
+    let m = passed (ltb 1 (getD ws 3 0)) _ _ tt (t .1) in
+    (omega (arith, ltb-false 1 (getD ws 1 0) (c .0)), omega (arith, ltb-false 1 (getD ws 2 0) (t .0)), omega (arith, ltb-false 1 (getD ws 3 0) (m .0)))
 
 module _ (ws body out : List ℕ) (at : ℕ) where
   pub words-refused : (k : ℕ) → wordsChecks ws ≡ refused k → Meets writtenPaper (writeWordsOf ws body out at) out (Refused k) out

@@ -1,7 +1,7 @@
 // Packets, trailers and the fields of a body.
 ghost use mathlib.Core.Path.{_≡_};
-ghost use Prim.Native.Nat.{_+_, _≤_};
-ghost use lib.ListN.{length};
+ghost use Prim.Native.Nat.{_+_, _≤_, _<_};
+ghost use lib.ListN.{length, getD};
 ghost use Rattle.words.specs.Outcome.{numberOf, checked, Meets};
 ghost use Rattle.fields.specs.Layout.{fieldCount, contextOf};
 ghost use Rattle.packet.specs.Write.{writtenPaper};
@@ -76,16 +76,16 @@ fn check_words(parts: &[u32]) -> words::Check
     words::Check::Fine
 }
 
-// The parts of a packet that fifteen words give.
+// The parts of a packet that fifteen words give, C, T and TSM among them as 0 or 1.
 fn parts_of(parts: &[u32]) -> packet::Parts
-    requires { ⌜ length (now parts) ≡ 15 ⌝ }
+    requires { ⌜ (length (now parts) ≡ 15) × (getD (now parts) 1 0 < 2) × (getD (now parts) 2 0 < 2) × (getD (now parts) 3 0 < 2) ⌝ }
     ensures { λ r. ⌜ r ≡ partsOf (now (parts .entry)) ⌝ }
 {
     packet::Parts {
         kind: parts[0],
-        classed: parts[1] == 1,
-        trailed: parts[2] == 1,
-        tsm: parts[3] == 1,
+        classed: parts[1] % 2 == 1,
+        trailed: parts[2] % 2 == 1,
+        tsm: parts[3] % 2 == 1,
         tsi: parts[4],
         tsf: parts[5],
         count: parts[6],

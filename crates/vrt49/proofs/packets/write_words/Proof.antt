@@ -1,7 +1,7 @@
 -- `write_words` meets its promise: what the checks refuse, and else what writing answers.
 use mathlib.Core.Path.{sym, ap, _∙_}
 use Rattle.words.specs.Outcome.{checked}
-use Rattle.vrt49.proofs.PartsLaws.{fifteen, words-refused, words-written}
+use Rattle.vrt49.proofs.PartsLaws.{fifteen, flags-small, words-refused, words-written}
 use borrow.Author.Needs.{needs}
 use Rattle.vrt49.proofs.packets.write_words.Statement.{statement}
 use Rattle.vrt49.proofs.packets.write_words.Tie as tie
@@ -19,7 +19,10 @@ enum-told : tie.Need-enum-told
 enum-told c = search needs
 
 parts-of-requires : tie.Need-parts-of-requires
-parts-of-requires c κs = fifteen _ (sym (c .before .before .check-words .ensures) ∙ ap checked (c .enum-told .given .1))
+parts-of-requires c κs =
+    let e = sym (c .before .before .check-words .ensures) ∙ ap checked (c .enum-told .given .1) in
+    let f = flags-small _ e in
+    (fifteen _ e, f .0, f .1, f .2)
 
 write-requires : tie.Need-write-requires
 write-requires c κs = search needs
