@@ -61,10 +61,11 @@ int main(int argc, char **argv) {
     size_t n = 0, tn = 1 + RECORD * streams, pn = 0;
     u32 r = 0;
     t[0] = streams;
-    for (size_t s = 0; s < streams; s++) {
+    for (size_t s = 0; s < streams; s++)
         t[1 + RECORD * s] = 0x1000 + s;
+    for (size_t s = 0; s < streams; s++) {
         n = context(w, 0x1000 + s);
-        r = CALL(play)(t, tn, w, n, a, 4);
+        r |= CALL(play)(t, tn, w, n, a, 4);
     }
     r |= CALL(save)(t, tn, page, LONGEST, a, 1);
     pn = a[0];

@@ -17,7 +17,9 @@ cost() { # PROGRAM CALL KIND SIZE: the instructions of n calls, without those of
 }
 row() { # CALL KIND SIZE WHAT
     c=$(cost "$work/c" "$1" "$2" "$3") r=$(cost "$work/r" "$1" "$2" "$3")
-    [ "$("$INSNCOUNT" "$work/c" "$1" "$2" "$3" $n 2>/dev/null)" = "$("$INSNCOUNT" "$work/r" "$1" "$2" "$3" $n 2>/dev/null)" ] && same=equal || same=DIFFER
+    c_says=$("$INSNCOUNT" "$work/c" "$1" "$2" "$3" $n 2>/dev/null) r_says=$("$INSNCOUNT" "$work/r" "$1" "$2" "$3" $n 2>/dev/null)
+    [ "$c_says" = "$r_says" ] && same=equal || same=DIFFER
+    case $r_says in '0 '*) ;; *) same=REFUSED ;; esac
     awk -v k="$1" -v w="$4" -v c="$c" -v r="$r" -v n=$n -v s=$same 'BEGIN { printf "%-9s %-34s %10.1f %9.1f  %.3f  %s\n", k, w, c / n, r / n, r / c, s }'
 }
 echo 'call      of                                  C by hand    proved  ratio  results'
