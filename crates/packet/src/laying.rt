@@ -10,7 +10,7 @@ ghost use Rattle.words.specs.Part.{part, put};
 ghost use Rattle.words.specs.Laid.{Laid};
 ghost use Rattle.packet.specs.Header.{classed, trailed};
 ghost use Rattle.packet.specs.Parts.{bodyAt};
-ghost use Rattle.packet.specs.Write.{bit, headerWord, sizeFor, given, headWords, classWords, timeWords, prologueWords, trailerWords, packetWords, classFits, partsFit, writeChecks};
+ghost use Rattle.packet.specs.Write.{bit, headerWord, sizeFor, given, headWords, classWords, timeWords, prologueWords, trailerWords, packetWords, classFits, writeChecks};
 
 // 1 for a flag that is set.
 fn bit_of(flag: bool) -> u32
