@@ -8,5 +8,8 @@ pub mod AccumulatorLaws
 pub mod CarriedLaws
 -- a list whose first places are filled
 pub mod FilledLaws
+-- bits taken from words, and put into words, by an accumulator
+pub mod ReadLaws
+pub mod WriteLaws
 -- words as one big number
 pub mod BigNumber

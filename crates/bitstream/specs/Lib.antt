@@ -6,3 +6,5 @@ pub mod Stream
 pub mod Carried
 -- a list whose first places are filled
 pub mod Filled
+-- what the calls inside promise each other: an accumulator of bits
+pub mod Accumulator

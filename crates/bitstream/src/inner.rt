@@ -1,4 +1,6 @@
-// Powers of two, and the low bits of a number.
+// Powers of two, and the low bits of a number; an accumulator of bits.
+pub mod accumulator;
+
 ghost use mathlib.Core.Path.{_≡_};
 ghost use Prim.Native.Nat.{_+_, _%_, _^_, _≤_, _<_};
 

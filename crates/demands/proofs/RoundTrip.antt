@@ -21,11 +21,11 @@ use Rattle.bitstream.specs.Filled.{filled}
 use Rattle.bitstream.proofs.SpanLaws.{below}
 use Rattle.bitstream.proofs.CarriedLaws.{field-back, word-back, enough}
 use Rattle.bitstream.proofs.FilledLaws.{filled-front, filled-at, filled-length}
-use Rattle.payload.specs.declared.format.Packing.{Packing}
+use Rattle.payload_format.specs.declared.inner.Packing.{Packing}
 use Rattle.payload.specs.declared.unpacking.Unpacked.{Unpacked}
 use Rattle.payload.specs.declared.unpacking.Unpacked.the-variants as unpackedAs
-use Rattle.payload.specs.declared.packing.Packed.{Packed}
-use Rattle.payload.specs.declared.packing.Packed.the-variants as packedAs
+use Rattle.packing.specs.declared.Packed.{Packed}
+use Rattle.packing.specs.declared.Packed.the-variants as packedAs
 use Rattle.payload.specs.Format.{formatBad, carriedBits, packingOf, Legal}
 use Rattle.payload.specs.Count.{countBad, wordsFor}
 use Rattle.payload.specs.Field.{fieldIn, itemIn, eventIn, channelIn, fieldsOf, fitting}

@@ -13,7 +13,7 @@ use lib.Ieee.{binary32, size, odd, toBits}
 use lib.Ieee.Digits.{size-lt, size-le, size-reaches}
 use lib.Ieee.Exact.{odd-sign}
 use Rattle.panel.specs.Values.{share, over}
-use Rattle.payload.specs.Signs.{twosComplement}
+use Rattle.payload_format.specs.Signs.{twosComplement}
 use Rattle.panel.proofs.ValueLaws.{value-mag}
 use Rattle.panel.proofs.Quotient.{pattern, bits-of, share-odd}
 

@@ -19,7 +19,7 @@ use Rattle.words.specs.Tests.{pick}
 use Rattle.words.specs.Outcome.{refused, accepted}
 use Rattle.words.specs.Word.{highFirst}
 use Rattle.words.proofs.Cases.{le-or-lt, accepted-same}
-use Rattle.payload.specs.Signs.{twosComplement, signedOf}
+use Rattle.payload_format.specs.Signs.{twosComplement, signedOf}
 use Rattle.panel.specs.Values.{unitsOf, floorDiv, floorRem}
 
 -- ---- what the machine reads back from a signed number's bits
@@ -47,7 +47,7 @@ value-mag w n h b =
     (λ (g : n < 2 ^ (w - 1)). rw (value-low w n g) g)
     (le-or-lt (2 ^ (w - 1)) n)
 
--- what `payload` answers of bits that fit
+-- what `payload_format` answers of bits that fit
 module _ (w x : ℕ) (lo : 1 ≤ w) (hi : w ≤ 64) (b : x < 2 ^ w) where
   value-fits : signedOf w x ≡ accepted (twosComplement w x)
   unfolding signedOf

@@ -1,12 +1,12 @@
 -- Document 01, 'Readings for the panel': numbers out of held words. "These three are f32 and exact: the promise fixes each f32 by its sign, exponent and
--- fraction as whole numbers, zero being plus zero." Two's complement is that of crate `payload`.
+-- fraction as whole numbers, zero being plus zero." Two's complement is that of crate `payload_format`.
 use Prim.Native.Nat.{ℕ, zero, suc, _-_, _/_, _%_, _^_}
 use mathlib.Core.Bool.{Bool, true, false}
 use lib.IntN.{ℤ, pos, negsuc}
 use lib.Count.{trailingZeros}
 use lib.Ieee.{Float, fin, minus}
 use Rattle.words.specs.Word.{bits, highFirst}
-use Rattle.payload.specs.Signs.{twosComplement}
+use Rattle.payload_format.specs.Signs.{twosComplement}
 
 -- ---- frequencies
 

@@ -5,17 +5,17 @@ ghost use lib.IntN.{pos};
 ghost use lib.Signed.{ltZ};
 ghost use lib.Ieee.{binary32, ofInt, div};
 ghost use Rattle.words.specs.Tests.{pick};
-ghost use Rattle.payload.specs.Signs.{twosComplement};
+ghost use Rattle.payload_format.specs.Signs.{twosComplement};
 ghost use Rattle.panel.specs.Values.{unitsOf, floorDiv, over};
 
-// The two's complement value of some bits, as `payload` gives it; it refuses none that fit a width of 1 to 64.
+// The two's complement value of some bits, as `payload_format` gives it; it refuses none that fit a width of 1 to 64.
 fn value_of(width: u32, bits: u64) -> i64
     requires { ⌜ (1 ≤ width) × (width ≤ 64) × (bits < 2 ^ width) ⌝ }
     ensures { λ r. ⌜ r ≡ twosComplement width bits ⌝ }
 {
-    match payload::signed(width, bits) {
-        payload::Shown::Value(z) => z,
-        payload::Shown::Refused(_) => 0,
+    match payload_format::signed(width, bits) {
+        payload_format::Shown::Value(z) => z,
+        payload_format::Shown::Refused(_) => 0,
     }
 }
 

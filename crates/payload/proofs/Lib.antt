@@ -1,17 +1,14 @@
 -- The crate's laws.
 
 -- what is known where FORMAT and COUNT are not given
-pub mod FormatLaws
+pub use Rattle.payload_format.proofs.FormatLaws
 -- a packing field and its parts, and numbers that fit
-pub mod FieldLaws
--- bits taken from words, and put into words, by an accumulator
-pub mod ReadLaws
-pub mod WriteLaws
+pub use Rattle.payload_format.proofs.FieldLaws
+-- fields taken from words, one after the other
+pub mod ReadingLaws
 -- what is known where nothing of unpacking is refused, and what it then leaves
 pub mod UnpackLaws
--- the two's complement value
-pub mod SignLaws
 -- the same of packing
-pub mod PackLaws
+pub use Rattle.packing.proofs.PackLaws
 -- two outcomes that meet a promise are equal
 pub mod Uniqueness

@@ -14,14 +14,14 @@ use Rattle.words.proofs.Cases.{passed}
 use Rattle.bitstream.specs.Filled.{filled}
 use Rattle.bitstream.proofs.CarriedLaws.{enough, field-word, field-words}
 use Rattle.bitstream.proofs.FilledLaws.{filled-same}
-use Rattle.payload.specs.declared.format.Packing.{Packing}
+use Rattle.payload_format.specs.declared.inner.Packing.{Packing}
 use Rattle.payload.specs.declared.unpacking.Unpacked.the-variants.{Accepted, Refused}
-use Rattle.payload.specs.Format.{formatBad, packingOf, carriedBits}
-use Rattle.payload.specs.Count.{countBad, wordsFor}
-use Rattle.payload.specs.Field.{fieldIn, itemIn}
+use Rattle.payload_format.specs.Format.{formatBad, packingOf, carriedBits}
+use Rattle.payload_format.specs.Count.{countBad, wordsFor}
+use Rattle.payload_format.specs.Field.{fieldIn, itemIn}
 use Rattle.payload.specs.Unpack.{Buffers, buffers, unpacked, unpackCheck, unpackOf, Unpackable}
 use Rattle.payload.specs.Answers.{unpackedPaper}
-use Rattle.payload.proofs.FormatLaws.{legal, count-few, not-false, carry-some}
+use Rattle.payload_format.proofs.FormatLaws.{legal, count-few, not-false, carry-some}
 
 pub buffers-same : {is js es fs cs ds : List ℕ} → is ≡ js → es ≡ fs → cs ≡ ds → buffers is es cs ≡ buffers js fs ds
 buffers-same p q r = cc

@@ -1,18 +1,16 @@
--- Packed samples, in reading order.
+-- Packed samples, in reading order. What unpacking and packing share stands in crate `payload_format`, and packing in crate `packing`.
 
 -- the format's two words, and FORMAT
-pub mod Format
+pub use Rattle.payload_format.specs.Format
 -- how many items, and how many words: COUNT
-pub mod Count
+pub use Rattle.payload_format.specs.Count
 -- a packing field and its parts
-pub mod Field
+pub use Rattle.payload_format.specs.Field
 -- what `unpack` answers and leaves
 pub mod Unpack
 -- what `pack` answers and leaves
-pub mod Pack
+pub use Rattle.packing.specs.Pack
 -- what `signed` answers
-pub mod Signs
+pub use Rattle.payload_format.specs.Signs
 -- each answer's number and values
 pub mod Answers
--- what the calls inside promise each other: an accumulator of bits
-pub mod Accumulator

@@ -8,10 +8,10 @@ use Rattle.words.specs.Tests.{pick}
 use Rattle.words.specs.Outcome.{Outcome, refused, accepted, after, Done}
 use Rattle.words.specs.Numbers.{FORMAT, COUNT, ROOM}
 use Rattle.bitstream.specs.Filled.{filled}
-use Rattle.payload.specs.declared.format.Packing.{Packing}
-use Rattle.payload.specs.Format.{formatBad, packingOf, Legal}
-use Rattle.payload.specs.Count.{countBad, wordsFor}
-use Rattle.payload.specs.Field.{fieldIn, itemIn, eventIn, channelIn}
+use Rattle.payload_format.specs.declared.inner.Packing.{Packing}
+use Rattle.payload_format.specs.Format.{formatBad, packingOf, Legal}
+use Rattle.payload_format.specs.Count.{countBad, wordsFor}
+use Rattle.payload_format.specs.Field.{fieldIn, itemIn, eventIn, channelIn}
 
 -- the three buffers that `unpack` is lent
 pub record Buffers : Type 0 where

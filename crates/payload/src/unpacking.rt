@@ -6,16 +6,16 @@ ghost use Rattle.words.specs.Word.{highFirst};
 ghost use Rattle.words.specs.Outcome.{checked, Meets};
 ghost use Rattle.bitstream.specs.Filled.{filled};
 ghost use Rattle.payload.specs.Unpack.{buffers, unpacked, unpackCheck, unpackOf, Unpackable};
-ghost use Rattle.payload.specs.Field.{itemIn, fieldIn};
+ghost use Rattle.payload_format.specs.Field.{itemIn, fieldIn};
 ghost use Rattle.payload.specs.Answers.{unpackedPaper};
-use crate::accumulator::Held;
-use crate::accumulator::take_field;
-use crate::accumulator::take_item;
-use crate::format::Packing;
-use crate::format::count_bad;
-use crate::format::format_bad;
-use crate::format::packing_of;
-use crate::format::words_of;
+use bitstream::inner::accumulator::Held;
+use bitstream::inner::accumulator::take_field;
+use bitstream::inner::accumulator::take_item;
+use payload_format::inner::Packing;
+use payload_format::inner::count_bad;
+use payload_format::inner::format_bad;
+use payload_format::inner::packing_of;
+use payload_format::inner::words_of;
 use words::Check;
 
 // What `unpack` answers: how many items, or the number of a refusal.

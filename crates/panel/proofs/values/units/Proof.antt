@@ -1,7 +1,7 @@
 -- `units` meets its promise: two words are 64 bits.
 use mathlib.Core.Path.{ap, _∙_}
 use Rattle.panel.specs.Values.{unitsOf}
-use Rattle.payload.specs.Signs.{twosComplement}
+use Rattle.payload_format.specs.Signs.{twosComplement}
 use Rattle.panel.proofs.ValueLaws.{back}
 use borrow.Author.Needs.{needs}
 use Rattle.panel.proofs.values.units.Statement.{statement}

@@ -1,7 +1,7 @@
--- `value_of` meets its promise: `payload` accepts bits that fit, with their value.
+-- `value_of` meets its promise: `payload_format` accepts bits that fit, with their value.
 use mathlib.Core.Path.{sym, ap, _∙_}
 use Rattle.panel.proofs.ValueLaws.{value-told, value-untold}
-use Rattle.payload.specs.Answers.{shownPaper}
+use Rattle.payload_format.specs.Answers.{shownPaper}
 use borrow.Author.Needs.{needs}
 use Rattle.panel.proofs.values.value_of.Statement.{statement}
 use Rattle.panel.proofs.values.value_of.Tie as tie

@@ -1,5 +1,5 @@
 -- `unpack_check` meets its promise: each return is a line of the definition.
-use Rattle.payload.proofs.FormatLaws.{legal, count-few, words-for}
+use Rattle.payload_format.proofs.FormatLaws.{legal, count-few, words-for}
 use mathlib.Core.Path.{sym, _∙_}
 use Rattle.words.proofs.Cases.{cases}
 use Rattle.payload.specs.Unpack.{unpackCheck}

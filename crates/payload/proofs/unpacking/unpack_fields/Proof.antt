@@ -1,5 +1,5 @@
 -- `unpack_fields` meets its promise: where both tags have size zero, `no-tags` says that they read as 0.
-use Rattle.payload.specs.Field.{fieldIn}
+use Rattle.payload_format.specs.Field.{fieldIn}
 use Rattle.payload.proofs.UnpackLaws.{buffers-same, no-tags}
 use native.Mathlib.Omega.{arith}
 use mathlib.Core.Path.{_∙_}

@@ -1,5 +1,5 @@
 -- `unpack_items` meets its promise. The invariant: k items are taken (`ReadingItems`), and stand in the first k places.
-use Rattle.payload.proofs.ReadLaws.{ReadingItems, items-start, items-can, items-value, items-next}
+use Rattle.payload.proofs.ReadingLaws.{ReadingItems, items-start, items-can, items-value, items-next}
 use Rattle.bitstream.specs.Filled.{filled}
 use Rattle.bitstream.specs.Carried.{fieldOf}
 use Rattle.bitstream.proofs.FilledLaws.{filled-long, filled-none, filled-more}

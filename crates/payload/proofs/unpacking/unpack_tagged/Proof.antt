@@ -1,6 +1,6 @@
 -- `unpack_tagged` meets its promise. The invariant: k fields are taken (`Reading`), and their parts stand in the first k places.
 use Rattle.payload.proofs.UnpackLaws.{buffers-same}
-use Rattle.payload.proofs.ReadLaws.{Reading, reading-start, reading-can, reading-field, reading-next}
+use Rattle.payload.proofs.ReadingLaws.{Reading, reading-start, reading-can, reading-field, reading-next}
 use Rattle.bitstream.specs.Filled.{filled}
 use Rattle.bitstream.specs.Carried.{fieldOf}
 use Rattle.bitstream.proofs.FilledLaws.{filled-long, filled-none, filled-more}

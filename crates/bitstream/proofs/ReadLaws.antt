@@ -1,0 +1,113 @@
+-- Bits taken from words. The idea: `Ahead` says which bits of the words' stream an accumulator holds. A word's bits put behind them keep it
+-- (`refilled`), and bits taken from the left move it on (`took`); a field of more than 32 bits is taken in two parts (`took-twice`).
+use mathlib.Core.Path.{_≡_, refl, sym, ap, ap₂, _∙_}
+use mathlib.Core.List.{List}
+use Prim.Native.Nat.{ℕ, _+_, _-_, _*_, _/_, _%_, _^_, _≤_, _<_}
+use native.Mathlib.Nat.{mul-comm, mul-add}
+use native.Mathlib.Omega.{arith}
+use lib.Arith.{digits-lt}
+use lib.Pow.{pow-add, shr-shr, field}
+use Rattle.bitstream.specs.Stream.{span}
+use Rattle.bitstream.specs.Carried.{carried}
+use Rattle.bitstream.proofs.SpanLaws.{split, whole, none}
+use Rattle.bitstream.proofs.AccumulatorLaws.{appended, taken, left}
+use Rattle.bitstream.specs.declared.inner.accumulator.Held.{Held}
+use Rattle.bitstream.specs.declared.inner.accumulator.Taken.{Taken}
+use Rattle.bitstream.specs.Accumulator.{Ahead, AheadBy, Takeable, Refilled, Took, TookItem, heldOf}
+
+-- nothing is held yet
+pub ahead-none : (c : ℕ) (ws : List ℕ) (p : ℕ) → p ≡ 0 → Ahead c ws (record { acc = 0; have = 0; at = 0 }) p
+ahead-none c ws p e = record { place = omega arith; held = sym (none c (carried c ws) p) }
+
+pub ahead-by-none : (c : ℕ) (ws : List ℕ) (u p : ℕ) → p ≡ 0 → AheadBy c ws u (record { acc = 0; have = u; at = 0 }) p
+ahead-by-none c ws u p e =
+    let z : u - u ≡ 0 = omega arith in
+    record { over = omega arith; place = omega arith; held = rw z (sym (none c (carried c ws) p)) }
+
+-- no bits too many
+ahead-by : {c : ℕ} {ws : List ℕ} {s : Held} {p : ℕ} → Ahead c ws s p → AheadBy c ws 0 s p
+ahead-by {s = s} a =
+    let z : s .have - 0 ≡ s .have = omega arith in
+    record { over = omega arith; place = omega (arith, a .place); held = rw z (a .held) }
+
+pub refilled-same : (c w : ℕ) (s : Held) (ws : List ℕ) → Takeable c w s ws → w ≤ s .have → Refilled c w s ws s
+refilled-same c w s ws t l = record { enough = l; most = t .few; place = refl; keeps = λ u p h a. a }
+
+pub refilled : (c w : ℕ) (s : Held) (ws : List ℕ) (d : ℕ) → Takeable c w s ws → s .have < w → d ≡ carried c ws (s .at) → d < 2 ^ c
+    → Refilled c w s ws (record { acc = (s .acc * 2 ^ c) % 2 ^ 64 + d; have = s .have + c; at = s .at + 1 })
+refilled c w s ws d t l e b = record {
+  enough = t .part;
+  most = omega arith;
+  place = omega (arith, mul-add c (s .at) 1);
+  keeps = λ u p h a.
+      let g : ℕ → ℕ = carried c ws in
+      let m : ℕ = s .have - u in
+      let z : s .have + c - u ≡ m + c = omega (arith, a .over) in
+      let y : s .at * c ≡ p + m = omega (arith, a .place, a .over, mul-comm c (s .at)) in
+      let q : d ≡ span c g (p + m) c = e ∙ sym (whole c g (s .at) (rw e at b)) ∙ ap (λ (x : ℕ). span c g x c) y in
+      record {
+        over = omega (arith, a .over);
+        place = omega (arith, mul-add c (s .at) 1, a .place);
+        held = rw z (appended c g (s .acc) p m (a .held) d c 64 (omega arith) b q);
+      };
+}
+
+pub took : (c w : ℕ) (s h : Held) (ws : List ℕ) (v : ℕ) → s .have < c → Refilled c w s ws h → v ≡ h .acc / 2 ^ (h .have - w) % 2 ^ w → v < 2 ^ w
+    → Took c w s ws (record { value = v; acc = h .acc; have = h .have - w; at = h .at })
+took c w s h ws v l r e b = record {
+  below = b;
+  few = omega arith;
+  place = omega arith;
+  keeps = λ p a.
+      let g : ℕ → ℕ = carried c ws in
+      let k = r .keeps 0 p (omega arith) (ahead-by a) in
+      let z : h .have - 0 ≡ h .have = omega arith in
+      let held : h .acc % 2 ^ h .have ≡ span c g p (h .have) = rw z at (k .held) in (
+        e ∙ taken c g (h .acc) p (h .have) held w (r .enough),
+        record { place = omega (arith, k .place); held = left c g (h .acc) p (h .have) held w (r .enough) },
+      );
+}
+
+-- the item alone, by one shift
+pub took-item : (c f u : ℕ) (s h : Held) (ws : List ℕ) (v : ℕ) → u < f → Refilled c (f + u) s ws h → v ≡ h .acc / 2 ^ (h .have - f) % 2 ^ (f - u)
+    → TookItem c f u s ws (record { value = v; acc = h .acc; have = h .have - f; at = h .at })
+took-item c f u s h ws v l r e = record {
+  few = omega (arith, r .enough, r .most);
+  keeps = λ p m a.
+      let g : ℕ → ℕ = carried c ws in
+      let k = r .keeps u p m a in
+      let b : ℕ = h .have - u in
+      let x : ℕ = h .acc / 2 ^ (b - f) in
+      let i : f ≤ b = omega (arith, r .enough) in
+      let o : h .have - f ≡ b - f + u = omega (arith, r .enough) in
+      let o′ : h .have - f - u ≡ b - f = omega arith in
+      let q : f - u + u ≡ f = omega arith in
+      let w : v ≡ x % 2 ^ f / 2 ^ u =
+      e ∙ ap (λ (y : ℕ). h .acc / 2 ^ y % 2 ^ (f - u)) o
+      ∙ ap (λ (y : ℕ). y % 2 ^ (f - u)) (sym (shr-shr (h .acc) (b - f) u))
+      ∙ sym (field x (f - u) u)
+      ∙ ap (λ (y : ℕ). x % 2 ^ y / 2 ^ u) q in (
+        w ∙ ap (λ (y : ℕ). y / 2 ^ u) (taken c g (h .acc) p b (k .held) f i),
+        record {
+          over = omega (arith, r .enough);
+          place = omega (arith, k .place, r .enough);
+          held = rw o′ (left c g (h .acc) p b (k .held) f i);
+        },
+      );
+}
+
+pub took-twice : (c f a b : ℕ) (s : Held) (ws : List ℕ) (x y : Taken) → f ≡ a + b → Took c a s ws x → Took c b (heldOf x) ws y
+    → Took c f s ws (record { value = x .value * 2 ^ b + y .value; acc = y .acc; have = y .have; at = y .at })
+took-twice c f a b s ws x y e t u = record {
+  below = rw (e, pow-add 2 a b) (digits-lt (t .below) (u .below));
+  few = u .few;
+  place = omega (arith, t .place, u .place);
+  keeps = λ p h.
+      let g : ℕ → ℕ = carried c ws in
+      let i = t .keeps p h in
+      let j = u .keeps (p + a) (i .1) in
+      let q : p + a + b ≡ p + f = omega arith in (
+        ap₂ (λ (m n : ℕ). m * 2 ^ b + n) (i .0) (j .0) ∙ sym (split c g p a b) ∙ ap (span c g p) (sym e),
+        rw q at (j .1),
+      );
+}

@@ -1,0 +1,44 @@
+-- `finish` meets its promise: `word-left` puts the bits that are held at the left of a word.
+use Rattle.bitstream.proofs.SpanLaws.{none}
+use Rattle.bitstream.proofs.AccumulatorLaws.{word-left}
+use native.Mathlib.Omega.{arith}
+use mathlib.Core.Path.{refl, ap}
+use Prim.Native.Nat.{ℕ}
+use lib.ListN.{set}
+use borrow.Author.Needs.{needs}
+use Rattle.bitstream.proofs.inner.accumulator.finish.Statement.{statement}
+use Rattle.bitstream.proofs.inner.accumulator.finish.Tie as tie
+
+sub-out : tie.Need-sub-out
+sub-out c = search needs
+
+shl-out : tie.Need-shl-out
+shl-out c = search needs
+
+cast-out : tie.Need-cast-out
+cast-out c = search needs
+
+mul-out : tie.Need-mul-out
+mul-out c = let l = c .before .before .pre .1 (c .before .if1 .taken) in search needs
+
+slice-write-out : tie.Need-slice-write-out
+slice-write-out c = c .before .before .pre .1 (c .before .if1 .taken)
+
+same-length : tie.Need-same-length
+same-length c = search needs
+
+returns : tie.Need-returns
+returns c =
+    let a = c .before .before .args in
+    record {
+      none = λ e. absurd (omega arith);
+      some = λ l. ap (λ (x : ℕ). set (a .out .now) (a .s .at) x) (word-left (a .s .acc) (a .s .have) (omega arith));
+    }
+
+returns-2 : tie.Need-returns-2
+returns-2 c = record { none = λ e. refl; some = λ l. absurd (omega arith) }
+
+pub finish-spec : {M : Type 1} → statement M
+finish-spec =
+    tie.close
+    (tie.spec sub-out shl-out cast-out mul-out slice-write-out same-length returns returns-2)

@@ -1,0 +1,8 @@
+-- The crate's laws.
+
+-- fields put into words, one after the other
+pub mod WritingLaws
+-- what is known where nothing of packing is refused, and what it then leaves
+pub mod PackLaws
+-- two outcomes that meet a promise are equal
+pub mod Uniqueness

@@ -1,0 +1,150 @@
+-- A packing field and its parts. The idea: the tags together stay below the item's place, so the parts of a field that is made of them come out again,
+-- and a field whose unused bits are 0 is made of its parts. And numbers that fit, tested all at once by the bits that any of them has.
+use mathlib.Core.Path.{_≡_, refl, sym, ap, ap₂, _∙_, subst}
+use mathlib.Core.Bool.{Bool, true}
+use mathlib.Core.Logic.{⊎-elim}
+use mathlib.Core.List.{List}
+use Prim.Native.Nat.{ℕ, zero, suc, _+_, _-_, _*_, _/_, _%_, _^_, _≤_, _<_}
+use native.Mathlib.Nat.{add-assoc, mul-assoc, add-mul, lt-of-lt-of-le, mul-le-mul, mod-le}
+use native.Mathlib.Numerals.{add-one}
+use native.Mathlib.Omega.{arith}
+use lib.ListN.{getD, length, List·getD-eq-default}
+use lib.Arith.{digits-lt}
+use lib.Bits.{bitOr, or-lt, or-add-and, and-le-l, and-le-r}
+use lib.Dec.{ltb, leb}
+use lib.Pow.{high, low, pow-add, pow-mono, pow-pos, mod-pow-add, shl-exact, shl-lt}
+use lib.Pow as Pow
+use borrow.Author.Tests.{ltb-true, lt-ltb, le-ltb, le-leb, lt-leb}
+use Rattle.words.specs.Tests.{both}
+use Rattle.words.specs.All.{all}
+use Rattle.words.proofs.Cases.{le-or-lt}
+use Rattle.words.proofs.AllLaws.{all-at}
+use Rattle.payload_format.specs.declared.inner.Packing.{Packing}
+use Rattle.payload_format.specs.Format.{Legal}
+use Rattle.payload_format.specs.Field.{itemIn, eventIn, channelIn, unusedIn, made, fieldsOf, fitting, joined}
+
+-- ---- a field that holds an item alone
+module _ (p : Packing) (l : Legal p) (i : ℕ) (h : i < 2 ^ p .item) where
+  pub item-alone : (i * 2 ^ (p .field - p .item)) % 2 ^ 64 ≡ i * 2 ^ (p .field - p .item)
+  item-alone = shl-exact (p .item) (p .field - p .item) 64 h (omega arith)
+
+  pub item-below : i * 2 ^ (p .field - p .item) < 2 ^ p .field
+  item-below =
+      let q : p .item + (p .field - p .item) ≡ p .field = omega arith in
+      subst (λ (x : ℕ). i * 2 ^ (p .field - p .item) < 2 ^ x) q (shl-lt (p .item) (p .field - p .item) h)
+
+pub items-blank : (is : List ℕ) (j m : ℕ) → length is ≤ j → getD is j 0 * m ≡ 0
+items-blank is j m h = rw (List·getD-eq-default is 0 h) (omega arith)
+
+-- two tags beside each other stay far below 2 ^ 64
+pub tags-fit : (a b k : ℕ) → a < 2 ^ 16 → b < 2 ^ 16 → k ≤ 15 → (a * 2 ^ k) % 2 ^ 64 + b < 2 ^ 64
+tags-fit a b k h g l =
+    let m : 2 ^ k ≤ 2 ^ 15 = pow-mono l in
+    let n : a ≤ 2 ^ 16 = omega arith in
+    let q : a * 2 ^ k ≤ 2 ^ 16 * 2 ^ 15 = mul-le-mul n m in
+    omega (arith, mod-le (a * 2 ^ k) (2 ^ 64))
+
+-- ---- the parts of a field that is made of them
+module _ (p : Packing) (l : Legal p) (i e c : ℕ) (he : e < 2 ^ p .event) (hc : c < 2 ^ p .channel) where
+  pub tags-below : e * 2 ^ p .channel + c < 2 ^ (p .field - p .item)
+  tags-below =
+      lt-of-lt-of-le (digits-lt he hc)
+      (rw (← pow-add 2 (p .event) (p .channel)) (pow-mono (omega arith)))
+
+  pub item-back : itemIn p (made p i e c) ≡ i
+  item-back = high i (p .field - p .item) tags-below
+
+  -- by its digits from the right
+  shape : made p i e c ≡ (i * 2 ^ (p .field - p .item - p .channel - p .event) * 2 ^ p .event + e) * 2 ^ p .channel + c
+  shape =
+      let r : ℕ = p .field - p .item - p .channel - p .event in
+      let q : p .field - p .item ≡ r + p .event + p .channel = omega arith in
+      ap (λ (x : ℕ). i * 2 ^ x + (e * 2 ^ p .channel + c)) q
+      ∙ ap (λ (x : ℕ). i * x + (e * 2 ^ p .channel + c)) (pow-add 2 (r + p .event) (p .channel) ∙ ap (λ (x : ℕ). x * 2 ^ p .channel) (pow-add 2 r (p .event)))
+      ∙ ap (λ (x : ℕ). x + (e * 2 ^ p .channel + c)) (sym (mul-assoc i (2 ^ r * 2 ^ p .event) (2 ^ p .channel)) ∙ ap (λ (x : ℕ). x * 2 ^ p .channel) (sym (mul-assoc i (2 ^ r) (2 ^ p .event))))
+      ∙ sym (add-assoc (i * 2 ^ r * 2 ^ p .event * 2 ^ p .channel) (e * 2 ^ p .channel) c)
+      ∙ ap (λ (x : ℕ). x + c) (sym (add-mul (i * 2 ^ r * 2 ^ p .event) e (2 ^ p .channel)))
+
+  pub channel-back : channelIn p (made p i e c) ≡ c
+  channel-back = ap (λ (x : ℕ). x % 2 ^ p .channel) shape ∙ low _ (p .channel) hc
+
+  pub event-back : eventIn p (made p i e c) ≡ e
+  event-back = ap (λ (x : ℕ). x / 2 ^ p .channel % 2 ^ p .event) shape ∙ ap (λ (x : ℕ). x % 2 ^ p .event) (high _ (p .channel) hc) ∙ low _ (p .event) he
+
+  -- and the field fits
+  pub made-below : i < 2 ^ p .item → made p i e c < 2 ^ p .field
+  made-below hi =
+      let q : p .item + (p .field - p .item) ≡ p .field = omega arith in
+      subst (λ (x : ℕ). made p i e c < 2 ^ x) q (rw (pow-add 2 (p .item) (p .field - p .item)) (digits-lt hi tags-below))
+
+  -- as shifts within 64 bits make it
+  module _ (hi : i < 2 ^ p .item) where
+    event-exact : (e * 2 ^ p .channel) % 2 ^ 64 ≡ e * 2 ^ p .channel
+    event-exact = shl-exact (p .event) (p .channel) 64 he (omega arith)
+
+    pub made-exact : (i * 2 ^ (p .field - p .item)) % 2 ^ 64 + ((e * 2 ^ p .channel) % 2 ^ 64 + c) ≡ made p i e c
+    made-exact = ap₂ (λ (x y : ℕ). x + (y + c)) (item-alone p l i hi) event-exact
+
+    pub made-fits : (i * 2 ^ (p .field - p .item)) % 2 ^ 64 + ((e * 2 ^ p .channel) % 2 ^ 64 + c) < 2 ^ 64
+    made-fits = rw made-exact (lt-of-lt-of-le (made-below hi) (pow-mono {i = p .field} {j = 64} (l .few)))
+
+-- ---- a field whose unused bits are 0 is made of its parts
+pub made-back : (p : Packing) → Legal p → (v : ℕ) → unusedIn p v ≡ 0 → made p (itemIn p v) (eventIn p v) (channelIn p v) ≡ v
+made-back p l v u =
+    let t : ℕ = p .event + p .channel in
+    let r : ℕ = p .field - p .item - t in
+    let q : p .field - p .item ≡ r + t = omega arith in
+    let tags : v % 2 ^ t ≡ eventIn p v * 2 ^ p .channel + channelIn p v = mod-pow-add v (p .event) (p .channel) in
+    let rest : v % 2 ^ (p .field - p .item) ≡ v % 2 ^ t =
+    ap (λ (x : ℕ). v % 2 ^ x) q ∙ mod-pow-add v r t ∙ ap (λ (x : ℕ). x * 2 ^ t + v % 2 ^ t) u ∙ omega arith in
+    ap (λ (x : ℕ). itemIn p v * 2 ^ (p .field - p .item) + x) (sym tags ∙ sym rest) ∙ Pow.split v (p .field - p .item)
+
+-- no field past the lists' ends
+pub fields-blank : (p : Packing) (j : ℕ) (is es cs : List ℕ) → length is ≤ j → length es ≤ j → length cs ≤ j → fieldsOf p is es cs j ≡ 0
+fields-blank p j is es cs a b d =
+    let i : getD is j 0 ≡ 0 = List·getD-eq-default is 0 a in
+    let e : getD es j 0 ≡ 0 = List·getD-eq-default es 0 b in
+    let c : getD cs j 0 ≡ 0 = List·getD-eq-default cs 0 d in
+    rw (i, e, c) (omega arith)
+
+-- ---- numbers that fit, all at once
+or-over : (a b : ℕ) → (a ≤ bitOr a b) × (b ≤ bitOr a b)
+or-over a b = (omega (arith, or-add-and a b, and-le-r a b), omega (arith, or-add-and a b, and-le-l a b))
+
+pub joined-none : (l : List ℕ) → 0 ≡ joined 0 l
+unfolding joined
+joined-none l = refl
+
+pub joined-more : (n : ℕ) (l : List ℕ) (x : ℕ) → x ≡ joined n l → bitOr x (getD l n 0) ≡ joined (n + 1) l
+unfolding joined
+joined-more n l x e = rw (add-one n, e)
+
+-- all fit w bits exactly when the bits that any of them has do
+pub fitting-joined : (w n : ℕ) (l : List ℕ) → fitting w n l ≡ ltb (joined n l) (2 ^ w)
+unfolding fitting joined all
+fitting-joined w zero l = sym (lt-ltb 0 (2 ^ w) (pow-pos w))
+fitting-joined w (suc n) l =
+    let a : ℕ = joined n l in
+    let b : ℕ = getD l n 0 in
+    let o = or-over a b in
+    ap (λ (t : Bool). both t (ltb b (2 ^ w))) (fitting-joined w n l)
+    ∙ ⊎-elim
+    (λ (p : 2 ^ w ≤ a). rw (le-ltb a (2 ^ w) p, le-ltb (bitOr a b) (2 ^ w) (omega (arith, o .0))))
+    (λ (p : a < 2 ^ w). rw (lt-ltb a (2 ^ w) p)
+    (⊎-elim
+    (λ (q : 2 ^ w ≤ b). rw (le-ltb b (2 ^ w) q, le-ltb (bitOr a b) (2 ^ w) (omega (arith, o .1))))
+    (λ (q : b < 2 ^ w). rw (lt-ltb b (2 ^ w) q, lt-ltb (bitOr a b) (2 ^ w) (or-lt w a b p q)))
+    (le-or-lt (2 ^ w) b)))
+    (le-or-lt (2 ^ w) a)
+
+-- at most m is below what follows m
+pub leb-ltb : (x m n : ℕ) → m + 1 ≡ n → leb x m ≡ ltb x n
+leb-ltb x m n e =
+    ⊎-elim
+    (λ (l : x ≤ m). le-leb x m l ∙ sym (lt-ltb x n (omega arith)))
+    (λ (l : m < x). lt-leb x m l ∙ sym (le-ltb x n (omega arith)))
+    (le-or-lt x m)
+
+pub fitting-each : (w n : ℕ) (l : List ℕ) → fitting w n l ≡ true → (k : ℕ) → k < n → getD l k 0 < 2 ^ w
+unfolding fitting
+fitting-each w n l e k h = ltb-true (getD l k 0) (2 ^ w) (all-at (λ j. ltb (getD l j 0) (2 ^ w)) n k h e)

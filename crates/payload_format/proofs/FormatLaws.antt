@@ -1,0 +1,108 @@
+-- What is known of a format that FORMAT does not refuse, and of a number of items that COUNT does not refuse.
+use mathlib.Core.Path.{_≡_, refl, _∙_}
+use mathlib.Core.Bool.{Bool, true, false, not}
+use Prim.Native.Nat.{ℕ, _+_, _*_, _/_, _≤_, _<_}
+use native.Mathlib.Nat.{div-mul-le-self, le-div-iff-mul-le, mul-le-mul-right}
+use native.Mathlib.Omega.{arith}
+use lib.Dec.{ltb, leb, eqb}
+use borrow.Author.Tests.{ltb-false, leb-true}
+use Rattle.words.specs.Tests.{pick}
+use Rattle.words.specs.Word.{bits}
+use Rattle.words.proofs.Cases.{both-right, true-is-false}
+use Rattle.fields.specs.Format.{realComplex, itemCode, eventSize, channelSize, packingSize, itemSize, formatOk, codeKnown, codeFits}
+use Rattle.payload_format.specs.declared.inner.Packing.{Packing}
+use Rattle.payload_format.specs.Format.{linkEfficient, formatBad, carriedBits, packingOf, Legal}
+use Rattle.bitstream.specs.Carried.{needed}
+use Rattle.payload_format.specs.Count.{countBad, wordsFor}
+
+-- one line of a chain of tests was passed
+line : (t b : Bool) → pick t true b ≡ false → (t ≡ false) × (b ≡ false)
+line true b e = absurd (true-is-false e)
+line false b e = (refl, e)
+
+pub not-false : (t : Bool) → not t ≡ false → t ≡ true
+not-false true e = refl
+not-false false e = absurd (true-is-false e)
+
+-- ---- the bits that carry fields
+pub field-some : (first : ℕ) → 1 ≤ packingSize first
+field-some first = omega arith
+
+pub field-most : (first : ℕ) → packingSize first ≤ 64
+field-most first = omega arith
+
+-- as many whole fields as fit are at least one
+pub whole-fields : (f : ℕ) → 0 < f → f ≤ 32 → f ≤ 32 / f * f
+whole-fields f p l =
+    let q : 1 ≤ 32 / f = le-div-iff-mul-le p .1 (omega arith) in
+    omega (arith, mul-le-mul-right f q)
+
+-- what the packings are: the cases of `carriedBits`
+record Carrying (c f : ℕ) : Type 0 where
+  some : 0 < c
+  most : c ≤ 32
+  narrow : f ≤ 32 → f ≤ c
+  wide : 32 < f → c ≡ 32
+
+carrying : (first : ℕ) → Carrying (carriedBits first) (packingSize first)
+unfolding carriedBits
+carrying first = go (linkEfficient first) (leb (packingSize first) 32) refl
+  where
+    all : Carrying 32 (packingSize first)
+    all = record { some = omega arith; most = omega arith; narrow = λ l. l; wide = λ l. refl }
+
+    go : (link low : Bool) → leb (packingSize first) 32 ≡ low
+        → Carrying (pick link 32 (pick low (32 / packingSize first * packingSize first) 32)) (packingSize first)
+    go true low e = all
+    go false false e = all
+    go false true e =
+        let l : packingSize first ≤ 32 = leb-true (packingSize first) 32 e in
+        let h : packingSize first ≤ 32 / packingSize first * packingSize first = whole-fields (packingSize first) (field-some first) l in
+        record { some = omega (arith, h, field-some first); most = div-mul-le-self 32 (packingSize first); narrow = λ n. h; wide = λ n. absurd (omega arith) }
+
+pub carry-some : (first : ℕ) → 0 < carriedBits first
+carry-some first = carrying first .some
+
+pub carry-most : (first : ℕ) → carriedBits first ≤ 32
+carry-most first = carrying first .most
+
+-- ---- where FORMAT is not given
+format-ok : (first second : ℕ) → formatBad first second ≡ false → formatOk first ≡ true
+unfolding formatBad
+format-ok first second e = not-false (formatOk first) (line (not (formatOk first)) _ e .0)
+
+-- the sizes together do not exceed the packing field
+sizes-fit : (first : ℕ) → formatOk first ≡ true → itemSize first + eventSize first + channelSize first ≤ packingSize first
+unfolding formatOk
+sizes-fit first e =
+    leb-true (itemSize first + eventSize first + channelSize first) (packingSize first)
+    (both-right (codeFits (itemCode first) (itemSize first)) _
+    (both-right (codeKnown (itemCode first)) _
+    (both-right (not (eqb (realComplex first) 3)) _
+    (both-right (eqb (bits 15 12 first) 0) _ e))))
+
+pub legal : (first second : ℕ) → formatBad first second ≡ false → Legal (packingOf first)
+unfolding packingOf
+legal first second e =
+    let c = carrying first in
+    record {
+      some = c .some;
+      most = c .most;
+      narrow = c .narrow;
+      wide = c .wide;
+      item = omega arith;
+      parts = sizes-fit first (format-ok first second e);
+      few = field-most first;
+      event = omega arith;
+      channel = omega arith;
+    }
+
+-- ---- where COUNT is not given
+pub count-few : (first second n : ℕ) → countBad first second n ≡ false → n ≤ 2097120
+unfolding countBad
+count-few first second n e = ltb-false 2097120 n (line (ltb 2097120 n) _ e .0)
+
+-- the words that a packing needs
+pub words-for : (first n m : ℕ) (p : Packing) → p ≡ packingOf first → m ≡ needed (p .carry) (p .field) n → m ≡ wordsFor first n
+unfolding packingOf wordsFor
+words-for first n m p q e = e ∙ rw q

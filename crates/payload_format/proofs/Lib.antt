@@ -1,0 +1,10 @@
+-- The crate's laws.
+
+-- what is known where FORMAT and COUNT are not given
+pub mod FormatLaws
+-- a packing field and its parts, and numbers that fit
+pub mod FieldLaws
+-- the two's complement value
+pub mod SignLaws
+-- two outcomes that meet a promise are equal
+pub mod Uniqueness

@@ -1,0 +1,40 @@
+-- `carry` meets its promise: each return is a line of the definition.
+use Rattle.payload_format.specs.Format.{carriedBits}
+use native.Mathlib.Omega.{arith}
+use native.Mathlib.Nat.{div-mul-le-self}
+use Prim.Native.Nat.{_+_, _/_, _%_, _≤_}
+use Rattle.words.proofs.Cases.{cases}
+use borrow.Author.Needs.{needs}
+use Rattle.payload_format.proofs.inner.carry.Statement.{statement}
+use Rattle.payload_format.proofs.inner.carry.Tie as tie
+
+returns : tie.Need-returns
+unfolding carriedBits
+returns c = search cases
+
+add-field : tie.Need-add-field
+add-field c = search needs
+
+cast-field : tie.Need-cast-field
+cast-field c = search needs
+
+div-result : tie.Need-div-result
+div-result c = search needs
+
+mul-result : tie.Need-mul-result
+mul-result c = let k = c .before .before .args .first in omega (arith, div-mul-le-self 32 (k / 64 % 64 + 1))
+
+returns-2 : tie.Need-returns-2
+unfolding carriedBits
+returns-2 c =
+    let k = c .before .before .args .first in
+    let l : k / 64 % 64 + 1 ≤ 32 = omega arith in
+    (search cases, div-mul-le-self 32 (k / 64 % 64 + 1))
+
+returns-3 : tie.Need-returns-3
+unfolding carriedBits
+returns-3 c = search cases
+
+pub carry-spec : {M : Type 1} → statement M
+carry-spec =
+    tie.close (tie.spec returns add-field cast-field div-result mul-result returns-2 returns-3)

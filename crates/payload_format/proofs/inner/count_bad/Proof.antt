@@ -1,0 +1,23 @@
+-- `count_bad` meets its promise: each return is a line of the definition.
+use Rattle.payload_format.specs.Count.{countBad}
+use Rattle.words.proofs.Cases.{cases}
+use borrow.Author.Needs.{needs}
+use Rattle.payload_format.proofs.inner.count_bad.Statement.{statement}
+use Rattle.payload_format.proofs.inner.count_bad.Tie as tie
+
+returns : tie.Need-returns
+unfolding countBad
+returns c = search cases
+
+unit-requires : tie.Need-unit-requires
+unit-requires c κs = search needs
+
+rem-result : tie.Need-rem-result
+rem-result c = search needs
+
+returns-2 : tie.Need-returns-2
+unfolding countBad
+returns-2 c = rw (← (c .unit .ensures .0)) (search cases)
+
+pub count-bad-spec : {M : Type 1} → statement M
+count-bad-spec = tie.close (tie.spec returns unit-requires rem-result returns-2)

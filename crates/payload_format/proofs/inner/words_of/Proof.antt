@@ -1,0 +1,27 @@
+-- `words_of` meets its promise: the product stays small.
+use Rattle.bitstream.specs.Carried.{needed}
+use native.Mathlib.Omega.{arith}
+use native.Mathlib.Nat.{mul-le-mul-right}
+use mathlib.Core.Path.{refl}
+use borrow.Author.Needs.{needs}
+use Rattle.payload_format.proofs.inner.words_of.Statement.{statement}
+use Rattle.payload_format.proofs.inner.words_of.Tie as tie
+
+mul-result : tie.Need-mul-result
+mul-result c = omega (arith, mul-le-mul-right (c .args .n) (c .pre .2))
+
+sub-result : tie.Need-sub-result
+sub-result c = search needs
+
+add-result : tie.Need-add-result
+add-result c = omega (arith, mul-le-mul-right (c .args .n) (c .pre .2))
+
+div-result : tie.Need-div-result
+div-result c = search needs
+
+returns : tie.Need-returns
+unfolding needed
+returns c = refl
+
+pub words-of-spec : {M : Type 1} → statement M
+words-of-spec = tie.close (tie.spec mul-result sub-result add-result div-result returns)

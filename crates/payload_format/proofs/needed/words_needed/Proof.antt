@@ -1,0 +1,55 @@
+-- `words_needed` meets its promise: each return is a line of the definition. `legal` and `count-few` give what `words_of` requires.
+use Rattle.words.specs.Outcome.{accepted}
+use Rattle.payload_format.specs.Count.{neededOf}
+use Rattle.payload_format.proofs.FormatLaws.{legal, count-few, words-for}
+use mathlib.Core.Path.{sym, _∙_, ap}
+use borrow.Author.Needs.{needs}
+use Rattle.payload_format.proofs.needed.words_needed.Statement.{statement}
+use Rattle.payload_format.proofs.needed.words_needed.Tie as tie
+
+format-bad-requires : tie.Need-format-bad-requires
+format-bad-requires c κs = search needs
+
+returns : tie.Need-returns
+unfolding neededOf
+returns c = let e₁ = sym (c .before .format-bad .ensures) ∙ c .if1 .taken in simp e₁
+
+count-bad-requires : tie.Need-count-bad-requires
+count-bad-requires c κs = search needs
+
+returns-2 : tie.Need-returns-2
+unfolding neededOf
+returns-2 c =
+    let e₁ = sym (c .before .before .before .format-bad .ensures) ∙ c .before .before .if1 .left in
+    let e₂ = sym (c .before .count-bad .ensures) ∙ c .if2 .taken in
+    simp (e₁, e₂)
+
+packing-of-requires : tie.Need-packing-of-requires
+packing-of-requires c κs = search needs
+
+words-of-requires : tie.Need-words-of-requires
+words-of-requires c κs =
+    let a = c .before .before .before .before .before .args in
+    let q = c .packing-of .ensures in
+    let l = legal (a .first) (a .second) (sym (c .before .before .before .before .format-bad .ensures) ∙ c .before .before .before .if1 .left) in
+    let n = count-few (a .first) (a .second) (a .n) (sym (c .before .before .count-bad .ensures) ∙ c .before .if2 .left) in
+    rw q (l .some, l .most, l .few, n)
+
+returns-3 : tie.Need-returns-3
+unfolding neededOf
+returns-3 c =
+    let e₁ = sym (c .before .before .before .before .before .format-bad .ensures) ∙ c .before .before .before .before .if1 .left in
+    let e₂ = sym (c .before .before .before .count-bad .ensures) ∙ c .before .before .if2 .left in
+    simp (e₁, e₂) (ap accepted (words-for _ _ _ _ (c .before .packing-of .ensures) (c .words-of .ensures)))
+
+pub words-needed-spec : {M : Type 1} → statement M
+words-needed-spec =
+    tie.close
+    (tie.spec
+    format-bad-requires
+    returns
+    count-bad-requires
+    returns-2
+    packing-of-requires
+    words-of-requires
+    returns-3)

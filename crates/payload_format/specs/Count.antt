@@ -1,0 +1,29 @@
+-- Document 01, 'Payload': how many items, and how many words. COUNT: "wrong number of items or words".
+use Prim.Native.Nat.{ℕ, _*_, _%_}
+use mathlib.Core.Bool.{Bool, true, not}
+use lib.Dec.{eqb, ltb}
+use Rattle.words.specs.Tests.{pick}
+use Rattle.words.specs.Outcome.{Outcome, refused, accepted}
+use Rattle.words.specs.Numbers.{FORMAT, COUNT}
+use Rattle.fields.specs.Format.{realComplex, packingSize}
+use Rattle.bitstream.specs.Carried.{needed}
+use Rattle.payload_format.specs.Format.{vectorSize, formatBad, carriedBits}
+
+-- n is "a multiple of vector size times 2 (complex) or 1 (real)"
+unfoldable pub unitOf : ℕ → ℕ → ℕ
+unitOf first second = vectorSize second * pick (eqb (realComplex first) 0) 1 2
+
+-- COUNT of n items: "n is at most 2,097,120 and a multiple of" the unit
+unfoldable pub countBad : ℕ → ℕ → ℕ → Bool
+countBad first second n = pick (ltb 2097120 n) true (not (eqb (n % unitOf first second) 0))
+
+-- the words that n fields of a format take
+unfoldable pub wordsFor : ℕ → ℕ → ℕ
+wordsFor first n = needed (carriedBits first) (packingSize first) n
+
+-- what `words_needed` answers
+unfoldable pub neededOf : ℕ → ℕ → ℕ → Outcome ℕ
+neededOf first second n =
+    pick (formatBad first second) (refused FORMAT)
+    (pick (countBad first second n) (refused COUNT)
+    (accepted (wordsFor first n)))

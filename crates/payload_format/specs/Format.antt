@@ -1,0 +1,73 @@
+-- Document 01, 'Payload': the format's two words. The parts of the first that field 15's rule speaks of are named in crate `fields`.
+use Prim.Native.Nat.{ℕ, _+_, _*_, _/_, _≤_, _<_}
+use mathlib.Core.Path.{_≡_}
+use mathlib.Core.Bool.{Bool, true, not}
+use lib.Dec.{eqb, ltb, leb}
+use Rattle.words.specs.Tests.{pick, both}
+use Rattle.words.specs.Word.{bits, has}
+use Rattle.fields.specs.Format.{eventSize, channelSize, packingSize, itemSize, formatOk}
+use Rattle.payload_format.specs.declared.inner.Packing.{Packing}
+
+-- ---- the parts
+
+-- "link-efficient 31 (0 is processing-efficient)"
+abbrev pub linkEfficient : ℕ → Bool
+linkEfficient first = has first 31
+
+-- "component repeat 23"
+abbrev pub componentRepeat : ℕ → Bool
+componentRepeat first = has first 23
+
+-- "Second word: repeat minus one 31-16"
+abbrev pub repeatSize : ℕ → ℕ
+repeatSize second = bits 31 16 second + 1
+
+-- "vector minus one 15-0"
+abbrev pub vectorSize : ℕ → ℕ
+vectorSize second = bits 15 0 second + 1
+
+-- ---- FORMAT
+
+-- "a processing-efficient field of 33 to 63 bits"
+unfoldable pub wideProcessing : ℕ → Bool
+wideProcessing first = both (not (linkEfficient first)) (both (ltb 32 (packingSize first)) (ltb (packingSize first) 64))
+
+-- FORMAT is given when: "rule of field 15 broken, repeat not 1, bit 23 set, a processing-efficient field of 33 to 63 bits"
+unfoldable pub formatBad : ℕ → ℕ → Bool
+formatBad first second =
+    pick (not (formatOk first)) true
+    (pick (not (eqb (repeatSize second) 1)) true
+    (pick (componentRepeat first) true
+    (wideProcessing first)))
+
+-- ---- how fields lie in words
+
+-- How many bits of each word carry packing fields. "Link-efficient fields of f bits follow without a gap": all 32. "Processing-efficient: each word
+-- holds as many whole fields as fit, from the left": those of whole fields; "f of 64 takes two words": all 32 of both.
+unfoldable pub carriedBits : ℕ → ℕ
+carriedBits first =
+    pick (linkEfficient first) 32
+    (pick (leb (packingSize first) 32) (32 / packingSize first * packingSize first)
+    32)
+
+-- the sizes that a format gives
+unfoldable pub packingOf : ℕ → Packing
+packingOf first = record {
+  carry = carriedBits first;
+  field = packingSize first;
+  item = itemSize first;
+  event = eventSize first;
+  channel = channelSize first;
+}
+
+-- what is known of the sizes where FORMAT is not given
+pub record Legal (p : Packing) : Type 0 where
+  pub some : 0 < p .carry
+  pub most : p .carry ≤ 32
+  pub narrow : p .field ≤ 32 → p .field ≤ p .carry
+  pub wide : 32 < p .field → p .carry ≡ 32
+  pub item : 1 ≤ p .item
+  pub parts : p .item + p .event + p .channel ≤ p .field
+  pub few : p .field ≤ 64
+  pub event : p .event ≤ 7
+  pub channel : p .channel ≤ 15
