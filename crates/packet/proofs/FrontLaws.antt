@@ -1,17 +1,17 @@
 -- Reading in two steps: what looks at no body, and then the body. The idea: the chain of reading is the front's chain and then the body's (`read-front`); so a
 -- program that asks the front first, and the body of a type 4 packet alone, finds what reading answers.
 use mathlib.Core.Path.{_≡_, refl, sym, ap, _∙_}
-use mathlib.Core.Bool.{Bool, true, false}
+use mathlib.Core.Bool.{Bool, true, false, not}
 use mathlib.Core.List.{List}
 use Prim.Native.Nat.{ℕ, _≤_, _<_}
 use native.Mathlib.Omega.{arith}
-use borrow.Author.Tests.{eqb-false, ne-eqb}
-use lib.Dec.{eqb}
+use borrow.Author.Tests.{eqb-true, eqb-false, ne-eqb, not-false}
+use lib.Dec.{eqb, ltb}
 use lib.ListN.{length, getD}
 use Rattle.words.specs.Tests.{pick}
 use Rattle.words.specs.Outcome.{Outcome, refused, accepted, after}
 use Rattle.words.proofs.Cases.{passed, after-passed}
-use Rattle.packet.specs.Header.{typeOf, sizeOf}
+use Rattle.packet.specs.Header.{typeOf, reservedOf, sizeOf}
 use Rattle.packet.specs.Parts.{requiredOf, bodyOf, packetOf}
 use Rattle.packet.specs.Read.{headerChecks, sizeChecks, prologueChecks, bodyChecks, checksOf, readOf}
 use Rattle.packet.specs.Front.{headedChecks, frontChecks}
@@ -58,6 +58,14 @@ module _ (ws : List ℕ) where
         let h = after-passed (headerChecks header) _ tt (passed (eqb (length ws) 0) _ _ tt e .1) in
         let s = after-passed (sizeChecks header (length ws)) _ tt (h .2) in
         sized header (length ws) (s .1)
+
+    -- no reserved bit is set
+    pub front-reserved : reservedOf (getD ws 0 0) ≡ 0
+    unfolding frontChecks headedChecks headerChecks
+    front-reserved =
+        let h = after-passed (headerChecks header) _ tt (passed (eqb (length ws) 0) _ _ tt e .1) in
+        let b = passed (ltb 5 (typeOf header)) _ _ tt (h .1) in
+        eqb-true (reservedOf header) 0 (not-false (eqb (reservedOf header) 0) (passed (not (eqb (reservedOf header) 0)) _ _ tt (b .1) .0))
 
     pub front-data : (typeOf (getD ws 0 0) ≡ 4 → ⊥) → readOf ws ≡ accepted (packetOf (getD ws 0 0) ws)
     unfolding bodyChecks

@@ -5,6 +5,7 @@ use mathlib.Core.Bool.{Bool, true, false, not}
 use mathlib.Core.List.{List, [], _∷_}
 use Prim.Native.Nat.{ℕ, _+_, _*_, _/_, _%_, _^_, _<_}
 use native.Mathlib.Omega.{arith}
+use borrow.Author.Tests.{ne-eqb}
 use lib.Dec.{eqb, ltb, lit<}
 use lib.ListN.{getD}
 use lib.Pow.{mod-pow-add, shr-shr}
@@ -31,6 +32,15 @@ bit-set false = refl
 -- two bits beside each other
 pub two-bits : (w k : ℕ) → w / 2 ^ k % 4 ≡ w / 2 ^ (k + 1) % 2 * 2 + w / 2 ^ k % 2
 two-bits w k = mod-pow-add (w / 2 ^ k) 1 1 ∙ ap (λ (n : ℕ). n % 2 * 2 + w / 2 ^ k % 2) (shr-shr w k 1)
+
+-- TSM of a header whose reserved bits are zero, whatever its type
+pub tsm-bit : (w : ℕ) → reservedOf w ≡ 0 → has w 24 ≡ tsmOf w
+unfolding reservedOf tsmOf
+tsm-bit w e = by-type (ltb (typeOf w) 4) e
+  where
+    by-type : (young : Bool) → pick young (w / 2 ^ 24 % 4) (w / 2 ^ 25 % 4) ≡ 0 → has w 24 ≡ pick young false (has w 24)
+    by-type true z = ne-eqb (w / 2 ^ 24 % 2) 1 (λ o. omega (arith, z, o))
+    by-type false z = refl
 
 -- T and TSM are those of the type
 flags-by-type : (young t m : Bool) → pick young (not m) (not t) ≡ true → (pick young t false ≡ t) × (pick young false m ≡ m) × (pick young m t ≡ false)

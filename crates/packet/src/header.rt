@@ -28,14 +28,12 @@ pub fn has_trailer(w: u32) -> bool
     }
 }
 
+// TSM, of a header whose reserved bits are zero: bit 24 is one of them for types 0-3.
 pub fn tsm_of(w: u32) -> bool
+    requires { ⌜ reservedOf w ≡ 0 ⌝ }
     ensures { λ r. ⌜ r ≡ tsmOf w ⌝ }
 {
-    if type_of(w) < 4 {
-        false
-    } else {
-        w / 0x100_0000 % 2 == 1
-    }
+    w / 0x100_0000 % 2 == 1
 }
 
 // The reserved bits of the type.

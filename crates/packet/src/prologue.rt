@@ -3,7 +3,7 @@ ghost use mathlib.Core.Path.{_≡_};
 ghost use mathlib.Core.Bool.{true};
 ghost use Prim.Native.Nat.{_+_, _≤_, _<_};
 ghost use lib.ListN.{length};
-ghost use Rattle.packet.specs.Header.{sizeOf};
+ghost use Rattle.packet.specs.Header.{reservedOf, sizeOf};
 ghost use Rattle.packet.specs.Parts.{streamed, requiredOf, bodyAt, bodyLength, wordIf, classHigh, classLow, fractionOf, partsOf, packetOf};
 
 // The word at a place, of a part that may be absent.
@@ -68,7 +68,7 @@ pub fn body_end(w: u32) -> usize
 
 // All parts beside the body.
 fn parts_of(w: u32, words: &[u32]) -> crate::Parts
-    requires { ⌜ (requiredOf w ≤ sizeOf w) × (sizeOf w ≤ length (now words)) ⌝ }
+    requires { ⌜ (requiredOf w ≤ sizeOf w) × (sizeOf w ≤ length (now words)) × (reservedOf w ≡ 0) ⌝ }
     ensures { λ r. ⌜ r ≡ partsOf w (now (words .entry)) ⌝ }
 {
     let high = class_high(w, words);
@@ -101,7 +101,7 @@ fn parts_of(w: u32, words: &[u32]) -> crate::Parts
 
 // The packet that was read.
 pub fn packet_of(w: u32, words: &[u32]) -> crate::Packet
-    requires { ⌜ (requiredOf w ≤ sizeOf w) × (sizeOf w ≤ length (now words)) ⌝ }
+    requires { ⌜ (requiredOf w ≤ sizeOf w) × (sizeOf w ≤ length (now words)) × (reservedOf w ≡ 0) ⌝ }
     ensures { λ r. ⌜ r ≡ packetOf w (now (words .entry)) ⌝ }
 {
     let parts = parts_of(w, words);

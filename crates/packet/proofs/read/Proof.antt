@@ -3,7 +3,7 @@ use mathlib.Core.Path.{sym, ap, _∙_}
 use denote.Ref.{now}
 use Rattle.words.specs.Outcome.{checked, accepted}
 use Rattle.packet.specs.declared.Packet.{Packet}
-use Rattle.packet.proofs.FrontLaws.{front-refuses, front-some, front-sized, body-refuses, body-accepted}
+use Rattle.packet.proofs.FrontLaws.{front-refuses, front-some, front-sized, front-reserved, body-refuses, body-accepted}
 use borrow.Author.Needs.{needs}
 use Rattle.packet.proofs.read.Statement.{statement}
 use Rattle.packet.proofs.read.Tie as tie
@@ -40,7 +40,9 @@ enum-told-2 : tie.Need-enum-told-2
 enum-told-2 c = search needs
 
 packet-of-requires : tie.Need-packet-of-requires
-packet-of-requires c κs = front-sized _ (sym (c .before .before .before .before .before .before .check-front .ensures) ∙ ap checked (c .before .before .before .before .enum-told .given .1))
+packet-of-requires c κs =
+    let e = sym (c .before .before .before .before .before .before .check-front .ensures) ∙ ap checked (c .before .before .before .before .enum-told .given .1) in
+    (front-sized _ e .0, front-sized _ e .1, front-reserved _ e)
 
 returns-3 : tie.Need-returns-3
 returns-3 c =
