@@ -62,11 +62,6 @@ place-drop : (b : ℕ) (body : List ℕ) → drop (placeOf b body) body ≡ drop
 unfolding placeOf
 place-drop b body = sym (drop-drop (spanOf (above b (carried (indicatorOf body))) (drop 1 body)) 1 body)
 
--- a field stands past the indicator
-pub place-past : (b : ℕ) (body : List ℕ) → 1 ≤ placeOf b body
-unfolding placeOf
-place-past b body = omega arith
-
 -- the words of a body from the field of bit b on, and those past that field
 abbrev pub fromField : ℕ → List ℕ → List ℕ
 fromField b body = drop (placeOf b body) body

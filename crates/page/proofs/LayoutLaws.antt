@@ -52,10 +52,6 @@ module _ (n : ℕ) (f : ℕ → List ℕ) where
   unfolding pageFrom
   page-count = refl
 
-  pub page-second : getD (pageFrom n f) 1 0 ≡ offsetOf n f n
-  unfolding pageFrom
-  page-second = refl
-
   pub page-length : length (pageFrom n f) ≡ offsetOf n f n
   unfolding pageFrom offsetOf
   page-length = omega (arith, length-append (joined n (pairOf n f)) (joined n f), pairs-length n)

@@ -43,12 +43,6 @@ step-taken t ws d e =
     let f = accepted-same (b .2) in
     record { packet = a .0; stream = b .0; reads = a .1; seeks = b .1; says = ap (λ (x : Done Heard (List ℕ)). x .says) f; leaves = ap (λ (x : Done Heard (List ℕ)). x .leaves) f }
 
--- the other way round
-pub taken-step : (t ws : List ℕ) (p : Packet) (s : ℕ) → readOf ws ≡ accepted p → soughtOf (p .parts .kind) (p .parts .identifier) t ≡ accepted s
-    → stepOf t ws ≡ accepted (record { says = heardOf p s t; leaves = tableAfter p s ws t })
-unfolding stepOf
-taken-step t ws p s e f = rw (e, f)
-
 -- ---- what it keeps
 module _ (t ws : List ℕ) (w : wellMade t ≡ true) (d : Done Heard (List ℕ)) (k : Taken t ws d) where
   abbrev p : Packet

@@ -3,7 +3,6 @@ ghost use mathlib.Core.Path.{_≡_};
 ghost use mathlib.Core.Bool.{true};
 ghost use mathlib.Core.List.{[], _∷_};
 ghost use Prim.Native.Nat.{_<_};
-ghost use lib.ListN.{length};
 ghost use Rattle.words.specs.Numbers.{STREAM};
 ghost use Rattle.words.specs.Tests.{pick, among};
 ghost use Rattle.words.specs.Outcome.{numberOf, checked, refused, accepted};

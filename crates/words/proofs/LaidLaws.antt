@@ -3,12 +3,11 @@
 -- says it, where there is room, as a part that is replaced.
 use mathlib.Core.Path.{_≡_, sym, ap, _∙_}
 use mathlib.Core.List.{List, [], _∷_, _++_, append-nil, append-assoc}
-use Prim.Native.Nat.{ℕ, suc, _+_, _-_, _≤_, _<_}
+use Prim.Native.Nat.{ℕ, suc, _+_, _-_, _≤_}
 use native.Mathlib.Nat.{add-zero, add-assoc, zero-add, add-suc, suc-add, le-add-right}
 use native.Mathlib.Omega.{arith}
-use native.Mathlib.Numerals.{add-one}
-use lib.ListN.{length, length-append, getD, take, drop, set, length-set, length-drop, take-append-drop, drop-of-length-le}
-use lib.Seq.{sets, sets-eq, length-sets, drop-set-add, take-set-le, take-suc, take-all, length-take-le, drop-drop}
+use lib.ListN.{length, length-append, take, drop, set, length-set, length-drop, take-append-drop, drop-of-length-le}
+use lib.Seq.{sets, sets-eq, length-sets, drop-set-add, take-set-le, take-all, drop-drop}
 use borrow.Rule.Slice.PartMut.{midOf, putMid}
 use Rattle.words.specs.Part.{put}
 use Rattle.words.specs.Laid.{Laid}
@@ -29,13 +28,6 @@ module _ {A : Type 0} where
       ∙ ap (λ (r : List A). take n (set l (n + i) w) ++ sets r (suc i) ws) (sym (drop-set-add n l i w))
       ∙ sets-part ws (set l (n + i) w) n (suc i) (rw length-set h)
       ∙ ap (λ (k : ℕ). sets (set l (n + i) w) k ws) (add-suc n i)
-
--- one store more, from the front: a loop's turn
-pub sets-more : (l s : List ℕ) (i : ℕ) → i < length s → set (sets l 0 (take i s)) i (getD s i 0) ≡ sets l 0 (take (i + 1) s)
-sets-more l s i h =
-    rw (add-one, take-suc s i 0 h)
-    (ap (λ (k : ℕ). set (sets l 0 (take i s)) k (getD s i 0)) (sym (zero-add (length (take i s)) ∙ length-take-le i s (omega arith)))
-    ∙ sets-append l 0 (take i s) (getD s i 0 ∷ []))
 
 -- stores that fill a list
 pub sets-all : (vs ws : List ℕ) → length ws ≡ length vs → sets ws 0 vs ≡ vs

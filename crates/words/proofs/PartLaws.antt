@@ -2,13 +2,13 @@
 -- part (`seen`, `lent`, `lent-to`), what is read of a list with a part replaced, and how two replacements meet. The side conditions are always
 -- that the part lies inside, and that what is put is as long as it.
 use mathlib.Core.Path.{_≡_, refl, sym, ap, _∙_}
-use mathlib.Core.List.{List, [], _∷_, _++_, append-assoc}
+use mathlib.Core.List.{List, [], _∷_, _++_}
 use Prim.Native.Nat.{ℕ, zero, suc, _+_, _-_, _≤_, _<_}
 use native.Mathlib.Omega.{arith}
-use native.Mathlib.Nat.{zero-add, suc-add, le-refl}
+use native.Mathlib.Nat.{zero-add, suc-add}
 use native.Mathlib.Numerals.{add-one}
-use lib.ListN.{length, take, drop, getD, set, length-append, length-drop, take-append-drop}
-use lib.Seq.{length-take-le, drop-append-le, take-nil, take-at, drop-at, drop-drop, take-length, take-take, take-add, take-append-add, set-split, drop-set-lt, take-set-le, getD-take, getD-drop}
+use lib.ListN.{length, take, drop, getD, set, length-append, length-drop}
+use lib.Seq.{length-take-le, take-nil, take-at, drop-at, drop-drop, take-length, take-take, set-split, drop-set-lt, getD-take, getD-drop}
 use Rattle.words.specs.Part.{part, put}
 
 -- ---- take and drop, at a place that is not the seam
@@ -86,11 +86,6 @@ part-within a m ys zs h = sym (part-take a m (length ys) (ys ++ zs) h) ∙ ap (p
 
 -- ---- a part that is replaced
 
--- it is put back as it was
-pub put-part : (a n : ℕ) (xs : List ℕ) → put a n (part a n xs) xs ≡ xs
-unfolding part put
-put-part a n xs = ap (λ (z : List ℕ). take a xs ++ z) (take-append-drop n (drop a xs)) ∙ take-append-drop a xs
-
 -- a store is a part of one word
 pub set-put : (i v : ℕ) (xs : List ℕ) → i < length xs → set xs i v ≡ put i 1 (v ∷ []) xs
 unfolding part put
@@ -100,10 +95,6 @@ set-put i v xs h = set-split xs i v h ∙ ap (λ (z : List ℕ). take i xs ++ (v
 pub part-set-before : (a n i v : ℕ) (xs : List ℕ) → i < a → part a n (set xs i v) ≡ part a n xs
 unfolding part
 part-set-before a n i v xs h = ap (take n) (drop-set-lt a xs i v h)
-
-pub part-set-after : (a n i v : ℕ) (xs : List ℕ) → a + n ≤ i → part a n (set xs i v) ≡ part a n xs
-part-set-after a n i v xs h =
-    sym (part-take a n i (set xs i v) h) ∙ ap (part a n) (take-set-le i xs i v (le-refl i)) ∙ part-take a n i xs h
 
 module _ (a n : ℕ) (ys xs : List ℕ) (h : a + n ≤ length xs) (l : length ys ≡ n) where
   put-head : length (take a xs) ≡ a
@@ -132,13 +123,6 @@ module _ (a n : ℕ) (ys xs : List ℕ) (h : a + n ≤ length xs) (l : length ys
       ∙ drop-drop (b - a - n) n (drop a xs) ∙ drop-drop (n + (b - a - n)) a xs
       ∙ ap (λ (k : ℕ). drop k xs) k
 
-  -- what is before its end
-  pub take-put-past : take (a + n) (put a n ys xs) ≡ take a xs ++ ys
-  unfolding part put
-  take-put-past =
-      let k : length (take a xs ++ ys) ≡ a + n = simp (length-append, put-head, l) in
-      ap (take (a + n)) (sym (append-assoc (take a xs) ys (drop n (drop a xs)))) ∙ take-at (take a xs ++ ys) (drop n (drop a xs)) (a + n) k
-
   -- the part that was put
   pub part-put : part a n (put a n ys xs) ≡ ys
   unfolding part put
@@ -154,59 +138,11 @@ module _ (a n : ℕ) (ys xs : List ℕ) (h : a + n ≤ length xs) (l : length ys
   unfolding part put
   part-put-after b m g = ap (take m) (drop-put-after b g)
 
-  -- a part of what was put
-  pub part-put-in : (i m : ℕ) → i + m ≤ n → part (a + i) m (put a n ys xs) ≡ part i m ys
-  unfolding part put
-  part-put-in i m g = sym (part-part i m a n (put a n ys xs) g) ∙ ap (part i m) part-put
-
   -- a word before it
   pub getD-put-before : (i : ℕ) → i < a → getD (put a n ys xs) i 0 ≡ getD xs i 0
   getD-put-before i g = sym (getD-take a (put a n ys xs) i 0 g) ∙ ap (λ (z : List ℕ). getD z i 0) take-put ∙ getD-take a xs i 0 g
-
-  -- put again
-  pub put-put : (zs : List ℕ) → put a n zs (put a n ys xs) ≡ put a n zs xs
-  unfolding part put
-  put-put zs = rw (take-put, drop-put, drop-at ys (drop n (drop a xs)) n l)
-
--- a part within a part
-pub put-in : (i m a n : ℕ) (ys xs : List ℕ) → i + m ≤ n → a + n ≤ length xs → put a n (put i m ys (part a n xs)) xs ≡ put (a + i) m ys xs
-unfolding part put
-put-in i m a n ys xs g h =
-    let d : List ℕ = drop a xs in
-    let t : i ≤ n = omega arith in
-    let ln : length (take n d) ≡ n = part-length a n xs h in
-    let li : i ≤ length (take n d) = omega arith in
-    let lm : m ≤ length (drop i (take n d)) = simp length-drop (omega arith) in
-    let e : drop m (drop i (take n d)) ++ drop n d ≡ drop m (drop i d) =
-    sym (drop-append-le m (drop i (take n d)) (drop n d) lm)
-    ∙ ap (drop m) (sym (drop-append-le i (take n d) (drop n d) li) ∙ ap (drop i) (take-append-drop n d)) in
-    rw (take-take i n d, append-assoc, append-assoc, e, take-add a i xs, append-assoc, ← drop-drop i a xs)
-
--- a part past the seam
-put-right : (b n m : ℕ) (p q zs : List ℕ) → length p ≡ n → n ≤ b → put b m zs (p ++ q) ≡ p ++ put (b - n) m zs q
-unfolding part put
-put-right b n m p q zs l h =
-    let k : b ≡ length p + (b - n) = omega arith in
-    let e : take b (p ++ q) ≡ p ++ take (b - n) q = ap (λ (z : ℕ). take z (p ++ q)) k ∙ take-append-add p q (b - n) in
-    rw (e, drop-append-past b n p q, append-assoc)
 
 -- a part at the seam
 pub put-at : (a n : ℕ) (p q ys : List ℕ) → length p ≡ a → put a n ys (p ++ q) ≡ p ++ (ys ++ drop n q)
 unfolding put
 put-at a n p q ys l = rw (take-at p q a l, drop-at p q a l)
-
--- two parts that lie apart
-pub put-swap : (a n b m : ℕ) (ys zs xs : List ℕ) → a + n ≤ b → b + m ≤ length xs → length ys ≡ n → put a n ys (put b m zs xs) ≡ put b m zs (put a n ys xs)
-unfolding part put
-put-swap a n b m ys zs xs g h l =
-    let p : List ℕ = take a xs in
-    let w : List ℕ = part a n xs in
-    let q : List ℕ = drop n (drop a xs) in
-    let lp : length p ≡ a = length-take-le a xs (omega arith) in
-    let lw : length w ≡ n = part-length a n xs (omega arith) in
-    let cut : xs ≡ p ++ (w ++ q) = sym (put-part a n xs) in
-    let both : (v : List ℕ) → length v ≡ n → put b m zs (p ++ (v ++ q)) ≡ p ++ (v ++ put (b - a - n) m zs q) =
-    λ v lv. put-right b a m p (v ++ q) zs lp (omega arith) ∙ ap (λ (z : List ℕ). p ++ z) (put-right (b - a) n m v q zs lv (omega arith)) in
-    let r : List ℕ = put (b - a - n) m zs q in
-    let left : put b m zs xs ≡ p ++ (w ++ r) = ap (put b m zs) cut ∙ both w lw in
-    rw (left, both ys l, take-at p (w ++ r) a, drop-at p (w ++ r) a, drop-at w r n)

@@ -5,7 +5,7 @@ use mathlib.Core.Bool.{Bool, true, false}
 use mathlib.Core.Logic.{⊎-elim}
 use mathlib.Core.List.{List, [], _∷_, _++_}
 use Prim.Native.Nat.{ℕ, zero, suc, _+_, _-_, _*_, _/_, _%_, _^_, _≤_, _<_, zero-le}
-use native.Mathlib.Nat.{pow-suc, le-of-lt, lt-of-lt-of-le, div-eq-of-lt, div-eq-of-lt-le, add-mul-div-right, add-mul-mod-self-right, mul-assoc, mul-comm, mod-lt, mod-eq-of-lt, eq-zero-or-pos, mod-one, one-mul, lt-of-le-of-lt, le-of-suc-le-suc, add-comm, zero-add}
+use native.Mathlib.Nat.{pow-suc, le-of-lt, lt-of-lt-of-le, div-eq-of-lt, div-eq-of-lt-le, add-mul-div-right, add-mul-mod-self-right, mul-assoc, mul-comm, mod-lt, mod-eq-of-lt, mod-one, one-mul, lt-of-le-of-lt, le-of-suc-le-suc, add-comm, zero-add}
 use native.Mathlib.Numerals.{one-add}
 use native.Mathlib.Decide.{le-ind}
 use native.Mathlib.Omega.{arith}
@@ -45,10 +45,6 @@ bits-trim j k n le h = le-ind (λ (m : ℕ). bitsOf m n ≡ bitsOf j n) refl (λ
 pub bits-none : (k n : ℕ) → n ≤ 0 → bitsOf k n ≡ []
 unfolding bitsOf
 bits-none k n h = bits-trim 0 k n zero-le (omega arith)
-
--- a number with a bit set is not 0
-pub bits-some : (k n : ℕ) → 0 < length (bitsOf k n) → 0 < n
-bits-some k n h = ⊎-elim (λ (e : n ≡ 0). absurd (omega (arith, ap length (bits-none k n (omega arith))))) (λ p. p) (eq-zero-or-pos n)
 
 -- the bits below i do not see what stands from i up
 pub bits-low : (i a m : ℕ) → bitsOf i (m + a * 2 ^ i) ≡ bitsOf i m
