@@ -1,5 +1,5 @@
 -- What is known where nothing of packing is refused, and the answers of `pack` by whether its checks pass.
-use mathlib.Core.Path.{_≡_, refl, sym, ap, _∙_}
+use mathlib.Core.Path.{_≡_, refl, ap}
 use mathlib.Core.Bool.{Bool, false, not}
 use mathlib.Core.List.{List}
 use mathlib.Core.Logic.{⊎-elim}
@@ -8,8 +8,10 @@ use native.Mathlib.Omega.{arith}
 use lib.ListN.{length, getD, List·getD-eq-default}
 use lib.Arith.{lt-one}
 use lib.Dec.{ltb, eqb}
-use borrow.Author.Tests.{ltb-false, eqb-true}
+use borrow.Author.Tests.{ltb-false, eqb-true, eq-eqb}
+use Rattle.words.specs.Tests.{pick}
 use Rattle.words.specs.Outcome.{Outcome, refused, accepted, Meets}
+use Rattle.words.specs.Numbers.{VALUE, ROOM}
 use Rattle.words.proofs.Cases.{passed, le-or-lt}
 use Rattle.fields.specs.Format.{eventSize, channelSize, itemSize}
 use Rattle.bitstream.specs.Carried.{needed, wordOf}
@@ -45,19 +47,22 @@ untagged p n is es cs out z he hc =
         let c : getD cs k 0 ≡ 0 = all-zero (p .channel) n cs (omega arith) hc k in
         rw (e, c) (omega arith)
 
--- what a test of a list by the sizes of a packing says of the format's
-module _ (first n : ℕ) (l : List ℕ) (p : Packing) (r : Bool) (e : p ≡ packingOf first) (m : length l ≡ n) where
-  pub item-fit : r ≡ fitting (p .item) (length l) l → not (fitting (itemSize first) n l) ≡ not r
-  unfolding packingOf
-  item-fit q = let w : r ≡ fitting (itemSize first) n l = q ∙ rw (e, m) in sym (ap not w)
+-- what is known where FORMAT and COUNT are not given, and p has the sizes that the format gives
+pub record PackCounted (first second : ℕ) (is es cs : List ℕ) (p : Packing) : Type 0 where
+  pub sizes : p ≡ packingOf first
+  pub format : formatBad first second ≡ false
+  pub count : countBad first second (length is) ≡ false
+  pub events : length es ≡ length is
+  pub channels : length cs ≡ length is
 
-  pub event-fit : r ≡ fitting (p .event) (length l) l → not (fitting (eventSize first) n l) ≡ not r
-  unfolding packingOf
-  event-fit q = let w : r ≡ fitting (eventSize first) n l = q ∙ rw (e, m) in sym (ap not w)
-
-  pub channel-fit : r ≡ fitting (p .channel) (length l) l → not (fitting (channelSize first) n l) ≡ not r
-  unfolding packingOf
-  channel-fit q = let w : r ≡ fitting (channelSize first) n l = q ∙ rw (e, m) in sym (ap not w)
+-- the lines of `packCheck` that are then left, by the tests' own answers
+pub pack-counted : {first second : ℕ} {is es cs : List ℕ} {p : Packing} → PackCounted first second is es cs p
+    → (room : ℕ) (i e c : Bool) (w : ℕ)
+    → i ≡ fitting (p .item) (length is) is → e ≡ fitting (p .event) (length es) es → c ≡ fitting (p .channel) (length cs) cs → w ≡ needed (p .carry) (p .field) (length is)
+    → packCheck first second is es cs room ≡ pick (not i) (refused VALUE) (pick (not e) (refused VALUE) (pick (not c) (refused VALUE) (pick (ltb room w) (refused ROOM) (accepted tt))))
+unfolding packCheck packingOf wordsFor
+pack-counted {first} {second} {is} {es} {cs} {p} k room i e c w qi qe qc qw =
+    rw (qi, qe, qc, qw, k .sizes, k .events, k .channels) (simp (k .format, k .count, eq-eqb (length is) (length is) refl))
 
 -- what `packCheck` lets through
 pub record PackPassed (first second : ℕ) (is es cs : List ℕ) (room : ℕ) : Type 0 where

@@ -8,7 +8,9 @@ use native.Mathlib.Omega.{arith}
 use lib.ListN.{length, getD}
 use lib.Dec.{ltb, eqb}
 use borrow.Author.Tests.{ltb-false, eqb-true}
+use Rattle.words.specs.Tests.{pick}
 use Rattle.words.specs.Outcome.{Outcome, refused, accepted, Meets}
+use Rattle.words.specs.Numbers.{COUNT, ROOM}
 use Rattle.words.specs.Word.{highFirst}
 use Rattle.words.proofs.Cases.{passed}
 use Rattle.bitstream.specs.Filled.{filled}
@@ -29,6 +31,12 @@ buffers-same p q r = cc
 -- tags of size zero read as 0
 pub no-tags : (e n : ℕ) (h : ℕ → ℕ) (l : List ℕ) → e ≡ 0 → filled n (λ k. 0) l ≡ filled n (λ k. h k % 2 ^ e) l
 no-tags e n h l z = rw z (filled-same n (λ k. 0) (λ k. h k % 2 ^ 0) l (λ k q. sym (mod-one (h k))))
+
+-- the lines of `unpackCheck` that are left where FORMAT is not given, nor COUNT for n
+pub unpack-counted : (first second n words items events channels w : ℕ) → formatBad first second ≡ false → countBad first second n ≡ false → w ≡ wordsFor first n
+    → unpackCheck first second n words items events channels ≡ pick (not (eqb words w)) (refused COUNT) (pick (ltb items n) (refused ROOM) (pick (ltb events n) (refused ROOM) (pick (ltb channels n) (refused ROOM) (accepted tt))))
+unfolding unpackCheck
+unpack-counted first second n words items events channels w f c e = rw e (simp (f, c))
 
 -- the words that are needed hold the fields
 pub fields-there : (first n m : ℕ) → 0 < carriedBits first → m ≡ wordsFor first n → packingOf first .field * n ≤ m * packingOf first .carry

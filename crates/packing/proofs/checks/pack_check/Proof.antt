@@ -1,31 +1,42 @@
--- `pack_check` meets its promise: each return is a line of the definition, and `legal-here` gives what the calls require.
+-- `pack_check` meets its promise: each return is a line of the definition. `counted-here` says what is known once FORMAT and COUNT are passed; the lines
+-- that are left then go by the tests' own answers (`pack-counted`).
 use Rattle.payload_format.specs.Format.{Legal}
 use borrow.Author.Needs.{needs}
 use Rattle.packing.specs.Pack.{packCheck}
-use Rattle.payload_format.proofs.FormatLaws.{legal, words-for, count-few}
-use Rattle.packing.proofs.PackLaws.{item-fit, event-fit, channel-fit}
+use Rattle.payload_format.proofs.FormatLaws.{legal, count-few}
+use Rattle.packing.proofs.PackLaws.{PackCounted, pack-counted}
 use Rattle.words.proofs.Cases.{cases}
 use native.Mathlib.Omega.{arith}
 use lib.ListN.{length}
+use lib.Dec.{ltb}
+use Rattle.words.specs.Tests.{pick}
+use Rattle.words.specs.Outcome.{refused, accepted}
+use Rattle.words.specs.Numbers.{ROOM}
 use mathlib.Core.Path.{refl, sym, _≡_, _∙_}
 use borrow.Author.Tests.{eq-eqb, ne-eqb}
 use Rattle.packing.proofs.checks.pack_check.Statement.{statement}
 use Rattle.packing.proofs.checks.pack_check.Tie as tie
 
-legal-here : (c : tie.After-packing-of) → Legal (c .packing-of .result)
-legal-here c =
+counted-here : (c : tie.After-packing-of) →
     let a = c .before .before .before .before .before .before .before .before .before .before .args in
-    rw (c .packing-of .ensures) (legal (a .first) (a .second) (sym (c .before .before .before .before .before .before .format-bad .ensures) ∙ c .before .before .before .before .before .if1 .left))
+    PackCounted (a .first) (a .second) (a .items .now) (a .events .now) (a .channels .now) (c .packing-of .result)
+counted-here c = record {
+  sizes = c .packing-of .ensures;
+  format = sym (c .before .before .before .before .before .before .format-bad .ensures) ∙ c .before .before .before .before .before .if1 .left;
+  count = sym (c .before .before .before .before .count-bad .ensures) ∙ c .before .before .before .if2 .left;
+  events = omega arith;
+  channels = omega arith;
+}
+
+legal-here : (c : tie.After-packing-of) → Legal (c .packing-of .result)
+legal-here c = rw (c .packing-of .ensures) (legal _ _ (counted-here c .format))
 
 format-bad-requires : tie.Need-format-bad-requires
 format-bad-requires c κs = search needs
 
 returns : tie.Need-returns
 unfolding packCheck
-returns c =
-    let a = c .before .before .before .before .before .args in
-    let e₁ = sym (c .before .format-bad .ensures) ∙ c .if1 .taken in
-    simp (e₁)
+returns c = let e₁ = sym (c .before .format-bad .ensures) ∙ c .if1 .taken in simp e₁
 
 count-bad-requires : tie.Need-count-bad-requires
 count-bad-requires c κs = search needs
@@ -33,7 +44,6 @@ count-bad-requires c κs = search needs
 returns-2 : tie.Need-returns-2
 unfolding packCheck
 returns-2 c =
-    let a = c .before .before .before .before .before .before .before .args in
     let e₁ = sym (c .before .before .before .format-bad .ensures) ∙ c .before .before .if1 .left in
     let e₂ = sym (c .before .count-bad .ensures) ∙ c .if2 .taken in
     simp (e₁, e₂)
@@ -65,90 +75,42 @@ items-fit-requires : tie.Need-items-fit-requires
 items-fit-requires c κs = let l = legal-here c in (l .item, omega (arith, l .parts, l .few))
 
 returns-5 : tie.Need-returns-5
-unfolding packCheck
-returns-5 c =
-    let a = c .before .before .before .before .before .before .before .before .before .before .before .before .args in
-    let e₁ = sym (c .before .before .before .before .before .before .before .before .format-bad .ensures) ∙ c .before .before .before .before .before .before .before .if1 .left in
-    let e₂ = sym (c .before .before .before .before .before .before .count-bad .ensures) ∙ c .before .before .before .before .before .if2 .left in
-    let m₃ : length (a .events .now) ≡ length (a .items .now) = omega arith in
-    let e₃ = eq-eqb (length (a .events .now)) (length (a .items .now)) m₃ in
-    let m₄ : length (a .channels .now) ≡ length (a .items .now) = omega arith in
-    let e₄ = eq-eqb (length (a .channels .now)) (length (a .items .now)) m₄ in
-    let e₅ = item-fit (a .first) _ (a .items .now) _ _ (c .before .before .packing-of .ensures) refl (c .before .items-fit .ensures) ∙ c .if5 .taken in
-    simp (e₁, e₂, e₃, e₄, e₅)
+returns-5 c = simp (pack-counted (counted-here (c .before .before)) (c .before .before .before .before .before .before .before .before .before .before .before .before .args .room) _ _ _ _ (c .before .items-fit .ensures) refl refl refl, c .if5 .taken)
 
 events-fit-requires : tie.Need-events-fit-requires
 events-fit-requires c κs = let l = legal-here (c .before .before) in omega (arith, l .event)
 
 returns-6 : tie.Need-returns-6
-unfolding packCheck
 returns-6 c =
-    let a = c .before .before .before .before .before .before .before .before .before .before .before .before .before .before .args in
-    let e₁ = sym (c .before .before .before .before .before .before .before .before .before .before .format-bad .ensures) ∙ c .before .before .before .before .before .before .before .before .before .if1 .left in
-    let e₂ = sym (c .before .before .before .before .before .before .before .before .count-bad .ensures) ∙ c .before .before .before .before .before .before .before .if2 .left in
-    let m₃ : length (a .events .now) ≡ length (a .items .now) = omega arith in
-    let e₃ = eq-eqb (length (a .events .now)) (length (a .items .now)) m₃ in
-    let m₄ : length (a .channels .now) ≡ length (a .items .now) = omega arith in
-    let e₄ = eq-eqb (length (a .channels .now)) (length (a .items .now)) m₄ in
-    let e₅ = item-fit (a .first) _ (a .items .now) _ _ (c .before .before .before .before .packing-of .ensures) refl (c .before .before .before .items-fit .ensures) ∙ c .before .before .if5 .left in
-    let e₆ = event-fit (a .first) _ (a .events .now) _ _ (c .before .before .before .before .packing-of .ensures) m₃ (c .before .events-fit .ensures) ∙ c .if6 .taken in
-    simp (e₁, e₂, e₃, e₄, e₅, e₆)
+    let k = pack-counted (counted-here (c .before .before .before .before)) (c .before .before .before .before .before .before .before .before .before .before .before .before .before .before .args .room) _ _ _ _ (c .before .before .before .items-fit .ensures) (c .before .events-fit .ensures) refl refl in
+    simp (k, c .before .before .if5 .left, c .if6 .taken)
 
 channels-fit-requires : tie.Need-channels-fit-requires
 channels-fit-requires c κs = let l = legal-here (c .before .before .before .before) in omega (arith, l .channel)
 
 returns-7 : tie.Need-returns-7
-unfolding packCheck
 returns-7 c =
-    let a = c .before .before .before .before .before .before .before .before .before .before .before .before .before .before .before .before .args in
-    let e₁ = sym (c .before .before .before .before .before .before .before .before .before .before .before .before .format-bad .ensures) ∙ c .before .before .before .before .before .before .before .before .before .before .before .if1 .left in
-    let e₂ = sym (c .before .before .before .before .before .before .before .before .before .before .count-bad .ensures) ∙ c .before .before .before .before .before .before .before .before .before .if2 .left in
-    let m₃ : length (a .events .now) ≡ length (a .items .now) = omega arith in
-    let e₃ = eq-eqb (length (a .events .now)) (length (a .items .now)) m₃ in
-    let m₄ : length (a .channels .now) ≡ length (a .items .now) = omega arith in
-    let e₄ = eq-eqb (length (a .channels .now)) (length (a .items .now)) m₄ in
-    let e₅ = item-fit (a .first) _ (a .items .now) _ _ (c .before .before .before .before .before .before .packing-of .ensures) refl (c .before .before .before .before .before .items-fit .ensures) ∙ c .before .before .before .before .if5 .left in
-    let e₆ = event-fit (a .first) _ (a .events .now) _ _ (c .before .before .before .before .before .before .packing-of .ensures) m₃ (c .before .before .before .events-fit .ensures) ∙ c .before .before .if6 .left in
-    let e₇ = channel-fit (a .first) _ (a .channels .now) _ _ (c .before .before .before .before .before .before .packing-of .ensures) m₄ (c .before .channels-fit .ensures) ∙ c .if7 .taken in
-    simp (e₁, e₂, e₃, e₄, e₅, e₆, e₇)
+    let k = pack-counted (counted-here (c .before .before .before .before .before .before)) (c .before .before .before .before .before .before .before .before .before .before .before .before .before .before .before .before .args .room) _ _ _ _ (c .before .before .before .before .before .items-fit .ensures) (c .before .before .before .events-fit .ensures) (c .before .channels-fit .ensures) refl in
+    simp (k, c .before .before .before .before .if5 .left, c .before .before .if6 .left, c .if7 .taken)
 
 words-of-requires : tie.Need-words-of-requires
 words-of-requires c κs =
-    let a = c .before .before .before .before .before .before .before .before .before .before .before .before .before .before .before .before .args in
     let l = legal-here (c .before .before .before .before .before .before) in
-    (l .some, l .most, l .few, count-few (a .first) (a .second) _ (sym (c .before .before .before .before .before .before .before .before .before .before .count-bad .ensures) ∙ c .before .before .before .before .before .before .before .before .before .if2 .left))
+    (l .some, l .most, l .few, count-few _ _ _ (counted-here (c .before .before .before .before .before .before) .count))
+
+-- the last line, which is left where all numbers fit
+last-here : (c : tie.After-words-of) →
+    let a = c .before .before .before .before .before .before .before .before .before .before .before .before .before .before .before .before .before .args in
+    packCheck (a .first) (a .second) (a .items .now) (a .events .now) (a .channels .now) (a .room) ≡ pick (ltb (a .room) (c .words-of .result)) (refused ROOM) (accepted tt)
+last-here c =
+    pack-counted (counted-here (c .before .before .before .before .before .before .before)) _ _ _ _ _ (c .before .before .before .before .before .before .items-fit .ensures) (c .before .before .before .before .events-fit .ensures) (c .before .before .channels-fit .ensures) (c .words-of .ensures)
+    ∙ simp (c .before .before .before .before .before .if5 .left, c .before .before .before .if6 .left, c .before .if7 .left)
 
 returns-8 : tie.Need-returns-8
-unfolding packCheck
-returns-8 c =
-    let a = c .before .before .before .before .before .before .before .before .before .before .before .before .before .before .before .before .before .before .args in
-    let e₁ = sym (c .before .before .before .before .before .before .before .before .before .before .before .before .before .before .format-bad .ensures) ∙ c .before .before .before .before .before .before .before .before .before .before .before .before .before .if1 .left in
-    let e₂ = sym (c .before .before .before .before .before .before .before .before .before .before .before .before .count-bad .ensures) ∙ c .before .before .before .before .before .before .before .before .before .before .before .if2 .left in
-    let m₃ : length (a .events .now) ≡ length (a .items .now) = omega arith in
-    let e₃ = eq-eqb (length (a .events .now)) (length (a .items .now)) m₃ in
-    let m₄ : length (a .channels .now) ≡ length (a .items .now) = omega arith in
-    let e₄ = eq-eqb (length (a .channels .now)) (length (a .items .now)) m₄ in
-    let e₅ = item-fit (a .first) _ (a .items .now) _ _ (c .before .before .before .before .before .before .before .before .packing-of .ensures) refl (c .before .before .before .before .before .before .before .items-fit .ensures) ∙ c .before .before .before .before .before .before .if5 .left in
-    let e₆ = event-fit (a .first) _ (a .events .now) _ _ (c .before .before .before .before .before .before .before .before .packing-of .ensures) m₃ (c .before .before .before .before .before .events-fit .ensures) ∙ c .before .before .before .before .if6 .left in
-    let e₇ = channel-fit (a .first) _ (a .channels .now) _ _ (c .before .before .before .before .before .before .before .before .packing-of .ensures) m₄ (c .before .before .before .channels-fit .ensures) ∙ c .before .before .if7 .left in
-    let w = words-for _ _ _ _ (c .before .before .before .before .before .before .before .before .packing-of .ensures) (c .before .words-of .ensures) in
-    simp (e₁, e₂, e₃, e₄, e₅, e₆, e₇) (rw (← w) (search cases))
+returns-8 c = rw (last-here (c .before)) (search cases)
 
 returns-9 : tie.Need-returns-9
-unfolding packCheck
-returns-9 c =
-    let a = c .before .before .before .before .before .before .before .before .before .before .before .before .before .before .before .before .before .before .args in
-    let e₁ = sym (c .before .before .before .before .before .before .before .before .before .before .before .before .before .before .format-bad .ensures) ∙ c .before .before .before .before .before .before .before .before .before .before .before .before .before .if1 .left in
-    let e₂ = sym (c .before .before .before .before .before .before .before .before .before .before .before .before .count-bad .ensures) ∙ c .before .before .before .before .before .before .before .before .before .before .before .if2 .left in
-    let m₃ : length (a .events .now) ≡ length (a .items .now) = omega arith in
-    let e₃ = eq-eqb (length (a .events .now)) (length (a .items .now)) m₃ in
-    let m₄ : length (a .channels .now) ≡ length (a .items .now) = omega arith in
-    let e₄ = eq-eqb (length (a .channels .now)) (length (a .items .now)) m₄ in
-    let e₅ = item-fit (a .first) _ (a .items .now) _ _ (c .before .before .before .before .before .before .before .before .packing-of .ensures) refl (c .before .before .before .before .before .before .before .items-fit .ensures) ∙ c .before .before .before .before .before .before .if5 .left in
-    let e₆ = event-fit (a .first) _ (a .events .now) _ _ (c .before .before .before .before .before .before .before .before .packing-of .ensures) m₃ (c .before .before .before .before .before .events-fit .ensures) ∙ c .before .before .before .before .if6 .left in
-    let e₇ = channel-fit (a .first) _ (a .channels .now) _ _ (c .before .before .before .before .before .before .before .before .packing-of .ensures) m₄ (c .before .before .before .channels-fit .ensures) ∙ c .before .before .if7 .left in
-    let w = words-for _ _ _ _ (c .before .before .before .before .before .before .before .before .packing-of .ensures) (c .before .words-of .ensures) in
-    simp (e₁, e₂, e₃, e₄, e₅, e₆, e₇) (rw (← w) (search cases))
+returns-9 c = rw (last-here (c .before)) (search cases)
 
 pub pack-check-spec : {M : Type 1} → statement M
 pack-check-spec =

@@ -1,8 +1,15 @@
--- `unpack_check` meets its promise: each return is a line of the definition.
+-- `unpack_check` meets its promise: each return is a line of the definition. `counted-here` says which lines are left once FORMAT and COUNT of n are
+-- passed.
 use Rattle.payload_format.proofs.FormatLaws.{legal, count-few, words-for}
-use mathlib.Core.Path.{sym, _∙_}
+use mathlib.Core.Bool.{not}
+use mathlib.Core.Path.{_≡_, sym, _∙_}
+use lib.Dec.{eqb, ltb}
+use Rattle.words.specs.Tests.{pick}
+use Rattle.words.specs.Outcome.{refused, accepted}
+use Rattle.words.specs.Numbers.{COUNT, ROOM}
 use Rattle.words.proofs.Cases.{cases}
 use Rattle.payload.specs.Unpack.{unpackCheck}
+use Rattle.payload.proofs.UnpackLaws.{unpack-counted}
 use borrow.Author.Needs.{needs}
 use Rattle.payload.proofs.unpacking.unpack_check.Statement.{statement}
 use Rattle.payload.proofs.unpacking.unpack_check.Tie as tie
@@ -35,45 +42,31 @@ words-of-requires c κs =
     let n = count-few (a .first) (a .second) (a .n) (sym (c .before .before .count-bad .ensures) ∙ c .before .if2 .left) in
     rw q (l .some, l .most, l .few, n)
 
+counted-here : (c : tie.After-words-of) →
+    let a = c .before .before .before .before .before .before .args in
+    let n = a .n in
+    unpackCheck (a .first) (a .second) n (a .words) (a .items) (a .events) (a .channels)
+    ≡ pick (not (eqb (a .words) (c .words-of .result))) (refused COUNT) (pick (ltb (a .items) n) (refused ROOM) (pick (ltb (a .events) n) (refused ROOM) (pick (ltb (a .channels) n) (refused ROOM) (accepted tt))))
+counted-here c =
+    let a = c .before .before .before .before .before .before .args in
+    let f = sym (c .before .before .before .before .before .format-bad .ensures) ∙ c .before .before .before .before .if1 .left in
+    let n = sym (c .before .before .before .count-bad .ensures) ∙ c .before .before .if2 .left in
+    unpack-counted _ _ _ (a .words) (a .items) (a .events) (a .channels) _ f n (words-for _ _ _ _ (c .before .packing-of .ensures) (c .words-of .ensures))
+
 returns-3 : tie.Need-returns-3
-unfolding unpackCheck
-returns-3 c =
-    let e₁ = sym (c .before .before .before .before .before .before .format-bad .ensures) ∙ c .before .before .before .before .before .if1 .left in
-    let e₂ = sym (c .before .before .before .before .count-bad .ensures) ∙ c .before .before .before .if2 .left in
-    let w = words-for _ _ _ _ (c .before .before .packing-of .ensures) (c .before .words-of .ensures) in
-    simp (e₁, e₂) (rw (← w) (search cases))
+returns-3 c = rw (counted-here (c .before)) (search cases)
 
 returns-4 : tie.Need-returns-4
-unfolding unpackCheck
-returns-4 c =
-    let e₁ = sym (c .before .before .before .before .before .before .before .format-bad .ensures) ∙ c .before .before .before .before .before .before .if1 .left in
-    let e₂ = sym (c .before .before .before .before .before .count-bad .ensures) ∙ c .before .before .before .before .if2 .left in
-    let w = words-for _ _ _ _ (c .before .before .before .packing-of .ensures) (c .before .before .words-of .ensures) in
-    simp (e₁, e₂) (rw (← w) (search cases))
+returns-4 c = rw (counted-here (c .before .before)) (search cases)
 
 returns-5 : tie.Need-returns-5
-unfolding unpackCheck
-returns-5 c =
-    let e₁ = sym (c .before .before .before .before .before .before .before .before .format-bad .ensures) ∙ c .before .before .before .before .before .before .before .if1 .left in
-    let e₂ = sym (c .before .before .before .before .before .before .count-bad .ensures) ∙ c .before .before .before .before .before .if2 .left in
-    let w = words-for _ _ _ _ (c .before .before .before .before .packing-of .ensures) (c .before .before .before .words-of .ensures) in
-    simp (e₁, e₂) (rw (← w) (search cases))
+returns-5 c = rw (counted-here (c .before .before .before)) (search cases)
 
 returns-6 : tie.Need-returns-6
-unfolding unpackCheck
-returns-6 c =
-    let e₁ = sym (c .before .before .before .before .before .before .before .before .before .format-bad .ensures) ∙ c .before .before .before .before .before .before .before .before .if1 .left in
-    let e₂ = sym (c .before .before .before .before .before .before .before .count-bad .ensures) ∙ c .before .before .before .before .before .before .if2 .left in
-    let w = words-for _ _ _ _ (c .before .before .before .before .before .packing-of .ensures) (c .before .before .before .before .words-of .ensures) in
-    simp (e₁, e₂) (rw (← w) (search cases))
+returns-6 c = rw (counted-here (c .before .before .before .before)) (search cases)
 
 returns-7 : tie.Need-returns-7
-unfolding unpackCheck
-returns-7 c =
-    let e₁ = sym (c .before .before .before .before .before .before .before .before .before .format-bad .ensures) ∙ c .before .before .before .before .before .before .before .before .if1 .left in
-    let e₂ = sym (c .before .before .before .before .before .before .before .count-bad .ensures) ∙ c .before .before .before .before .before .before .if2 .left in
-    let w = words-for _ _ _ _ (c .before .before .before .before .before .packing-of .ensures) (c .before .before .before .before .words-of .ensures) in
-    simp (e₁, e₂) (rw (← w) (search cases))
+returns-7 c = rw (counted-here (c .before .before .before .before)) (search cases)
 
 pub unpack-check-spec : {M : Type 1} → statement M
 unpack-check-spec =
