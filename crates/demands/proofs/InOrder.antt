@@ -13,7 +13,7 @@ use Rattle.fields.specs.Layout.{contextOf}
 use Rattle.packet.specs.declared.Packet.{Packet}
 use Rattle.packet.specs.Parts.{packetOf}
 use Rattle.packet.specs.Read.{headerChecks, sizeChecks, prologueChecks, bodyChecks, checksOf, readOf}
-use Rattle.packet.specs.Trailer.{trailerWordOf}
+use Rattle.trailer.specs.Trailer.{trailerWordOf}
 use Rattle.packet.specs.Write.{partsChecks, measureChecks, roomChecks, writeChecks, writeOf}
 use Rattle.payload.specs.Count.{neededOf}
 use Rattle.payload.specs.Pack.{packCheck, packOf}

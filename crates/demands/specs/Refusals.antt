@@ -17,7 +17,7 @@ use Rattle.packet.specs.declared.Parts.{Parts}
 use Rattle.packet.specs.Header.{typeOf, reservedOf, tsfOf, sizeOf}
 use Rattle.packet.specs.Parts.{requiredOf, classHigh, fractionOf, bodyOf, packetOf}
 use Rattle.packet.specs.Read.{timeOver, readOf}
-use Rattle.packet.specs.Trailer.{trailerWordOf}
+use Rattle.trailer.specs.Trailer.{trailerWordOf}
 use Rattle.packet.specs.Write.{partsFit, sizeFor, packetWords, writeOf}
 use Rattle.payload.specs.Count.{countBad, wordsFor, neededOf}
 use Rattle.payload.specs.Field.{fitting}

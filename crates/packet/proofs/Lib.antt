@@ -16,5 +16,3 @@ pub mod FitLaws
 pub mod LayLaws
 -- a header that was made of parts, read again
 pub mod HeaderLaws
--- a trailer word taken apart and made again
-pub mod TrailerLaws

@@ -1,5 +1,5 @@
 -- Two answers that meet the promise of a public call are equal: each `paper` has a left inverse (`once`).
-use mathlib.Core.Path.{_≡_, refl, sym, _∙_}
+use mathlib.Core.Path.{_≡_, refl}
 use mathlib.Core.List.{List}
 use Prim.Native.Nat.{ℕ}
 use Rattle.words.specs.Outcome.{Outcome, refused, accepted, Meets}
@@ -8,13 +8,9 @@ use Rattle.packet.specs.declared.Packet.{Packet}
 use Rattle.packet.specs.declared.Parsed.{Parsed}
 use Rattle.packet.specs.declared.Parsed.the-variants.{Accepted, Refused}
 use Rattle.packet.specs.declared.Parts.{Parts}
-use Rattle.packet.specs.declared.Trailer.{Trailer}
-use Rattle.packet.specs.declared.TrailerWord.{TrailerWord}
-use Rattle.packet.specs.declared.TrailerWord.the-variants as TrailerV
 use Rattle.packet.specs.declared.Written.{Written}
 use Rattle.packet.specs.declared.Written.the-variants as WrittenV
 use Rattle.packet.specs.Read.{paper, readOf}
-use Rattle.packet.specs.Trailer.{trailerOf, trailerWordOf, trailerPaper}
 use Rattle.packet.specs.Write.{writeOf, writtenPaper}
 
 parsedBack : Outcome Packet → Parsed
@@ -41,19 +37,3 @@ written-back (WrittenV.Accepted n) = refl
 pub write-once : (p : Parts) (body out after after′ : List ℕ) (at : ℕ) (a b : Written) → Meets writtenPaper (writeOf p body out at) out a after
     → Meets writtenPaper (writeOf p body out at) out b after′ → (a ≡ b) × (after ≡ after′)
 write-once p body out after after′ at a b = meets-once writtenPaper writtenBack written-back
-
-pub trailer-parts-once : (word : ℕ) {a b : Trailer} → a ≡ trailerOf word → b ≡ trailerOf word → a ≡ b
-trailer-parts-once word p q = p ∙ sym q
-
-trailerBack : Outcome ℕ → TrailerWord
-trailerBack (refused n) = TrailerV.Refused n
-trailerBack (accepted w) = TrailerV.Accepted w
-
-trailer-back : (a : TrailerWord) → trailerBack (trailerPaper a) ≡ a
-unfolding trailerBack
-trailer-back (TrailerV.Refused n) = refl
-trailer-back (TrailerV.Accepted w) = refl
-
-pub trailer-word-once : (enables indicators e associated : ℕ) {a b : TrailerWord} → trailerPaper a ≡ trailerWordOf enables indicators e associated
-    → trailerPaper b ≡ trailerWordOf enables indicators e associated → a ≡ b
-trailer-word-once enables indicators e associated = once trailerPaper trailerBack trailer-back

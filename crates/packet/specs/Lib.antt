@@ -10,5 +10,3 @@ pub mod Read
 pub mod Front
 -- what writing answers and leaves
 pub mod Write
--- the trailer word
-pub mod Trailer

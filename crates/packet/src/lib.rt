@@ -9,7 +9,6 @@ mod prologue;
 ghost use mathlib.Core.Path.{_≡_};
 ghost use Rattle.packet.specs.Read.{paper, readOf};
 ghost use Rattle.words.specs.Outcome.{Meets};
-ghost use Rattle.packet.specs.Trailer.{trailerOf, trailerWordOf, trailerPaper};
 ghost use Rattle.packet.specs.Write.{writeOf, writtenPaper};
 
 // The parts of a packet beside its body. A part that is absent is zero.
@@ -94,49 +93,4 @@ pub fn write(parts: Parts, body: &[u32], out: &mut [u32], at: usize) -> Written
     }
     laying::lay(w, size, parts, body, out, at);
     Written::Accepted(size)
-}
-
-// A trailer word's parts.
-pub struct Trailer {
-    pub enables: u32,
-    pub indicators: u32,
-    pub e: bool,
-    pub associated: u32,
-}
-
-// What a trailer word says: the enables, the indicators, E and the associated count.
-pub fn trailer_parts(word: u32) -> Trailer
-    ensures { λ r. ⌜ r ≡ trailerOf word ⌝ }
-{
-    Trailer {
-        enables: word / 0x10_0000 % 0x1000,
-        indicators: word / 0x100 % 0x1000,
-        e: word / 0x80 % 2 == 1,
-        associated: word % 0x80,
-    }
-}
-
-// What making a trailer word answers: the word, or VALUE.
-pub enum TrailerWord {
-    Accepted(u32),
-    Refused(u32),
-}
-
-// The trailer word of enables, indicators, E and associated count; VALUE where one does not fit its bits.
-pub fn trailer_word(enables: u32, indicators: u32, e: u32, associated: u32) -> TrailerWord
-    ensures { λ r. ⌜ trailerPaper r ≡ trailerWordOf enables indicators e associated ⌝ }
-{
-    if 0x1000 <= enables {
-        return TrailerWord::Refused(words::VALUE);
-    }
-    if 0x1000 <= indicators {
-        return TrailerWord::Refused(words::VALUE);
-    }
-    if 2 <= e {
-        return TrailerWord::Refused(words::VALUE);
-    }
-    if 0x80 <= associated {
-        return TrailerWord::Refused(words::VALUE);
-    }
-    TrailerWord::Accepted(enables * 0x10_0000 + indicators * 0x100 + e * 0x80 + associated)
 }

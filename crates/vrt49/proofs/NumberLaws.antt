@@ -13,7 +13,7 @@ use Rattle.fields.specs.Layout.{contextOf}
 use Rattle.packet.specs.declared.Parts.{Parts}
 use Rattle.packet.specs.Read.{headerChecks, sizeChecks, prologueChecks, bodyChecks, checksOf, readOf}
 use Rattle.packet.specs.Write.{partsChecks, measureChecks, roomChecks, writeChecks, writeOf}
-use Rattle.packet.specs.Trailer.{trailerWordOf}
+use Rattle.trailer.specs.Trailer.{trailerWordOf}
 use Rattle.payload.specs.Unpack.{Buffers, unpackCheck, unpackOf}
 use Rattle.payload.specs.Pack.{packCheck, packOf}
 use Rattle.payload.specs.Count.{neededOf}

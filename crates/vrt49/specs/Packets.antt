@@ -11,10 +11,10 @@ use Rattle.words.specs.Outcome.{Outcome, refused, accepted, after, Done}
 use Rattle.fields.specs.Layout.{foundOf}
 use Rattle.packet.specs.declared.Parts.{Parts}
 use Rattle.packet.specs.declared.Packet.{Packet}
-use Rattle.packet.specs.declared.Trailer.{Trailer}
+use Rattle.trailer.specs.declared.Trailer.{Trailer}
 use Rattle.packet.specs.Read.{readOf}
 use Rattle.packet.specs.Write.{writeOf}
-use Rattle.packet.specs.Trailer.{trailerOf, trailerWordOf}
+use Rattle.trailer.specs.Trailer.{trailerOf, trailerWordOf}
 use Rattle.vrt49.specs.Answers.{oneValue, answering, answeringBeside}
 
 -- ---- the values

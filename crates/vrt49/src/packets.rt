@@ -142,7 +142,7 @@ pub extern "C" fn vrt49_trailer_parts(word: u32, answer: &mut [u32]) -> u32
     if answer.len() < 4 {
         return words::ROOM;
     }
-    let t = packet::trailer_parts(word);
+    let t = trailer::trailer_parts(word);
     let values = [
         t.enables,
         t.indicators,
@@ -167,9 +167,9 @@ pub extern "C" fn vrt49_trailer_word(
     if answer.len() < 1 {
         return words::ROOM;
     }
-    match packet::trailer_word(enables, indicators, e, associated) {
-        packet::TrailerWord::Refused(n) => n,
-        packet::TrailerWord::Accepted(w) => {
+    match trailer::trailer_word(enables, indicators, e, associated) {
+        trailer::TrailerWord::Refused(n) => n,
+        trailer::TrailerWord::Accepted(w) => {
             answer[0] = w;
             0
         }

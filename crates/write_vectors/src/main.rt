@@ -1,9 +1,9 @@
-// Runs the cases of standard input with `packet::write`, `packet::read` and `packet::trailer_word`, and writes what they answer and leave.
+// Runs the cases of standard input with `packet::write`, `packet::read` and `trailer::trailer_word`, and writes what they answer and leave.
 // A case begins with a word that says what is asked: 1 to write, 2 to read, write again and read again, 3 to make a trailer word.
 use packet::Parsed;
 use packet::Parts;
-use packet::TrailerWord;
 use packet::Written;
+use trailer::TrailerWord;
 
 // The line of a buffer: its words where they are few, and else their sum.
 fn show_buffer(words: &[u32]) {
@@ -150,7 +150,7 @@ fn trailer_case() {
     let indicators = wordio::inner::word();
     let e = wordio::inner::word();
     let associated = wordio::inner::word();
-    let answer = packet::trailer_word(enables, indicators, e, associated);
+    let answer = trailer::trailer_word(enables, indicators, e, associated);
     match answer {
         TrailerWord::Accepted(w) => wordio::inner::named(b"trailer", w as u64),
         TrailerWord::Refused(n) => wordio::inner::named(b"refused", n as u64),

@@ -1,7 +1,7 @@
 -- `vrt49_trailer_word` meets its promise: ROOM, else the word or VALUE.
 use mathlib.Core.Path.{sym, ap, _∙_}
 use mathlib.Core.List.{[], _∷_}
-use Rattle.packet.specs.Trailer.{trailerPaper}
+use Rattle.trailer.specs.Trailer.{trailerPaper}
 use Rattle.vrt49.specs.Packets.{trailerWordGives}
 use Rattle.vrt49.proofs.AnswerLaws.{gives-room, gives-refused, gives-values, stored-front}
 use borrow.Author.Needs.{needs}

@@ -12,7 +12,7 @@ use Rattle.words.specs.Word.{bits, join, total}
 use Rattle.words.specs.Outcome.{accepted}
 use Rattle.words.proofs.Cases.{both-left, both-right, passed, accepted-same}
 use Rattle.words.proofs.WordLaws.{fieldsFrom, join-split, split-from}
-use Rattle.packet.specs.Trailer.{trailerOf, trailerWordOf}
+use Rattle.trailer.specs.Trailer.{trailerOf, trailerWordOf}
 
 -- the parts of a word make the word
 pub trailer-again : (w : ℕ) → w < 2 ^ 32 → trailerWordOf (bits 31 20 w) (bits 19 8 w) (bits 7 7 w) (bits 6 0 w) ≡ accepted w

@@ -7,10 +7,10 @@ use borrow.Author.Tests.{lt-ltb}
 use Rattle.words.proofs.Cases.{cases}
 use Rattle.words.specs.Word.{join}
 use Rattle.words.specs.Outcome.{accepted}
-use Rattle.packet.specs.Trailer.{trailerWordOf}
+use Rattle.trailer.specs.Trailer.{trailerWordOf}
 use borrow.Author.Needs.{needs}
-use Rattle.packet.proofs.trailer_word.Statement.{statement}
-use Rattle.packet.proofs.trailer_word.Tie as tie
+use Rattle.trailer.proofs.trailer_word.Statement.{statement}
+use Rattle.trailer.proofs.trailer_word.Tie as tie
 
 returns : tie.Need-returns
 unfolding trailerWordOf

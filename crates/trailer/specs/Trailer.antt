@@ -7,9 +7,9 @@ use Rattle.words.specs.Numbers.{VALUE}
 use Rattle.words.specs.Tests.{pick, both}
 use Rattle.words.specs.Word.{bits, has, join}
 use Rattle.words.specs.Outcome.{Outcome, refused, accepted}
-use Rattle.packet.specs.declared.Trailer.{Trailer}
-use Rattle.packet.specs.declared.TrailerWord.{TrailerWord}
-use Rattle.packet.specs.declared.TrailerWord.the-variants.{Accepted, Refused}
+use Rattle.trailer.specs.declared.Trailer.{Trailer}
+use Rattle.trailer.specs.declared.TrailerWord.{TrailerWord}
+use Rattle.trailer.specs.declared.TrailerWord.the-variants.{Accepted, Refused}
 
 -- what a trailer word says
 unfoldable pub trailerOf : ℕ → Trailer

@@ -1,8 +1,8 @@
 -- `trailer_parts` meets its promise: the same bits.
 use mathlib.Core.Path.{refl}
-use Rattle.packet.specs.Trailer.{trailerOf}
-use Rattle.packet.proofs.trailer_parts.Statement.{statement}
-use Rattle.packet.proofs.trailer_parts.Tie as tie
+use Rattle.trailer.specs.Trailer.{trailerOf}
+use Rattle.trailer.proofs.trailer_parts.Statement.{statement}
+use Rattle.trailer.proofs.trailer_parts.Tie as tie
 
 returns : tie.Need-returns
 unfolding trailerOf

@@ -1,0 +1,2 @@
+-- The trailer word: what it says, and what making one answers.
+pub mod Trailer
