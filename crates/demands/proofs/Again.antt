@@ -24,11 +24,11 @@ use Rattle.packet.specs.declared.Packet.{Packet}
 use Rattle.packet.specs.Header.{typeOf, classed, trailed, tsmOf, reservedOf, tsiOf, tsfOf, countOf, sizeOf}
 use Rattle.packet.specs.Parts.{streamed, hasSeconds, hasFraction, classAt, secondsAt, fractionAt, bodyAt, requiredOf, bodyLength, wordIf, classHigh, classLow, fractionOf, partsOf, bodyOf, packetOf}
 use Rattle.packet.specs.Read.{headerChecks, timeOver, prologueChecks, bodyChecks, readOf}
-use Rattle.packet.specs.Write.{bit, headerWidths, headerWord, sizeFor, given, classWord, headWords, classWords, timeWords, prologueWords, trailerWords, packetWords, codesFit, flagsFit, classFits, partsFit, partsChecks, measureChecks, roomChecks, writeChecks, writeOf}
+use Rattle.writing.specs.Write.{bit, headerWidths, headerWord, sizeFor, given, classWord, headWords, classWords, timeWords, prologueWords, trailerWords, packetWords, codesFit, flagsFit, classFits, partsFit, partsChecks, measureChecks, roomChecks, writeChecks, writeOf}
 use Rattle.packet.proofs.RoomLaws.{Room, room}
 use Rattle.packet.proofs.ReadLaws.{Passed, sized, read-accepts}
-use Rattle.packet.proofs.FitLaws.{parts-fit}
-use Rattle.packet.proofs.HeaderLaws.{two-bits, size-for-is}
+use Rattle.writing.proofs.FitLaws.{parts-fit}
+use Rattle.writing.proofs.HeaderLaws.{two-bits, size-for-is}
 
 -- ---- the header
 

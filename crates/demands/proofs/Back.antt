@@ -18,12 +18,12 @@ use Rattle.packet.specs.declared.Parts.{Parts}
 use Rattle.packet.specs.Header.{classed, trailed, sizeOf}
 use Rattle.packet.specs.Parts.{streamed, hasSeconds, hasFraction, classAt, secondsAt, fractionAt, bodyAt, requiredOf, bodyLength, wordIf, classHigh, classLow, fractionOf, partsOf, bodyOf, packetOf}
 use Rattle.packet.specs.Read.{headerChecks, sizeChecks, timeOver, prologueChecks, checksOf, readOf}
-use Rattle.packet.specs.Write.{headerWord, sizeFor, given, classWord, headWords, classWords, timeWords, prologueWords, trailerWords, packetWords, plainParts, classFits, writeChecks, writeOf}
-use Rattle.packet.proofs.FitLaws.{Fits, parts-fit, Writable, writable}
+use Rattle.writing.specs.Write.{headerWord, sizeFor, given, classWord, headWords, classWords, timeWords, prologueWords, trailerWords, packetWords, plainParts, classFits, writeChecks, writeOf}
+use Rattle.writing.proofs.FitLaws.{Fits, parts-fit, Writable, writable}
 use Rattle.packet.proofs.RoomLaws.{body-past}
 use Rattle.packet.proofs.ReadLaws.{accepts-read}
-use Rattle.packet.proofs.HeaderLaws.{type-is, classed-is, trailed-is, tsm-is, tsi-is, tsf-is, count-is, size-is, reserved-is, size-for-is}
-use Rattle.packet.proofs.LayLaws.{length-given, head-length, class-length, prologue-length, packet-length}
+use Rattle.writing.proofs.HeaderLaws.{type-is, classed-is, trailed-is, tsm-is, tsi-is, tsf-is, count-is, size-is, reserved-is, size-for-is}
+use Rattle.writing.proofs.LayLaws.{length-given, head-length, class-length, prologue-length, packet-length}
 
 -- ---- an optional part, found where it was laid
 

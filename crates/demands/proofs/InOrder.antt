@@ -14,7 +14,7 @@ use Rattle.packet.specs.declared.Packet.{Packet}
 use Rattle.packet.specs.Parts.{packetOf}
 use Rattle.packet.specs.Read.{headerChecks, sizeChecks, prologueChecks, bodyChecks, checksOf, readOf}
 use Rattle.trailer.specs.Trailer.{trailerWordOf}
-use Rattle.packet.specs.Write.{partsChecks, measureChecks, roomChecks, writeChecks, writeOf}
+use Rattle.writing.specs.Write.{partsChecks, measureChecks, roomChecks, writeChecks, writeOf}
 use Rattle.payload.specs.Count.{neededOf}
 use Rattle.payload.specs.Pack.{packCheck, packOf}
 use Rattle.payload.specs.Signs.{signedOf}

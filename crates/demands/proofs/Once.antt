@@ -7,7 +7,8 @@ use native.Mathlib.Omega.{arith}
 use Rattle.words.specs.Outcome.{Outcome, refused, accepted, Done, saidOf, leftOf}
 use Rattle.fields.proofs.Uniqueness.{field-count-once, check-body-once, find-once}
 use Rattle.trailer.proofs.Uniqueness.{trailer-parts-once, trailer-word-once}
-use Rattle.packet.proofs.Uniqueness.{read-once, write-once}
+use Rattle.packet.proofs.Uniqueness.{read-once}
+use Rattle.writing.proofs.Uniqueness.{write-once}
 use Rattle.payload.proofs.Uniqueness.{words-needed-once, unpack-once, pack-once, signed-once}
 use Rattle.table.proofs.Uniqueness.{start-once, well-made-once}
 use Rattle.play.proofs.Uniqueness.{play-once, play-run-once}

@@ -10,7 +10,7 @@ use Rattle.fields.specs.Layout.{fieldCount, foundOf, contextOf}
 use Rattle.packet.specs.declared.Parts.{Parts}
 use Rattle.packet.specs.Read as Read
 use Rattle.trailer.specs.Trailer.{trailerOf, trailerWordOf, trailerPaper}
-use Rattle.packet.specs.Write.{writeOf, writtenPaper}
+use Rattle.writing.specs.Write.{writeOf, writtenPaper}
 use Rattle.payload.specs.Answers.{neededPaper, unpackedPaper, packedPaper, shownPaper}
 use Rattle.payload.specs.Count.{neededOf}
 use Rattle.payload.specs.Pack.{packOf}

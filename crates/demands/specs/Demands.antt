@@ -16,7 +16,7 @@ use Rattle.packet.specs.declared.Packet.{Packet}
 use Rattle.packet.specs.declared.Parts.{Parts}
 use Rattle.packet.specs.Parts.{bodyAt}
 use Rattle.packet.specs.Read.{readOf}
-use Rattle.packet.specs.Write.{headerWord, sizeFor, plainParts, writeOf}
+use Rattle.writing.specs.Write.{headerWord, sizeFor, plainParts, writeOf}
 use Rattle.payload.specs.Unpack.{Buffers, unpackOf}
 use Rattle.payload.specs.Pack.{packOf}
 use Rattle.record.specs.Layout.{heldOf, orderOf, countOf, slotOf}

@@ -18,7 +18,7 @@ use Rattle.packet.specs.Header.{typeOf, reservedOf, tsfOf, sizeOf}
 use Rattle.packet.specs.Parts.{requiredOf, classHigh, fractionOf, bodyOf, packetOf}
 use Rattle.packet.specs.Read.{timeOver, readOf}
 use Rattle.trailer.specs.Trailer.{trailerWordOf}
-use Rattle.packet.specs.Write.{partsFit, sizeFor, packetWords, writeOf}
+use Rattle.writing.specs.Write.{partsFit, sizeFor, packetWords, writeOf}
 use Rattle.payload.specs.Count.{countBad, wordsFor, neededOf}
 use Rattle.payload.specs.Field.{fitting}
 use Rattle.payload.specs.Format.{formatBad, packingOf}

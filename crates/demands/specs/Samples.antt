@@ -12,7 +12,7 @@ use Rattle.fields.specs.Format.{realComplex, itemCode, packingSize, itemSize}
 use Rattle.fields.specs.Layout.{carried, spanOf}
 use Rattle.packet.specs.declared.Packet.{Packet}
 use Rattle.packet.specs.Read.{readOf}
-use Rattle.packet.specs.Write.{bit}
+use Rattle.writing.specs.Write.{bit}
 use Rattle.payload.specs.Format.{linkEfficient}
 use Rattle.payload.specs.Pack.{packOf}
 use Rattle.payload.specs.Unpack.{Buffers, buffers, unpackOf}

@@ -10,9 +10,3 @@ pub mod FrontLaws
 pub mod BeyondLaws
 -- two answers that meet a promise are equal
 pub mod Uniqueness
--- what the checks of writing tell
-pub mod FitLaws
--- the words of a packet by their pieces
-pub mod LayLaws
--- a header that was made of parts, read again
-pub mod HeaderLaws

@@ -5,13 +5,14 @@ use mathlib.Core.Bool.{Bool, true, false, not}
 use mathlib.Core.List.{[], _∷_}
 use Prim.Native.Nat.{ℕ, _+_, _-_, _/_, _%_, _^_, _≤_, _<_}
 use native.Mathlib.Omega.{arith}
-use borrow.Author.Tests.{not-true}
-use lib.Dec.{eqb}
+use borrow.Author.Tests.{not-true, ne-eqb}
+use lib.Dec.{eqb, ltb}
 use Rattle.words.specs.Tests.{pick, when, among}
+use Rattle.words.specs.Word.{has}
 use Rattle.words.specs.All.{all}
 use Rattle.words.proofs.AllLaws.{all-at}
 use Rattle.words.proofs.Cases.{when-most, true-is-false}
-use Rattle.packet.specs.Header.{classed, trailed, sizeOf}
+use Rattle.packet.specs.Header.{typeOf, classed, trailed, tsmOf, reservedOf, sizeOf}
 use Rattle.packet.specs.Parts.{streamed, hasSeconds, hasFraction, classAt, secondsAt, fractionAt, bodyAt, requiredOf, bodyLength}
 
 -- the body begins past the header
@@ -60,3 +61,12 @@ streamed-bit k h = same-tests (eqb (58 / 2 ^ k % 2) 1) (among k (1 ∷ 3 ∷ 4 �
     same-tests : (a b : Bool) → pick a b (not b) ≡ true → a ≡ b
     same-tests true b e = sym e
     same-tests false b e = sym (not-true b e)
+
+-- TSM of a header whose reserved bits are zero, whatever its type
+pub tsm-bit : (w : ℕ) → reservedOf w ≡ 0 → has w 24 ≡ tsmOf w
+unfolding reservedOf tsmOf
+tsm-bit w e = by-type (ltb (typeOf w) 4) e
+  where
+    by-type : (young : Bool) → pick young (w / 2 ^ 24 % 4) (w / 2 ^ 25 % 4) ≡ 0 → has w 24 ≡ pick young false (has w 24)
+    by-type true z = ne-eqb (w / 2 ^ 24 % 2) 1 (λ o. omega (arith, z, o))
+    by-type false z = refl

@@ -8,5 +8,3 @@ pub mod Parts
 pub mod Read
 -- what reading refuses before it looks at a body
 pub mod Front
--- what writing answers and leaves
-pub mod Write

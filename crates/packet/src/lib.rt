@@ -1,15 +1,11 @@
-// A packet: its header, prologue, body and trailer, read from words and written to them.
+// A packet: its header, prologue, body and trailer, read from words.
 mod checks;
-mod fit;
 mod header;
 pub mod inner;
-mod laying;
 mod prologue;
 
 ghost use mathlib.Core.Path.{_≡_};
 ghost use Rattle.packet.specs.Read.{paper, readOf};
-ghost use Rattle.words.specs.Outcome.{Meets};
-ghost use Rattle.packet.specs.Write.{writeOf, writtenPaper};
 
 // The parts of a packet beside its body. A part that is absent is zero.
 pub struct Parts {
@@ -60,37 +56,4 @@ pub fn read(words: &[u32]) -> Parsed
         return Parsed::Refused(n);
     }
     Parsed::Accepted(prologue::packet_of(w, words))
-}
-
-// What writing answers: the number of words written, or the number of the refusal.
-pub enum Written {
-    Accepted(usize),
-    Refused(u32),
-}
-
-// Writes a packet, its body given as words, into the part of a buffer that starts at a word of the caller's choice, and answers how many words
-// it has; or answers the first of TYPE, VALUE, SHORT, SIZE, TIME, INDICATOR, LAYOUT, FIELD and ROOM that applies, and leaves the buffer as it was.
-pub fn write(parts: Parts, body: &[u32], out: &mut [u32], at: usize) -> Written
-    ensures { λ r. ⌜ Meets writtenPaper (writeOf parts (now (body .entry)) (now (out .entry)) at) (now (out .entry)) r (now (out .exit)) ⌝ }
-{
-    let found = fit::check_parts(parts);
-    if let words::Check::Refused(n) = found {
-        return Written::Refused(n);
-    }
-    let w = laying::header_word(parts);
-    let size = laying::size_for(w, body.len());
-    let measure = fit::check_measure(parts, body.len(), size);
-    if let words::Check::Refused(n) = measure {
-        return Written::Refused(n);
-    }
-    let context = checks::check_body(parts.kind, body);
-    if let words::Check::Refused(n) = context {
-        return Written::Refused(n);
-    }
-    let room = fit::check_room(out.len(), at, size);
-    if let words::Check::Refused(n) = room {
-        return Written::Refused(n);
-    }
-    laying::lay(w, size, parts, body, out, at);
-    Written::Accepted(size)
 }

@@ -12,7 +12,7 @@ use Rattle.words.specs.Outcome.{Outcome, refused, accepted, after, onward, numb
 use Rattle.fields.specs.Layout.{contextOf}
 use Rattle.packet.specs.declared.Parts.{Parts}
 use Rattle.packet.specs.Read.{headerChecks, sizeChecks, prologueChecks, bodyChecks, checksOf, readOf}
-use Rattle.packet.specs.Write.{partsChecks, measureChecks, roomChecks, writeChecks, writeOf}
+use Rattle.writing.specs.Write.{partsChecks, measureChecks, roomChecks, writeChecks, writeOf}
 use Rattle.trailer.specs.Trailer.{trailerWordOf}
 use Rattle.payload.specs.Unpack.{Buffers, unpackCheck, unpackOf}
 use Rattle.payload.specs.Pack.{packCheck, packOf}

@@ -11,9 +11,9 @@ use Rattle.words.specs.Outcome.{refused, accepted, Meets}
 use Rattle.words.proofs.Cases.{passed}
 use Rattle.payload.proofs.FormatLaws.{not-false}
 use Rattle.packet.specs.declared.Parts.{Parts}
-use Rattle.packet.specs.declared.Written.{Written}
-use Rattle.packet.specs.declared.Written.the-variants.{Refused}
-use Rattle.packet.specs.Write.{writeOf, writtenPaper}
+use Rattle.writing.specs.declared.Written.{Written}
+use Rattle.writing.specs.declared.Written.the-variants.{Refused}
+use Rattle.writing.specs.Write.{writeOf, writtenPaper}
 use Rattle.vrt49.specs.Packets.{partsOf, wordsChecks, writeWordsOf}
 
 -- there are fifteen

@@ -17,9 +17,9 @@ use Rattle.bitstream.specs.Carried.{needed}
 use Rattle.packet.specs.declared.Packet.{Packet}
 use Rattle.packet.specs.Parts.{packetOf}
 use Rattle.packet.specs.Read.{readOf}
-use Rattle.packet.specs.Write.{writeChecks, writeOf}
+use Rattle.writing.specs.Write.{writeChecks, writeOf}
 use Rattle.packet.proofs.ReadLaws.{read-accepts}
-use Rattle.packet.proofs.FitLaws.{writable}
+use Rattle.writing.proofs.FitLaws.{writable}
 use Rattle.payload.specs.Format.{formatBad, carriedBits}
 use Rattle.payload.specs.Count.{countBad, wordsFor, neededOf}
 use Rattle.payload.specs.Pack.{packCheck, packOf}

@@ -13,7 +13,7 @@ use Rattle.packet.specs.declared.Parts.{Parts}
 use Rattle.packet.specs.declared.Packet.{Packet}
 use Rattle.trailer.specs.declared.Trailer.{Trailer}
 use Rattle.packet.specs.Read.{readOf}
-use Rattle.packet.specs.Write.{writeOf}
+use Rattle.writing.specs.Write.{writeOf}
 use Rattle.trailer.specs.Trailer.{trailerOf, trailerWordOf}
 use Rattle.vrt49.specs.Answers.{oneValue, answering, answeringBeside}
 

@@ -4,7 +4,7 @@ ghost use Prim.Native.Nat.{_+_, _≤_, _<_};
 ghost use lib.ListN.{length, getD};
 ghost use Rattle.words.specs.Outcome.{numberOf, checked, Meets};
 ghost use Rattle.fields.specs.Layout.{fieldCount, contextOf};
-ghost use Rattle.packet.specs.Write.{writtenPaper};
+ghost use Rattle.writing.specs.Write.{writtenPaper};
 ghost use Rattle.vrt49.specs.Answers.{Gives, front};
 ghost use Rattle.vrt49.specs.Packets.{packetValues, wordsChecks, partsOf, writeWordsOf, readGives, writeGives, trailerGives, trailerWordGives, findGives};
 
@@ -100,14 +100,14 @@ fn parts_of(parts: &[u32]) -> packet::Parts
 }
 
 // Writes a packet whose parts are words.
-fn write_words(parts: &[u32], body: &[u32], out: &mut [u32], at: usize) -> packet::Written
+fn write_words(parts: &[u32], body: &[u32], out: &mut [u32], at: usize) -> writing::Written
     ensures { λ r. ⌜ Meets writtenPaper (writeWordsOf (now (parts .entry)) (now (body .entry)) (now (out .entry)) at) (now (out .entry)) r (now (out .exit)) ⌝ }
 {
     let checked = check_words(parts);
     if let words::Check::Refused(n) = checked {
-        return packet::Written::Refused(n);
+        return writing::Written::Refused(n);
     }
-    packet::write(parts_of(parts), body, out, at)
+    writing::write(parts_of(parts), body, out, at)
 }
 
 // Writes a packet from a word of a buffer on; answers ROOM for a short answer, COUNT for other than fifteen parts, or what writing refuses. One value, the words
@@ -126,8 +126,8 @@ pub extern "C" fn vrt49_write(
         return words::ROOM;
     }
     match write_words(parts, body, out, at) {
-        packet::Written::Refused(n) => n,
-        packet::Written::Accepted(n) => {
+        writing::Written::Refused(n) => n,
+        writing::Written::Accepted(n) => {
             answer[0] = n as u32;
             0
         }

@@ -1,9 +1,9 @@
-// Runs the cases of standard input with `packet::write`, `packet::read` and `trailer::trailer_word`, and writes what they answer and leave.
+// Runs the cases of standard input with `writing::write`, `packet::read` and `trailer::trailer_word`, and writes what they answer and leave.
 // A case begins with a word that says what is asked: 1 to write, 2 to read, write again and read again, 3 to make a trailer word.
 use packet::Parsed;
 use packet::Parts;
-use packet::Written;
 use trailer::TrailerWord;
+use writing::Written;
 
 // The line of a buffer: its words where they are few, and else their sum.
 fn show_buffer(words: &[u32]) {
@@ -71,7 +71,7 @@ fn next_parts() -> Parts {
 // Writes some parts and a body at a place of a buffer, and shows the answer and the buffer; whether it was accepted.
 fn write(parts: Parts, body: &[u32], out: &mut [u32], at: usize) -> bool {
     wordio::inner::pattern(out);
-    let written = show_written(packet::write(parts, body, out, at));
+    let written = show_written(writing::write(parts, body, out, at));
     show_buffer(out);
     written
 }

@@ -3,7 +3,7 @@ use mathlib.Core.Path.{ap}
 use mathlib.Core.List.{[], _∷_}
 use native.Mathlib.Omega.{arith}
 use Prim.Native.Nat.{_≤_}
-use Rattle.packet.specs.Write.{writtenPaper}
+use Rattle.writing.specs.Write.{writtenPaper}
 use Rattle.vrt49.specs.Packets.{writeWordsOf, writeGives}
 use Rattle.vrt49.proofs.AnswerLaws.{beside-room, beside-refused, beside-values, stored-front}
 use Rattle.vrt49.proofs.SmallLaws.{said, written-small}

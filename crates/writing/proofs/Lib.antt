@@ -1,0 +1,10 @@
+-- The laws of writing a packet, each beside its kin.
+
+-- what the checks of writing tell
+pub mod FitLaws
+-- the words of a packet by their pieces
+pub mod LayLaws
+-- a header that was made of parts, read again
+pub mod HeaderLaws
+-- two answers that meet the promise are equal
+pub mod Uniqueness

@@ -1,0 +1,29 @@
+-- `lay_one` meets its promise: a word that is there has its place.
+use mathlib.Core.Path.{refl, sym}
+use native.Mathlib.Nat.{add-zero}
+use native.Mathlib.Omega.{arith}
+use borrow.Author.Needs.{needs}
+use Rattle.writing.proofs.laying.lay_one.Statement.{statement}
+use Rattle.writing.proofs.laying.lay_one.Tie as tie
+
+mul-out : tie.Need-mul-out
+mul-out c = search needs
+
+slice-write-out : tie.Need-slice-write-out
+slice-write-out c = let h = rw (c .if1 .taken) at (c .before .pre) in omega arith
+
+add-result : tie.Need-add-result
+add-result c = search needs
+
+same-length : tie.Need-same-length
+same-length c = search needs
+
+returns : tie.Need-returns
+returns c = rw (c .if1 .taken) (record { past = refl; kept = refl })
+
+returns-2 : tie.Need-returns-2
+returns-2 c = rw (c .if1 .left) (record { past = sym (add-zero _); kept = refl })
+
+pub lay-one-spec : {M : Type 1} → statement M
+lay-one-spec =
+    tie.close (tie.spec mul-out slice-write-out add-result same-length returns returns-2)

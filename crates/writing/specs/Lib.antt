@@ -1,0 +1,2 @@
+-- What writing a packet answers and leaves.
+pub mod Write

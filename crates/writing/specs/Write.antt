@@ -1,0 +1,150 @@
+-- What writing a packet does. Document 01, 'Numbers given back': "Write: TYPE, VALUE, SHORT, SIZE, TIME, INDICATOR, LAYOUT, FIELD, ROOM";
+-- "A packet, its body given as words, is written into a part of a longer buffer that starts at the caller's chosen word."
+use Prim.Native.Nat.{ℕ, _+_, _/_, _%_, _^_}
+use mathlib.Core.Bool.{Bool, true, false, not}
+use mathlib.Core.List.{List, [], _∷_, _++_}
+use lib.Dec.{eqb, ltb}
+use lib.ListN.{length, take, drop}
+use Rattle.words.specs.Numbers.{TYPE, VALUE, SHORT, SIZE, TIME, ROOM}
+use Rattle.words.specs.Tests.{pick, when, both}
+use Rattle.words.specs.Word.{join}
+use Rattle.words.specs.Outcome.{Outcome, refused, accepted, after, Done}
+use Rattle.packet.specs.Header.{classed, trailed}
+use Rattle.packet.specs.Parts.{streamed, hasSeconds, hasFraction, bodyAt}
+use Rattle.packet.specs.Read.{timeOver, bodyChecks}
+use Rattle.packet.specs.declared.Parts.{Parts}
+use Rattle.writing.specs.declared.Written.{Written}
+use Rattle.writing.specs.declared.Written.the-variants.{Accepted, Refused}
+
+-- ---- the words of a packet
+
+abbrev pub bit : Bool → ℕ
+bit t = when t 1
+
+-- the header's fields from the right: size 15-0, count 19-16, TSF 21-20, TSI 23-22, TSM 24, 25, T 26, C 27, type 31-28
+abbrev pub headerWidths : List ℕ
+headerWidths = 16 ∷ 4 ∷ 2 ∷ 2 ∷ 1 ∷ 1 ∷ 1 ∷ 1 ∷ 4 ∷ []
+
+unfoldable pub headerWord : Parts → ℕ → ℕ
+headerWord p size =
+    join headerWidths (size ∷ p .count ∷ p .tsf ∷ p .tsi ∷ bit (p .tsm) ∷ 0 ∷ bit (p .trailed) ∷ bit (p .classed) ∷ p .kind ∷ [])
+
+-- the words of a packet whose body has n: which parts are there is what the header says, whatever size it has
+unfoldable pub sizeFor : Parts → ℕ → ℕ
+sizeFor p n = bodyAt (headerWord p 0) + n + when (trailed (headerWord p 0)) 1
+
+-- words that are there or not
+abbrev pub given : Bool → List ℕ → List ℕ
+given true ws = ws
+given false ws = []
+
+-- "the second has information and packet class"
+unfoldable pub classWord : ℕ → ℕ → ℕ
+classWord information packet = join (16 ∷ 16 ∷ []) (packet ∷ information ∷ [])
+
+-- "header; stream identifier (types 1, 3, 4, 5)"
+unfoldable pub headWords : ℕ → Parts → List ℕ
+headWords w p = (w ∷ []) ++ given (streamed w) (p .identifier ∷ [])
+
+-- "class (two words, if C)"
+unfoldable pub classWords : ℕ → Parts → List ℕ
+classWords w p = given (classed w) (p .oui ∷ classWord (p .information) (p .packet) ∷ [])
+
+-- "integer seconds (if TSI is not 0); fraction (two words, high first, if TSF is not 0)"
+unfoldable pub timeWords : ℕ → Parts → List ℕ
+timeWords w p = given (hasSeconds w) (p .seconds ∷ []) ++ given (hasFraction w) (p .fraction / 2 ^ 32 ∷ p .fraction % 2 ^ 32 ∷ [])
+
+-- what stands before the body
+unfoldable pub prologueWords : ℕ → Parts → List ℕ
+prologueWords w p = headWords w p ++ classWords w p ++ timeWords w p
+
+unfoldable pub trailerWords : ℕ → Parts → List ℕ
+trailerWords w p = given (trailed w) (p .trailer ∷ [])
+
+-- "body; trailer (if T)": the whole packet
+unfoldable pub packetWords : Parts → List ℕ → List ℕ
+packetWords p body =
+    let w = headerWord p (sizeFor p (length body)) in
+    prologueWords w p ++ body ++ trailerWords w p
+
+-- "absent parts are ignored and read back as zero": the parts as they are read back, under the header word w
+unfoldable pub plainParts : ℕ → Parts → Parts
+plainParts w p = record {
+  kind = p .kind;
+  classed = p .classed;
+  trailed = p .trailed;
+  tsm = p .tsm;
+  tsi = p .tsi;
+  tsf = p .tsf;
+  count = p .count;
+  identifier = when (streamed w) (p .identifier);
+  oui = when (classed w) (p .oui);
+  information = when (classed w) (p .information);
+  packet = when (classed w) (p .packet);
+  seconds = when (hasSeconds w) (p .seconds);
+  fraction = when (hasFraction w) (p .fraction);
+  trailer = when (trailed w) (p .trailer);
+}
+
+-- ---- VALUE: "a number to be written .. does not fit its bits or type"; "absent parts are ignored"
+
+-- TSI and TSF have two bits, the count four
+unfoldable pub codesFit : ℕ → ℕ → ℕ → Bool
+codesFit tsi tsf count = both (ltb tsi 4) (both (ltb tsf 4) (ltb count 16))
+
+-- "T asked of types 4-5, or TSM of 0-3, is VALUE"
+unfoldable pub flagsFit : ℕ → Bool → Bool → Bool
+flagsFit kind trailed tsm = pick (ltb kind 4) (not tsm) (not trailed)
+
+-- the OUI has 24 bits, information and packet class 16 each
+unfoldable pub classFits : Bool → ℕ → ℕ → ℕ → Bool
+classFits classed oui information packet =
+    pick classed (both (ltb oui (2 ^ 24)) (both (ltb information (2 ^ 16)) (ltb packet (2 ^ 16)))) true
+
+unfoldable pub partsFit : Parts → Bool
+partsFit p =
+    both (codesFit (p .tsi) (p .tsf) (p .count))
+    (both (flagsFit (p .kind) (p .trailed) (p .tsm))
+    (classFits (p .classed) (p .oui) (p .information) (p .packet)))
+
+-- ---- the refusals, in their order
+
+-- TYPE and VALUE
+unfoldable pub partsChecks : Parts → Outcome Unit
+partsChecks p =
+    pick (ltb 5 (p .kind)) (refused TYPE)
+    (pick (not (partsFit p)) (refused VALUE)
+    (accepted tt))
+
+-- SHORT, where a type 4 body has no indicator word; SIZE: "a packet to be written .. exceeds 65,535 words"; TIME
+unfoldable pub measureChecks : Parts → ℕ → Outcome Unit
+measureChecks p n =
+    pick (both (eqb (p .kind) 4) (eqb n 0)) (refused SHORT)
+    (pick (ltb 65535 (sizeFor p n)) (refused SIZE)
+    (pick (timeOver (p .tsf) (p .fraction)) (refused TIME)
+    (accepted tt)))
+
+-- ROOM: "A start past the end is ROOM"
+unfoldable pub roomChecks : ℕ → ℕ → ℕ → Outcome Unit
+roomChecks room at size = pick (ltb room (at + size)) (refused ROOM) (accepted tt)
+
+-- all of them; INDICATOR, LAYOUT and FIELD are those of reading
+unfoldable pub writeChecks : Parts → List ℕ → ℕ → ℕ → Outcome Unit
+writeChecks p body room at =
+    after (partsChecks p)
+    (after (measureChecks p (length body))
+    (after (bodyChecks (p .kind) body)
+    (roomChecks room at (sizeFor p (length body)))))
+
+-- ---- what writing answers and leaves: the number of words written, and the buffer with the packet at its place
+
+unfoldable pub writeOf : Parts → List ℕ → List ℕ → ℕ → Outcome (Done ℕ (List ℕ))
+writeOf p body out at =
+    let size = sizeFor p (length body) in
+    after (writeChecks p body (length out) at)
+    (accepted (record { says = size; leaves = take at out ++ packetWords p body ++ drop (at + size) out }))
+
+-- the number and values of an answer
+abbrev pub writtenPaper : Written → Outcome ℕ
+writtenPaper (Refused n) = refused n
+writtenPaper (Accepted n) = accepted n
