@@ -3,14 +3,14 @@
 use mathlib.Core.Path.{_≡_, sym, _∙_}
 use mathlib.Core.Bool.{Bool, true, false}
 use mathlib.Core.Logic.{⊎-elim}
-use mathlib.Core.List.{List}
+use mathlib.Core.List.{List, [], _∷_}
 use Prim.Native.Nat.{ℕ, _/_, _%_, _^_, _≤_, _<_}
 use native.Mathlib.Omega.{arith}
 use borrow.Author.Tests.{eqb-true, eq-eqb, ne-eqb, lt-ltb, le-ltb}
 use lib.Dec.{eqb, ltb}
 use lib.ListN.{take, drop, getD}
 use lib.Seq.{getD-take}
-use Rattle.words.specs.Tests.{both}
+use Rattle.words.specs.Tests.{pick, both, among}
 use Rattle.words.proofs.Cases.{true-or-false, le-or-lt, both-yes}
 use Rattle.fields.specs.Sizes.{sizeOf}
 use Rattle.fields.specs.Rules.{ruleOf, notNegative, upperHalfZero, deviceRule, stateRule, formatRule, asciiRule, listsRule}
@@ -51,6 +51,16 @@ pub byte-free : (u : ℕ) → u < 2 ^ 32 → eqb (u / 2 ^ 24 % 2 ^ 8) 0 ≡ ltb 
 byte-free u h =
     ⊎-elim (λ (g : 2 ^ 24 ≤ u). rw (ne-eqb (u / 2 ^ 24 % 2 ^ 8) 0 (λ e. omega arith), le-ltb u (2 ^ 24) g))
     (λ (g : u < 2 ^ 24). rw (eq-eqb (u / 2 ^ 24 % 2 ^ 8) 0 (omega arith), lt-ltb u (2 ^ 24) g)) (le-or-lt (2 ^ 24) u)
+
+-- no limit is below 2^16
+pub first-small : (b u : ℕ) → u < 2 ^ 16 → firstOk b u ≡ true
+unfolding firstOk limitOf
+first-small b u h =
+    let one : (t : Bool) (m n : ℕ) → (t ≡ true → ltb u m ≡ true) → (t ≡ false → ltb u n ≡ true) → ltb u (pick t m n) ≡ true =
+    λ t m n y z. ⊎-elim (λ (p : t ≡ true). rw p (y p)) (λ (p : t ≡ false). rw p (z p)) (true-or-false t) in
+    one (among b (29 ∷ 21 ∷ [])) (2 ^ 31) _ (λ p. lt-ltb u (2 ^ 31) (omega arith))
+    (λ p. one (among b (24 ∷ 18 ∷ [])) (2 ^ 16) _ (λ q. lt-ltb u (2 ^ 16) h)
+    (λ q. one (among b (17 ∷ 9 ∷ [])) (2 ^ 24) (2 ^ 32) (λ r. lt-ltb u (2 ^ 24) (omega arith)) (λ r. lt-ltb u (2 ^ 32) (omega arith))))
 
 abbrev Limited : ℕ → List ℕ → Type 0
 Limited b ws = ruleOf b ws ≡ both (firstOk b (getD ws 0 0)) (moreOk b ws)

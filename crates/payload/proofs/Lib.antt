@@ -6,6 +6,8 @@ pub use Rattle.payload_format.proofs.FormatLaws
 pub use Rattle.payload_format.proofs.FieldLaws
 -- fields taken from words, one after the other
 pub mod ReadingLaws
+-- bits of words from any bit on
+pub mod WindowLaws
 -- what is known where nothing of unpacking is refused, and what it then leaves
 pub mod UnpackLaws
 -- the same of packing

@@ -1,5 +1,6 @@
 // Packed samples: items and their tags in the words of a payload, under a payload format.
 mod unpacking;
+mod window;
 
 pub use packing::Packed;
 pub use packing::pack;

@@ -1,6 +1,7 @@
 // Unpacking: items and their tags from words.
 ghost use mathlib.Core.Path.{_≡_};
-ghost use Prim.Native.Nat.{_+_, _*_, _≤_};
+ghost use Prim.Native.Nat.{ℕ, _+_, _*_, _≤_, _<_};
+ghost use mathlib.Core.List.{List};
 ghost use lib.ListN.{length, getD};
 ghost use Rattle.words.specs.Word.{highFirst};
 ghost use Rattle.words.specs.Outcome.{checked, Meets};
@@ -8,6 +9,7 @@ ghost use Rattle.bitstream.specs.Filled.{filled};
 ghost use Rattle.payload.specs.Unpack.{buffers, unpacked, unpackCheck, unpackOf, Unpackable};
 ghost use Rattle.payload_format.specs.Field.{itemIn, fieldIn};
 ghost use Rattle.payload.specs.Answers.{unpackedPaper};
+use crate::window;
 use bitstream::inner::accumulator::Held;
 use bitstream::inner::accumulator::take_field;
 use bitstream::inner::accumulator::take_item;
@@ -58,25 +60,14 @@ fn unpack_check(
     Check::Fine
 }
 
-// Zero in the first n places.
-fn clear_events(n: usize, events: &mut [u8])
-    requires { ⌜ n ≤ length (now events) ⌝ }
-    ensures { λ _. ⌜ now (events .exit) ≡ filled n (λ k. 0) (now (events .entry)) ⌝ }
+// Zero in the first n places of both. One loop for the two: a loop of one store is compiled to `memset`, which is counted by the byte.
+fn clear_tags(n: usize, events: &mut [u8], channels: &mut [u16])
+    requires { ⌜ (n ≤ length (now events)) × (n ≤ length (now channels)) ⌝ }
+    ensures { λ _. ⌜ (now (events .exit) ≡ filled n (λ k. 0) (now (events .entry))) × (now (channels .exit) ≡ filled n (λ k. 0) (now (channels .entry))) ⌝ }
 {
     let mut k = 0;
     while k < n {
         events[k] = 0;
-        k += 1;
-    }
-}
-
-// Zero in the first n places.
-fn clear_channels(n: usize, channels: &mut [u16])
-    requires { ⌜ n ≤ length (now channels) ⌝ }
-    ensures { λ _. ⌜ now (channels .exit) ≡ filled n (λ k. 0) (now (channels .entry)) ⌝ }
-{
-    let mut k = 0;
-    while k < n {
         channels[k] = 0;
         k += 1;
     }
@@ -108,30 +99,62 @@ fn unpack_items(p: Packing, n: usize, words: &[u32], items: &mut [u64])
     }
 }
 
-// The items of the first n fields, of more than 32 bits.
-fn unpack_wide(p: Packing, n: usize, words: &[u32], items: &mut [u64])
-    requires { ⌜ Unpackable p n (now words) (length (now items)) ⌝ }
-    ensures { λ _. ⌜ now (items .exit) ≡ filled n (λ k. itemIn p (fieldIn p (now (words .entry)) k)) (now (items .entry)) ⌝ }
+// How many of n fields of f bits have a whole word behind them.
+fn leading(f: usize, n: usize) -> usize
+    requires { ⌜ 0 < f ⌝ }
+    ensures { λ r. ⌜ (r ≤ n) × (0 < r → f * r + 32 ≤ f * n) ⌝ }
 {
-    let c = p.carry;
+    let last = 32 / f + 1;
+    if n < last {
+        return 0;
+    }
+    n - last
+}
+
+// The items of the fields from one on, where all bits of a word carry fields.
+fn unpack_rest(p: Packing, from: usize, n: usize, words: &[u32], items: &mut [u64])
+    requires { ⌜ Unpackable p n (now words) (length (now items)) × (p .carry ≡ 32) × (from ≤ n) ⌝ }
+    ensures { λ _. ⌜ ((l : List ℕ) → now (items .entry) ≡ filled from (λ k. itemIn p (fieldIn p (now (words .entry)) k)) l → now (items .exit) ≡ filled n (λ k. itemIn p (fieldIn p (now (words .entry)) k)) l) ⌝ }
+{
     let f = p.field;
-    let up = p.field - p.item;
-    let mut s = Held {
-        acc: 0,
-        have: 0,
-        at: 0,
-    };
-    let mut k: usize = 0;
+    let down = 64 - p.item;
+    let mut k = from;
     while k < n {
-        let t = take_field(c, f, s, words);
-        items[k] = t.value >> up;
-        s = Held {
-            acc: t.acc,
-            have: t.have,
-            at: t.at,
-        };
+        items[k] = window::bits_past(words, k * f) >> down;
         k += 1;
     }
+}
+
+// The items of the first n fields, of at most 32 bits, where all bits of a word carry fields.
+fn unpack_narrow(p: Packing, n: usize, words: &[u32], items: &mut [u64])
+    requires { ⌜ Unpackable p n (now words) (length (now items)) × (p .carry ≡ 32) × (p .field ≤ 32) ⌝ }
+    ensures { λ _. ⌜ now (items .exit) ≡ filled n (λ k. itemIn p (fieldIn p (now (words .entry)) k)) (now (items .entry)) ⌝ }
+{
+    let f = p.field;
+    let down = 32 - p.item;
+    let m = leading(f, n);
+    let mut k: usize = 0;
+    while k < m {
+        items[k] = (window::bits(words, k * f) >> down) as u64;
+        k += 1;
+    }
+    unpack_rest(p, m, n, words, items);
+}
+
+// The items of the first n fields, of more than 32 bits.
+fn unpack_wide(p: Packing, n: usize, words: &[u32], items: &mut [u64])
+    requires { ⌜ Unpackable p n (now words) (length (now items)) × (32 < p .field) ⌝ }
+    ensures { λ _. ⌜ now (items .exit) ≡ filled n (λ k. itemIn p (fieldIn p (now (words .entry)) k)) (now (items .entry)) ⌝ }
+{
+    let f = p.field;
+    let down = 64 - p.item;
+    let m = leading(f, n);
+    let mut k: usize = 0;
+    while k < m {
+        items[k] = window::bits_wide(words, k * f) >> down;
+        k += 1;
+    }
+    unpack_rest(p, m, n, words, items);
 }
 
 // The items that are words.
@@ -173,6 +196,10 @@ fn unpack_plain(p: Packing, n: usize, words: &[u32], items: &mut [u64])
     }
     if p.item == 32 {
         unpack_words(n, words, items);
+        return;
+    }
+    if p.carry == 32 {
+        unpack_narrow(p, n, words, items);
         return;
     }
     unpack_items(p, n, words, items);
@@ -229,9 +256,8 @@ fn unpack_fields(
     ensures { λ _. ⌜ buffers (now (items .exit)) (now (events .exit)) (now (channels .exit)) ≡ unpacked p n (now (words .entry)) (buffers (now (items .entry)) (now (events .entry)) (now (channels .entry))) ⌝ }
 {
     if p.event + p.channel == 0 {
+        clear_tags(n, events, channels);
         unpack_plain(p, n, words, items);
-        clear_events(n, events);
-        clear_channels(n, channels);
         return;
     }
     unpack_tagged(p, n, words, items, events, channels);

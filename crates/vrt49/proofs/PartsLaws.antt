@@ -1,19 +1,20 @@
 -- The parts of a packet as words: what their checks let through, and what writing answers behind them.
-use mathlib.Core.Path.{_≡_, refl}
+use mathlib.Core.Path.{_≡_, refl, sym}
 use mathlib.Core.Bool.{not}
 use mathlib.Core.List.{List}
-use Prim.Native.Nat.{ℕ, _<_}
+use Prim.Native.Nat.{ℕ, _^_, _<_}
 use native.Mathlib.Omega.{arith}
 use borrow.Author.Tests.{eqb-true, ltb-false}
 use lib.Dec.{eqb, ltb}
 use lib.ListN.{length, getD}
+use lib.Pow.{high, low}
 use Rattle.words.specs.Outcome.{refused, accepted, Meets}
 use Rattle.words.proofs.Cases.{passed}
 use Rattle.payload.proofs.FormatLaws.{not-false}
 use Rattle.packet.specs.declared.Parts.{Parts}
 use Rattle.writing.specs.declared.Written.{Written}
 use Rattle.writing.specs.declared.Written.the-variants.{Refused}
-use Rattle.writing.specs.Write.{writeOf, writtenPaper}
+use Rattle.writing.specs.Write.{Given, writeOf, writtenPaper}
 use Rattle.vrt49.specs.Packets.{partsOf, wordsChecks, writeWordsOf}
 
 -- there are fifteen
@@ -40,3 +41,20 @@ module _ (ws body out : List ℕ) (at : ℕ) where
       → Meets writtenPaper (writeWordsOf ws body out at) out r left
   unfolding writeWordsOf
   words-written p r left e q m = rw (e, ← q) m
+
+-- fifteen words give the parts that writing reads in them
+pub parts-given : (ws : List ℕ) (p : Parts) → length ws ≡ 15 → getD ws 13 0 < 2 ^ 32 → p ≡ partsOf ws → Given ws p
+unfolding partsOf
+parts-given ws p l h e =
+    rw e
+    (record {
+      long = l;
+      identifier = refl;
+      oui = refl;
+      information = refl;
+      packet = refl;
+      seconds = refl;
+      high = sym (high (getD ws 12 0) 32 h);
+      low = sym (low (getD ws 12 0) 32 h);
+      trailer = refl;
+    })

@@ -107,7 +107,7 @@ fn write_words(parts: &[u32], body: &[u32], out: &mut [u32], at: usize) -> writi
     if let words::Check::Refused(n) = checked {
         return writing::Written::Refused(n);
     }
-    writing::write(parts_of(parts), body, out, at)
+    writing::inner::write_given(parts_of(parts), parts, body, out, at)
 }
 
 // Writes a packet from a word of a buffer on; answers ROOM for a short answer, COUNT for other than fifteen parts, or what writing refuses. One value, the words

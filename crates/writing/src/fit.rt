@@ -1,6 +1,6 @@
 // The refusals of writing. Each number of the list is given in one place, but for those that reading has too.
 ghost use mathlib.Core.Path.{_≡_};
-ghost use Prim.Native.Nat.{_≤_};
+ghost use Prim.Native.Nat.{_+_, _≤_};
 ghost use Rattle.words.specs.Outcome.{checked};
 ghost use Rattle.writing.specs.Write.{sizeFor, codesFit, flagsFit, classFits, partsChecks, measureChecks, roomChecks};
 
@@ -48,16 +48,16 @@ pub fn check_parts(p: packet::Parts) -> words::Check
     words::Check::Refused(words::VALUE)
 }
 
-// SHORT, SIZE and TIME, of a packet of a size with a body of n words.
+// SHORT, SIZE and TIME, of a packet of a size with a body of n words. No packet is refused for both of the first two.
 pub fn check_measure(p: packet::Parts, n: usize, size: usize) -> words::Check
-    requires { ⌜ size ≡ sizeFor p n ⌝ }
+    requires { ⌜ (size ≡ sizeFor p n) × (size ≤ n + 8) ⌝ }
     ensures { λ r. ⌜ checked r ≡ measureChecks p n ⌝ }
 {
-    if words::inner::both_of(p.kind == 4, n == 0) {
-        return words::Check::Refused(words::SHORT);
-    }
     if 65535 < size {
         return words::Check::Refused(words::SIZE);
+    }
+    if words::inner::both_of(p.kind == 4, n == 0) {
+        return words::Check::Refused(words::SHORT);
     }
     if packet::inner::time_over(p.tsf, p.fraction) {
         return words::Check::Refused(words::TIME);
@@ -70,10 +70,10 @@ pub fn check_room(room: usize, at: usize, size: usize) -> words::Check
     requires { ⌜ 1 ≤ size ⌝ }
     ensures { λ r. ⌜ checked r ≡ roomChecks room at size ⌝ }
 {
-    if room < size {
+    if room < at {
         return words::Check::Refused(words::ROOM);
     }
-    if room - size < at {
+    if room - at < size {
         return words::Check::Refused(words::ROOM);
     }
     words::Check::Fine

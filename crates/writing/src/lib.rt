@@ -1,5 +1,6 @@
 // A packet written into words, from its parts and its body.
 mod fit;
+pub mod inner;
 mod laying;
 
 ghost use Rattle.words.specs.Outcome.{Meets};
@@ -16,24 +17,23 @@ pub enum Written {
 pub fn write(parts: packet::Parts, body: &[u32], out: &mut [u32], at: usize) -> Written
     ensures { λ r. ⌜ Meets writtenPaper (writeOf parts (now (body .entry)) (now (out .entry)) at) (now (out .entry)) r (now (out .exit)) ⌝ }
 {
-    let found = fit::check_parts(parts);
-    if let words::Check::Refused(n) = found {
-        return Written::Refused(n);
-    }
-    let w = laying::header_word(parts);
-    let size = laying::size_for(w, body.len());
-    let measure = fit::check_measure(parts, body.len(), size);
-    if let words::Check::Refused(n) = measure {
-        return Written::Refused(n);
-    }
-    let context = packet::inner::check_body(parts.kind, body);
-    if let words::Check::Refused(n) = context {
-        return Written::Refused(n);
-    }
-    let room = fit::check_room(out.len(), at, size);
-    if let words::Check::Refused(n) = room {
-        return Written::Refused(n);
-    }
-    laying::lay(w, size, parts, body, out, at);
-    Written::Accepted(size)
+    let fraction = parts.fraction;
+    let q = [
+        0,
+        0,
+        0,
+        0,
+        0,
+        0,
+        0,
+        parts.identifier,
+        parts.oui,
+        parts.information,
+        parts.packet,
+        parts.seconds,
+        (fraction / 0x1_0000_0000) as u32,
+        (fraction % 0x1_0000_0000) as u32,
+        parts.trailer,
+    ];
+    inner::write_given(parts, &q, body, out, at)
 }

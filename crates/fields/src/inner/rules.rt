@@ -1,30 +1,29 @@
 // The field rules, each of the field that stands at a place of a body.
 ghost use mathlib.Core.Path.{_≡_};
-ghost use Prim.Native.Nat.{_^_, _<_};
-ghost use lib.ListN.{drop};
+ghost use mathlib.Core.List.{List};
+ghost use Prim.Native.Nat.{ℕ, _^_, _<_};
+ghost use lib.ListN.{drop, getD};
 ghost use Rattle.fields.specs.Rules.{stateRule, formatRule, listsRule, ruleOf};
 ghost use Rattle.fields.specs.Limits.{limitOf, firstOk, deviceSecond, moreOk};
 
-// State (16).
-fn state_ok(body: &[u32], at: usize) -> bool
-    ensures { λ r. ⌜ r ≡ stateRule (drop at (now (body .entry))) ⌝ }
+// State (16), by its word.
+fn state_ok(u: u32) -> bool
+    ensures { λ r. ⌜ ((ws : List ℕ) → u ≡ getD ws 0 0 → r ≡ stateRule ws) ⌝ }
 {
-    let u = words::inner::word_at(body, at);
     words::inner::both_of(u / 0x10_0000 % 16 == 0, u / 256 % 16 == 0)
 }
 
-// Format (15).
-fn format_at(body: &[u32], at: usize) -> bool
-    ensures { λ r. ⌜ r ≡ formatRule (drop at (now (body .entry))) ⌝ }
+// Format (15), by its first word.
+fn format_at(u: u32) -> bool
+    ensures { λ r. ⌜ ((ws : List ℕ) → u ≡ getD ws 0 0 → r ≡ formatRule ws) ⌝ }
 {
-    crate::inner::format::format_ok(words::inner::word_at(body, at))
+    crate::inner::format::format_ok(u)
 }
 
-// Field 8.
-fn lists_ok(body: &[u32], at: usize) -> bool
-    ensures { λ r. ⌜ r ≡ listsRule (drop at (now (body .entry))) ⌝ }
+// Field 8, by its first word.
+fn lists_ok(u: u32) -> bool
+    ensures { λ r. ⌜ ((ws : List ℕ) → u ≡ getD ws 0 0 → r ≡ listsRule ws) ⌝ }
 {
-    let u = words::inner::word_at(body, at);
     words::inner::both_of(u / 0x200_0000 % 128 == 0, u / 512 % 128 == 0)
 }
 
@@ -54,37 +53,39 @@ fn limit_of(bit: u32) -> u64
     0x1_0000_0000
 }
 
-// Whether the first word of the field of a bit is below its limit.
+// Whether the first word of the field of a bit is below its limit. No limit is below 2^16.
 pub fn first_ok(bit: u32, word: u32) -> bool
     ensures { λ r. ⌜ (r ≡ firstOk bit word) × (word < 2 ^ 32) ⌝ }
 {
+    if word < 0x1_0000 {
+        return true;
+    }
     (word as u64) < limit_of(bit)
 }
 
 // Device's (17) second word.
-fn device_ok(body: &[u32], at: usize) -> bool
-    requires { ⌜ at < 2 ^ 40 ⌝ }
-    ensures { λ r. ⌜ r ≡ deviceSecond (drop at (now (body .entry))) ⌝ }
+fn device_ok(v: u32) -> bool
+    ensures { λ r. ⌜ ((ws : List ℕ) → v ≡ getD ws 1 0 → r ≡ deviceSecond ws) ⌝ }
 {
-    words::inner::word_at(body, at + 1) / 0x1_0000 % 0x1_0000 == 0
+    v / 0x1_0000 % 0x1_0000 == 0
 }
 
-// What the rules say beside the limit of the first word; nothing for a bit above 17.
-pub fn more_ok(bit: u32, body: &[u32], at: usize) -> bool
-    requires { ⌜ at < 2 ^ 40 ⌝ }
-    ensures { λ r. ⌜ r ≡ moreOk bit (drop at (now (body .entry))) ⌝ }
+// What the rules say of a field's first two words beside the limit of the first; nothing for a bit above 17. They are given as numbers: a slice that is lent
+// in a loop is kept in memory there.
+pub fn more_ok(bit: u32, u: u32, v: u32) -> bool
+    ensures { λ r. ⌜ ((ws : List ℕ) → u ≡ getD ws 0 0 → v ≡ getD ws 1 0 → r ≡ moreOk bit ws) ⌝ }
 {
     if bit == 17 {
-        return device_ok(body, at);
+        return device_ok(v);
     }
     if bit == 16 {
-        return state_ok(body, at);
+        return state_ok(u);
     }
     if bit == 15 {
-        return format_at(body, at);
+        return format_at(u);
     }
     if bit == 8 {
-        return lists_ok(body, at);
+        return lists_ok(u);
     }
     true
 }
@@ -99,7 +100,7 @@ pub fn rule_at(bit: u32, body: &[u32], at: usize) -> bool
         if 17 < bit {
             return true;
         }
-        return more_ok(bit, body, at);
+        return more_ok(bit, word, words::inner::word_at(body, at + 1));
     }
     false
 }

@@ -107,7 +107,7 @@ fn rule_good(bit: u32, slot: &[u32]) -> bool
         if 17 < bit {
             return true;
         }
-        return fields::inner::more_ok(bit, slot, 0);
+        return fields::inner::more_ok(bit, slot[0], words::inner::word_at(slot, 1));
     }
     false
 }

@@ -33,6 +33,15 @@ same-length-3 c = search needs
 returns-3 : tie.Need-returns-3
 returns-3 c = c .before .before .unpack-words .ensures ∙ plain-words (c .before .before .before .before .before .before .before .before .before .before .before .before .args .p) (c .before .before .before .before .before .before .before .before .before .before .before .before .args .n) _ (c .before .before .before .before .before .before .before .before .before .before .before .before .args .words .now) (c .before .before .before .before .before .before .before .before .before .before .before .before .args .items .now) (c .before .before .before .before .before .before .before .before .before .before .before .before .pre) (λ j. omega (arith, c .before .before .before .before .before .before .before .before .before .before .before .shared-slice-known .given j)) (c .before .before .before .before .if3 .taken) (c .before .before .before .before .before .before .if2 .left)
 
+unpack-narrow-requires : tie.Need-unpack-narrow-requires
+unpack-narrow-requires c κs = search needs
+
+same-length-5 : tie.Need-same-length-5
+same-length-5 c = search needs
+
+returns-5 : tie.Need-returns-5
+returns-5 c = search needs
+
 unpack-items-requires : tie.Need-unpack-items-requires
 unpack-items-requires c κs = search needs
 
@@ -55,6 +64,9 @@ unpack-plain-spec =
     unpack-words-requires
     same-length-3
     returns-3
-    unpack-items-requires
+    unpack-narrow-requires
     same-length-4
-    returns-4)
+    returns-4
+    unpack-items-requires
+    same-length-5
+    returns-5)

@@ -1,56 +1,68 @@
--- `unpack_wide` meets its promise. The invariant: k fields are taken (`Reading`), and their items stand in the first k places.
-use Rattle.payload.proofs.ReadingLaws.{Reading, reading-start, reading-can, reading-field, reading-next}
+-- `unpack_wide` meets its promise. The invariant: the first k places are filled, up to the last fields, which `unpack_rest` takes.
+use Rattle.bitstream.specs.Stream.{span}
+use Rattle.bitstream.specs.Carried.{carried}
 use Rattle.bitstream.specs.Filled.{filled}
-use Rattle.bitstream.specs.Carried.{fieldOf}
 use Rattle.bitstream.proofs.FilledLaws.{filled-long, filled-none, filled-more}
-use mathlib.Core.Path.{ap, _≡_}
-use Prim.Native.Nat.{ℕ, _-_, _/_, _^_, _≤_}
+use Rattle.payload.proofs.WindowLaws.{fronts, place-small, room-wide}
+use mathlib.Core.Path.{_≡_, ap, _∙_}
+use Prim.Native.Nat.{ℕ, _-_, _*_, _/_, _^_, _≤_}
+use lib.ListN.{length}
 use native.Mathlib.Omega.{arith}
 use borrow.Author.Needs.{needs}
 use Rattle.payload.proofs.unpacking.unpack_wide.Statement.{statement}
 use Rattle.payload.proofs.unpacking.unpack_wide.Tie as tie
 
 abbrev Inv-loop : tie.InvT-loop
-Inv-loop n words items₀ c f up s₀ k₀ items s k = (k ≤ n) × (items ≡ filled k (λ j. fieldOf c f words j / 2 ^ up) items₀) × Reading c f words s k
+Inv-loop p n words items₀ f down m k₀ items k = (k ≤ m) × (items ≡ filled k (λ j. span 32 (carried 32 words) (j * f) 64 / 2 ^ down) items₀)
 
 abbrev μ-loop : tie.MeasureT-loop
-μ-loop n words items₀ c f up s₀ k₀ items s k = n - k
+μ-loop p n words items₀ f down m k₀ items k = m - k
 
-sub-up : tie.Need-sub-up Inv-loop μ-loop
-sub-up c = search needs
+mul-bits : tie.Need-mul-bits-wide Inv-loop μ-loop
+mul-bits c =
+    let head : tie.At-loop Inv-loop μ-loop = search in
+    let lead : tie.After-leading Inv-loop μ-loop = search in
+    let start : tie.Start Inv-loop μ-loop = search in
+    record { fits = omega (arith, place-small (start .args .p .field) (start .args .n) (head .loop .k) (start .pre .0 .legal .few) (start .pre .0 .few) (omega (arith, c .loop-test .taken, lead .leading .ensures .0))) }
 
-loop-holds : tie.Need-loop-holds Inv-loop μ-loop
-loop-holds c = (omega arith, filled-none _ _, reading-start _ _ _ (c .before .before .before .pre .legal .some))
-
-take-field-requires : tie.Need-take-field-requires Inv-loop μ-loop
-take-field-requires c κs = reading-can _ _ _ _ _ _ (c .before .before .before .before .before .pre) (c .loop-test .taken) (c .before .loop .inv .2)
-
-shr-items : tie.Need-shr-items Inv-loop μ-loop
-shr-items c = search needs
-
-mul-items : tie.Need-mul-items Inv-loop μ-loop
-mul-items c = search needs
-
-slice-write-items : tie.Need-slice-write-items Inv-loop μ-loop
-slice-write-items c = omega (arith, filled-long _ _ _ _ (c .before .before .before .loop .inv .1))
-
-add-k : tie.Need-add-k Inv-loop μ-loop
-add-k c = search needs
-
-loop-less : tie.Need-loop-less Inv-loop μ-loop
-loop-less c = search needs
+bits-requires : tie.Need-bits-wide-requires Inv-loop μ-loop
+bits-requires c κs =
+    let head : tie.At-loop Inv-loop μ-loop = search in
+    let lead : tie.After-leading Inv-loop μ-loop = search in
+    let start : tie.Start Inv-loop μ-loop = search in
+    let u = start .pre .0 in
+    let there : start .args .p .field * start .args .n ≤ length (start .args .words .now) * 32 = rw (start .pre .0 .legal .wide (start .pre .1)) at (u .there) in
+    room-wide (start .args .p .field) (lead .leading .result) (start .args .n) (head .loop .k) (length (start .args .words .now)) (lead .leading .ensures .1) there (c .loop-test .taken) (start .pre .1)
 
 loop-again : tie.Need-loop-again Inv-loop μ-loop
 loop-again c =
-    let i = c .before .before .before .loop .inv in
-    let t = c .before .take-field .ensures in
-    (omega arith, filled-more _ _ _ _ _ (i .1) (ap (λ (x : ℕ). x / 2 ^ (c .before .before .before .before .before .before .before .args .p .field - c .before .before .before .before .before .before .before .args .p .item)) (reading-field (i .2) t)), reading-next (i .2) t)
+    let head : tie.At-loop Inv-loop μ-loop = search in
+    let start : tie.Start Inv-loop μ-loop = search in
+    (omega arith, filled-more _ _ _ _ _ (head .loop .inv .1) (ap (λ (x : ℕ). x / 2 ^ (64 - start .args .p .item)) (c .bits-wide .ensures)))
+
+unpack-rest-requires : tie.Need-unpack-rest-requires Inv-loop μ-loop
+unpack-rest-requires c κs =
+    let head : tie.At-loop Inv-loop μ-loop = search in
+    let lead : tie.After-leading Inv-loop μ-loop = search in
+    let start : tie.Start Inv-loop μ-loop = search in
+    let u = start .pre .0 in
+    (record { legal = u .legal; few = u .few; there = u .there; places = omega (arith, u .places, filled-long _ _ _ _ (head .loop .inv .1)) }, (start .pre .0 .legal .wide (start .pre .1)), lead .leading .ensures .0)
 
 same-length : tie.Need-same-length Inv-loop μ-loop
-same-length c = filled-long _ _ _ _ (c .before .loop .inv .1)
+same-length c =
+    let head : tie.At-loop Inv-loop μ-loop = search in
+    c .before .before .unpack-rest .kept .1 .1 .1 .1 .0 ∙ filled-long _ _ _ _ (head .loop .inv .1)
 
 returns : tie.Need-returns Inv-loop μ-loop
-returns c = let e : c .before .loop .k ≡ c .before .before .before .before .before .args .n = omega arith in rw e at (c .before .loop .inv .1)
+returns c =
+    let rest : tie.After-unpack-rest Inv-loop μ-loop = search in
+    let head : tie.At-loop Inv-loop μ-loop = search in
+    let lead : tie.After-leading Inv-loop μ-loop = search in
+    let start : tie.Start Inv-loop μ-loop = search in
+    let u = start .pre .0 in
+    let e : head .loop .k ≡ lead .leading .result = omega arith in
+    rest .unpack-rest .ensures (start .args .items .now)
+    (rw e at (head .loop .inv .1) ∙ fronts (start .args .p) 64 (lead .leading .result) (start .args .words .now) (start .args .items .now) (start .pre .0 .legal .wide (start .pre .1)) (omega (arith, u .legal .parts)) (omega (arith, u .legal .parts, u .legal .few)))
 
 pub unpack-wide-spec : {M : Type 1} → statement M
 unpack-wide-spec =
@@ -58,14 +70,17 @@ unpack-wide-spec =
     (tie.spec
     Inv-loop
     μ-loop
-    sub-up
-    loop-holds
-    take-field-requires
-    shr-items
-    mul-items
-    slice-write-items
-    add-k
-    loop-less
+    (λ c. let start : tie.Start Inv-loop μ-loop = search in omega (arith, start .pre .0 .legal .parts, start .pre .0 .legal .few))
+    (λ c κs. let start : tie.Start Inv-loop μ-loop = search in omega (arith, start .pre .0 .legal .item, start .pre .0 .legal .parts))
+    (λ c. (omega arith, filled-none _ _))
+    mul-bits
+    bits-requires
+    (λ c. let start : tie.Start Inv-loop μ-loop = search in omega (arith, start .pre .0 .legal .item))
+    (λ c. search needs)
+    (λ c. let head : tie.At-loop Inv-loop μ-loop = search in let lead : tie.After-leading Inv-loop μ-loop = search in let start : tie.Start Inv-loop μ-loop = search in omega (arith, filled-long _ _ _ _ (head .loop .inv .1), start .pre .0 .places, lead .leading .ensures .0))
+    (λ c. search needs)
+    (λ c. search needs)
     loop-again
+    unpack-rest-requires
     same-length
     returns)

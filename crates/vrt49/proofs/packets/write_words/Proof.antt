@@ -1,7 +1,8 @@
 -- `write_words` meets its promise: what the checks refuse, and else what writing answers.
 use mathlib.Core.Path.{sym, ap, _∙_}
 use Rattle.words.specs.Outcome.{checked}
-use Rattle.vrt49.proofs.PartsLaws.{fifteen, flags-small, words-refused, words-written}
+use Rattle.vrt49.proofs.PartsLaws.{fifteen, flags-small, words-refused, words-written, parts-given}
+use native.Mathlib.Omega.{arith}
 use borrow.Author.Needs.{needs}
 use Rattle.vrt49.proofs.packets.write_words.Statement.{statement}
 use Rattle.vrt49.proofs.packets.write_words.Tie as tie
@@ -24,8 +25,14 @@ parts-of-requires c κs =
     let f = flags-small _ e in
     (fifteen _ e, f .0, f .1, f .2)
 
-write-requires : tie.Need-write-requires
-write-requires c κs = search needs
+write-given-requires : tie.Need-write-given-requires
+write-given-requires c κs =
+    let made : tie.After-parts-of = search in
+    let told : tie.After-enum-told = search in
+    let checked-words : tie.After-check-words = search in
+    let known : tie.After-shared-slice-known = search in
+    let start : tie.Start = search in
+    parts-given (start .args .parts .now) _ (fifteen _ (sym (checked-words .check-words .ensures) ∙ ap checked (told .enum-told .given .1))) (omega (arith, known .shared-slice-known .given 13)) (made .parts-of .ensures)
 
 same-length : tie.Need-same-length
 same-length c = search needs
@@ -33,7 +40,7 @@ same-length c = search needs
 returns-2 : tie.Need-returns-2
 returns-2 c =
     let k = c .before .before .before .before in
-    words-written _ _ _ _ _ _ _ (sym (k .before .before .before .check-words .ensures) ∙ ap checked (k .before .enum-told .given .1)) (k .parts-of .ensures) (c .before .before .write .ensures)
+    words-written _ _ _ _ _ _ _ (sym (k .before .before .before .check-words .ensures) ∙ ap checked (k .before .enum-told .given .1)) (k .parts-of .ensures) (c .before .before .write-given .ensures)
 
 pub write-words-spec : {M : Type 1} → statement M
 write-words-spec =
@@ -44,6 +51,6 @@ write-words-spec =
     returns
     enum-told
     parts-of-requires
-    write-requires
+    write-given-requires
     same-length
     returns-2)

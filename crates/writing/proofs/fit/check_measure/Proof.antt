@@ -1,38 +1,49 @@
 -- `check_measure` meets its promise: each return is a line of the chain.
 use Rattle.words.proofs.Cases.{cases}
 use Rattle.writing.specs.Write.{measureChecks}
+use mathlib.Core.Path.{_≡_, refl}
+use mathlib.Core.Bool.{Bool, true, false}
+use Rattle.words.specs.Tests.{both}
+use lib.Dec.{eqb}
+use native.Mathlib.Omega.{arith}
+use borrow.Author.Tests.{ne-eqb, lt-ltb}
 use borrow.Author.Needs.{needs}
 use Rattle.writing.proofs.fit.check_measure.Statement.{statement}
 use Rattle.writing.proofs.fit.check_measure.Tie as tie
 
-both-of-requires : tie.Need-both-of-requires
-both-of-requires c κs = search needs
+-- a body that has words is not SHORT
+both-no : (a : Bool) → both a false ≡ false
+both-no true = refl
+both-no false = refl
 
 returns : tie.Need-returns
 unfolding measureChecks
-returns c = search (cases, ← c .before .both-of .ensures, c .if1 .taken)
+returns c =
+    let s : tie.Start = search in
+    let some : eqb (s .args .n) 0 ≡ false = ne-eqb (s .args .n) 0 (λ e. omega (arith, s .pre .1, c .if1 .taken)) in
+    rw (some, both-no, ← s .pre .0, lt-ltb 65535 (s .args .size) (c .if1 .taken))
 
 returns-2 : tie.Need-returns-2
 unfolding measureChecks
 returns-2 c =
-    let b = c .before .before in
-    search (cases, ← b .both-of .ensures, c .before .if1 .left, ← b .before .before .pre)
-
-time-over-requires : tie.Need-time-over-requires
-time-over-requires c κs = search needs
+    let b : tie.After-both-of = search in
+    search (cases, ← b .both-of .ensures, c .if2 .taken)
 
 returns-3 : tie.Need-returns-3
 unfolding measureChecks
 returns-3 c =
-    let b = c .before .before .before .before in
-    search (cases, ← b .both-of .ensures, c .before .before .before .if1 .left, ← b .before .before .pre, ← c .before .time-over .ensures, c .if3 .taken)
+    let over : tie.After-time-over = search in
+    let b : tie.After-both-of = search in
+    let s : tie.Start = search in
+    search (cases, ← b .both-of .ensures, c .before .before .if2 .left, ← s .pre .0, ← over .time-over .ensures, c .if3 .taken)
 
 returns-4 : tie.Need-returns-4
 unfolding measureChecks
 returns-4 c =
-    let b = c .before .before .before .before in
-    search (cases, ← b .both-of .ensures, c .before .before .before .if1 .left, ← b .before .before .pre, ← c .before .time-over .ensures, c .if3 .left)
+    let over : tie.After-time-over = search in
+    let b : tie.After-both-of = search in
+    let s : tie.Start = search in
+    search (cases, ← b .both-of .ensures, c .before .before .if2 .left, ← s .pre .0, ← over .time-over .ensures, c .if3 .left)
 
 pub check-measure-spec : {M : Type 1} → statement M
-check-measure-spec =
-    tie.close (tie.spec both-of-requires returns returns-2 time-over-requires returns-3 returns-4)
+check-measure-spec = tie.close (tie.spec returns (λ c κs. search needs) returns-2 (λ c κs. search needs) returns-3 returns-4)

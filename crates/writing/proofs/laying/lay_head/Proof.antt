@@ -8,25 +8,24 @@ use Rattle.writing.proofs.laying.lay_head.Statement.{statement}
 use Rattle.writing.proofs.laying.lay_head.Tie as tie
 
 lay-one-requires : tie.Need-lay-one-requires
-lay-one-requires c κs = let s = c .before .before in omega (arith, head-length (s .args .w) (s .args .p))
-
-has-stream-requires : tie.Need-has-stream-requires
-has-stream-requires c κs = search needs
+lay-one-requires c κs = let s : tie.Start = search in omega (arith, s .pre .1, head-length (s .args .w) (s .args .p))
 
 lay-one-requires-2 : tie.Need-lay-one-requires-2
 lay-one-requires-2 c κs =
-    let s = c .before .before .before .before .before .before .before in
-    let one = c .before .before .before .before .lay-one .ensures in
-    rw (c .before .has-stream .ensures) (omega (arith, s .pre, head-length (s .args .w) (s .args .p), one .past, laid-length one))
-
-same-length : tie.Need-same-length
-same-length c = search needs
+    let has : tie.After-has-stream = search in
+    let at-one : tie.After-lay-one = search in
+    let s : tie.Start = search in
+    let one = at-one .lay-one .ensures in
+    rw (has .has-stream .ensures) (omega (arith, s .pre .1, head-length (s .args .w) (s .args .p), one .past, laid-length one))
 
 returns : tie.Need-returns
 unfolding headWords
-returns c = then (c .before .before .before .before .before .before .before .lay-one .ensures) (rw (← c .before .before .before .before .has-stream .ensures) (c .before .before .lay-one2 .ensures))
+returns c =
+    let two : tie.After-lay-one2 = search in
+    let has : tie.After-has-stream = search in
+    let one : tie.After-lay-one = search in
+    let s : tie.Start = search in
+    then (one .lay-one .ensures) (rw (← has .has-stream .ensures, ← s .pre .0 .identifier) (two .lay-one2 .ensures))
 
 pub lay-head-spec : {M : Type 1} → statement M
-lay-head-spec =
-    tie.close
-    (tie.spec lay-one-requires has-stream-requires lay-one-requires-2 same-length returns)
+lay-head-spec = tie.close (tie.spec lay-one-requires (λ c κs. search needs) (λ c. let s : tie.Start = search in omega (arith, s .pre .0 .long)) lay-one-requires-2 (λ c. search needs) returns)

@@ -9,29 +9,35 @@ use Rattle.writing.proofs.laying.lay_prologue.Tie as tie
 
 lay-head-requires : tie.Need-lay-head-requires
 unfolding prologueWords
-lay-head-requires c κs = let h = simp length-append at (c .before .before .pre .1) in omega arith
+lay-head-requires c κs =
+    let s : tie.Start = search in
+    let h = simp length-append at (s .pre .1 .1) in
+    (s .pre .0, omega arith)
 
 lay-class-requires : tie.Need-lay-class-requires
 unfolding prologueWords
 lay-class-requires c κs =
-    let s = c .before .before .before .before .before .before in
-    let head = c .before .before .before .lay-head .ensures in
-    (s .pre .0, omega (arith, simp length-append at (s .pre .1), head .past, laid-length head))
+    let at-head : tie.After-lay-head = search in
+    let s : tie.Start = search in
+    let head = at-head .lay-head .ensures in
+    (s .pre .0, (s .pre .1 .0, omega (arith, simp length-append at (s .pre .1 .1), head .past, laid-length head)))
 
 lay-time-requires : tie.Need-lay-time-requires
 unfolding prologueWords
 lay-time-requires c κs =
-    let s = c .before .before .before .before .before .before .before .before .before .before in
-    let both = then (c .before .before .before .before .before .before .before .lay-head .ensures) (c .before .before .before .lay-class .ensures) in
-    omega (arith, simp length-append at (s .pre .1), simp length-append at (both .past), laid-length both)
-
-same-length : tie.Need-same-length
-same-length c = search needs
+    let at-class : tie.After-lay-class = search in
+    let at-head : tie.After-lay-head = search in
+    let s : tie.Start = search in
+    let both = then (at-head .lay-head .ensures) (at-class .lay-class .ensures) in
+    (s .pre .0, omega (arith, simp length-append at (s .pre .1 .1), simp length-append at (both .past), laid-length both))
 
 returns : tie.Need-returns
 unfolding prologueWords
-returns c = then (then (c .before .before .before .before .before .before .before .before .before .before .lay-head .ensures) (c .before .before .before .before .before .before .lay-class .ensures)) (c .before .before .lay-time .ensures)
+returns c =
+    let at-time : tie.After-lay-time = search in
+    let at-class : tie.After-lay-class = search in
+    let at-head : tie.After-lay-head = search in
+    then (then (at-head .lay-head .ensures) (at-class .lay-class .ensures)) (at-time .lay-time .ensures)
 
 pub lay-prologue-spec : {M : Type 1} → statement M
-lay-prologue-spec =
-    tie.close (tie.spec lay-head-requires lay-class-requires lay-time-requires same-length returns)
+lay-prologue-spec = tie.close (tie.spec lay-head-requires lay-class-requires lay-time-requires (λ c. search needs) returns)

@@ -9,47 +9,31 @@ use borrow.Author.Needs.{needs}
 use Rattle.writing.proofs.laying.lay_time.Statement.{statement}
 use Rattle.writing.proofs.laying.lay_time.Tie as tie
 
-cast-high : tie.Need-cast-high
-cast-high c = search needs
-
-cast-low : tie.Need-cast-low
-cast-low c = search needs
-
-has-seconds-requires : tie.Need-has-seconds-requires
-has-seconds-requires c κs = search needs
-
 lay-one-requires : tie.Need-lay-one-requires
 lay-one-requires c κs =
-    let s = c .before .before .before in
-    rw (c .before .has-seconds .ensures) (omega (arith, s .pre, time-length (s .args .w) (s .args .p)))
-
-has-fraction-requires : tie.Need-has-fraction-requires
-has-fraction-requires c κs = search needs
+    let has : tie.After-has-seconds = search in
+    let s : tie.Start = search in
+    rw (has .has-seconds .ensures) (omega (arith, s .pre .1, time-length (s .args .w) (s .args .p)))
 
 lay-two-requires : tie.Need-lay-two-requires
 lay-two-requires c κs =
-    let s = c .before .before .before .before .before .before .before .before in
-    let one = rw (c .before .before .before .before .before .before .has-seconds .ensures) at (c .before .before .before .before .lay-one .ensures) in
-    rw (c .before .has-fraction .ensures)
-    (omega (arith, s .pre, time-length (s .args .w) (s .args .p), length-given (hasSeconds (s .args .w)) (s .args .p .seconds ∷ []), one .past, laid-length one))
-
-same-length : tie.Need-same-length
-same-length c = search needs
+    let more : tie.After-has-fraction = search in
+    let at-one : tie.After-lay-one = search in
+    let has : tie.After-has-seconds = search in
+    let s : tie.Start = search in
+    let one = rw (has .has-seconds .ensures, s .pre .0 .seconds) at (at-one .lay-one .ensures) in
+    rw (more .has-fraction .ensures)
+    (omega (arith, s .pre .1, time-length (s .args .w) (s .args .p), length-given (hasSeconds (s .args .w)) (s .args .p .seconds ∷ []), one .past, laid-length one))
 
 returns : tie.Need-returns
 unfolding timeWords
 returns c =
-    then (rw (c .before .before .before .before .before .before .before .before .before .has-seconds .ensures) at (c .before .before .before .before .before .before .before .lay-one .ensures)) (rw (c .before .before .before .before .has-fraction .ensures) at (c .before .before .lay-two .ensures))
+    let two : tie.After-lay-two = search in
+    let more : tie.After-has-fraction = search in
+    let one : tie.After-lay-one = search in
+    let has : tie.After-has-seconds = search in
+    let s : tie.Start = search in
+    then (rw (has .has-seconds .ensures, s .pre .0 .seconds) at (one .lay-one .ensures)) (rw (more .has-fraction .ensures, s .pre .0 .high, s .pre .0 .low) at (two .lay-two .ensures))
 
 pub lay-time-spec : {M : Type 1} → statement M
-lay-time-spec =
-    tie.close
-    (tie.spec
-    cast-high
-    cast-low
-    has-seconds-requires
-    lay-one-requires
-    has-fraction-requires
-    lay-two-requires
-    same-length
-    returns)
+lay-time-spec = tie.close (tie.spec (λ c κs. search needs) (λ c. let s : tie.Start = search in omega (arith, s .pre .0 .long)) lay-one-requires (λ c. let s : tie.Start = search in omega (arith, s .pre .0 .long)) (λ c. let s : tie.Start = search in omega (arith, s .pre .0 .long)) (λ c κs. search needs) lay-two-requires (λ c. search needs) returns)

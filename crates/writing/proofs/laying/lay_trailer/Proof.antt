@@ -6,20 +6,18 @@ use borrow.Author.Needs.{needs}
 use Rattle.writing.proofs.laying.lay_trailer.Statement.{statement}
 use Rattle.writing.proofs.laying.lay_trailer.Tie as tie
 
-has-trailer-requires : tie.Need-has-trailer-requires
-has-trailer-requires c κs = search needs
-
 lay-one-requires : tie.Need-lay-one-requires
 lay-one-requires c κs =
-    let s = c .before .before .before in
-    rw (c .before .has-trailer .ensures) (omega (arith, trailer-length (s .args .w) (s .args .p)))
-
-same-length : tie.Need-same-length
-same-length c = search needs
+    let s : tie.Start = search in
+    rw (s .pre .0 .1) (omega (arith, s .pre .1, trailer-length (s .args .w) (s .args .p)))
 
 returns : tie.Need-returns
 unfolding trailerWords
-returns c = rw (← c .before .before .before .before .has-trailer .ensures) (c .before .before .lay-one .ensures)
+returns c =
+    let laid : tie.After-lay-one = search in
+    let s : tie.Start = search in
+    rw (← s .pre .0 .1, ← s .pre .0 .0 .trailer) (laid .lay-one .ensures)
 
 pub lay-trailer-spec : {M : Type 1} → statement M
-lay-trailer-spec = tie.close (tie.spec has-trailer-requires lay-one-requires same-length returns)
+lay-trailer-spec =
+    tie.close (tie.spec (λ c. let s : tie.Start = search in omega (arith, s .pre .0 .0 .long)) lay-one-requires (λ c. search needs) returns)

@@ -5,33 +5,14 @@ use borrow.Author.Needs.{needs}
 use Rattle.writing.proofs.laying.size_for.Statement.{statement}
 use Rattle.writing.proofs.laying.size_for.Tie as tie
 
-body-at-requires : tie.Need-body-at-requires
-body-at-requires c κs = search needs
-
-add-result : tie.Need-add-result
-add-result c = search needs
-
-has-trailer-requires : tie.Need-has-trailer-requires
-has-trailer-requires c κs = search needs
-
-when-so-requires : tie.Need-when-so-requires
-when-so-requires c κs = search needs
-
-add-result-2 : tie.Need-add-result-2
-add-result-2 c = search needs
-
 returns : tie.Need-returns
 returns c =
-    let b = c .before .before in
-    (rw (c .when-so .ensures .0, c .before .has-trailer .ensures, b .body-at .ensures .0), omega (arith, b .body-at .ensures .0, body-past (b .before .args .w)))
+    let at-body : tie.After-body-at = search in
+    let s : tie.Start = search in (
+      rw (c .when-so .ensures .0, s .pre .1, at-body .body-at .ensures .0),
+      omega (arith, at-body .body-at .ensures .0, body-past (s .args .w)),
+      omega (arith, at-body .body-at .ensures .1, c .when-so .ensures .1),
+    )
 
 pub size-for-spec : {M : Type 1} → statement M
-size-for-spec =
-    tie.close
-    (tie.spec
-    body-at-requires
-    add-result
-    has-trailer-requires
-    when-so-requires
-    add-result-2
-    returns)
+size-for-spec = tie.close (tie.spec (λ c κs. search needs) (λ c. search needs) (λ c κs. search needs) (λ c. search needs) returns)

@@ -10,32 +10,32 @@ device-ok-requires c κs = search needs
 
 returns : tie.Need-returns
 unfolding moreOk
-returns c = search (cases, c .device-ok .ensures)
+returns c ws e f = search (cases, c .device-ok .ensures ws f)
 
 state-ok-requires : tie.Need-state-ok-requires
 state-ok-requires c κs = search needs
 
 returns-2 : tie.Need-returns-2
 unfolding moreOk
-returns-2 c = search (cases, c .state-ok .ensures)
+returns-2 c ws e f = search (cases, c .state-ok .ensures ws e)
 
 format-at-requires : tie.Need-format-at-requires
 format-at-requires c κs = search needs
 
 returns-3 : tie.Need-returns-3
 unfolding moreOk
-returns-3 c = search (cases, c .format-at .ensures)
+returns-3 c ws e f = search (cases, c .format-at .ensures ws e)
 
 lists-ok-requires : tie.Need-lists-ok-requires
 lists-ok-requires c κs = search needs
 
 returns-4 : tie.Need-returns-4
 unfolding moreOk
-returns-4 c = search (cases, c .lists-ok .ensures)
+returns-4 c ws e f = search (cases, c .lists-ok .ensures ws e)
 
 returns-5 : tie.Need-returns-5
 unfolding moreOk
-returns-5 c = search cases
+returns-5 c ws e f = search cases
 
 pub more-ok-spec : {M : Type 1} → statement M
 more-ok-spec =

@@ -18,13 +18,14 @@ returns c =
     let a = c .before .before .before .before .before .args in
     rule-below (a .bit) _ 0 (now (a .slot)) refl (c .before .before .first-ok .ensures .1) true (sym (c .before .before .first-ok .ensures .0) ∙ c .before .if1 .taken) (sym (more-above _ _ (c .if2 .taken)))
 
-more-ok-requires : tie.Need-more-ok-requires
-more-ok-requires c κs = search needs
-
 returns-2 : tie.Need-returns-2
 returns-2 c =
-    let a = c .before .before .before .before .before .before .args in
-    rule-below (a .bit) _ 0 (now (a .slot)) refl (c .before .before .before .first-ok .ensures .1) _ (sym (c .before .before .before .first-ok .ensures .0) ∙ c .before .before .if1 .taken) (c .more-ok .ensures)
+    let first : tie.After-first-ok = search in
+    let two : tie.After-word-at = search in
+    let start : tie.Start = search in
+    let a = start .args in
+    rule-below (a .bit) _ 0 (now (a .slot)) refl (first .first-ok .ensures .1) _ (sym (first .first-ok .ensures .0) ∙ c .before .before .before .before .if1 .taken)
+    (c .more-ok .ensures (now (a .slot)) refl (two .word-at .ensures))
 
 returns-3 : tie.Need-returns-3
 returns-3 c =
@@ -34,10 +35,4 @@ returns-3 c =
 pub rule-good-spec : {M : Type 1} → statement M
 rule-good-spec =
     tie.close
-    (tie.spec
-    shared-slice-read-first-ok
-    first-ok-requires
-    returns
-    more-ok-requires
-    returns-2
-    returns-3)
+    (tie.spec shared-slice-read-first-ok first-ok-requires returns (λ c. search needs) (λ c κs. search needs) (λ c κs. search needs) returns-2 returns-3)

@@ -1,4 +1,4 @@
--- `write` meets its promise: a refusal found ends the chain there and leaves the buffer as it was; else the packet is laid.
+-- `write_given` meets its promise: a refusal found ends the chain there and leaves the buffer as it was; else the packet is laid.
 use mathlib.Core.Path.{_≡_, refl, sym, ap, _∙_}
 use native.Mathlib.Omega.{arith}
 use denote.Ref.{now}
@@ -6,9 +6,10 @@ use lib.ListN.{length}
 use Rattle.words.specs.Outcome.{accepted, checked}
 use Rattle.writing.specs.Write.{sizeFor, partsChecks, writeChecks, writeOf}
 use Rattle.writing.proofs.FitLaws.{parts-passed, parts-fit, nothing-refused}
+use Rattle.writing.proofs.HeaderLaws.{trailed-is}
 use borrow.Author.Needs.{needs}
-use Rattle.writing.proofs.write.Statement.{statement}
-use Rattle.writing.proofs.write.Tie as tie
+use Rattle.writing.proofs.inner.write_given.Statement.{statement}
+use Rattle.writing.proofs.inner.write_given.Tie as tie
 
 check-parts-requires : tie.Need-check-parts-requires
 check-parts-requires c κs = search needs
@@ -24,23 +25,25 @@ enum-told : tie.Need-enum-told
 enum-told c = search needs
 
 -- the parts pass
-passes : (c : tie.After-enum-told) → partsChecks (c .before .before .before .before .before .args .parts) ≡ accepted tt
+passes : (c : tie.After-enum-told) → partsChecks (c .before .before .before .before .before .before .args .parts) ≡ accepted tt
 passes c = sym (c .before .before .check-parts .ensures) ∙ ap checked (c .enum-told .given .1)
 
 header-word-requires : tie.Need-header-word-requires
 header-word-requires c κs = let k = parts-passed _ (passes c) in omega (arith, k .0, parts-fit _ (k .1))
 
 size-for-requires : tie.Need-size-for-requires
-size-for-requires c κs = search needs
+size-for-requires c κs =
+    let k = parts-passed _ (passes (c .before)) in
+    (search needs, rw (c .header-word .ensures .0) (sym (trailed-is _ 0 (k .0) (parts-fit _ (k .1)) (omega arith))))
 
 -- the size is the packet's
 sized : (c : tie.After-size-for)
-    → c .size-for .result ≡ sizeFor (c .before .before .before .before .before .before .before .args .parts) (length (now (c .before .before .before .before .before .before .before .args .body)))
+    → c .size-for .result ≡ sizeFor (c .before .before .before .before .before .before .before .before .args .parts) (length (now (c .before .before .before .before .before .before .before .before .args .body)))
 unfolding sizeFor
 sized c = c .size-for .ensures .0 ∙ rw (c .before .header-word .ensures .0)
 
 check-measure-requires : tie.Need-check-measure-requires
-check-measure-requires c κs = sized c
+check-measure-requires c κs = (sized c, c .size-for .ensures .2)
 
 enum-known-measure : tie.Need-enum-known-measure
 enum-known-measure c = search needs
@@ -98,7 +101,8 @@ lay-requires c κs =
     let measure = sym (m .check-measure .ensures) ∙ ap checked (x .before .enum-told2 .given .1) in
     let context = sym (x .check-body .ensures) ∙ ap checked (r .before .enum-told3 .given .1) in
     let room = sym (r .check-room .ensures) ∙ ap checked (c .before .enum-told4 .given .1) in
-    (nothing-refused _ _ _ _ _ (passes (h .before)) measure context (sized (m .before)) room, (h .header-word .ensures .0, h .header-word .ensures .1, sized (m .before)))
+    let s : tie.Start = search in
+    (s .pre, (nothing-refused _ _ _ _ _ (passes (h .before)) measure context (sized (m .before)) room, (h .header-word .ensures .0, h .header-word .ensures .1, sized (m .before))))
 
 same-length : tie.Need-same-length
 same-length c = search needs
@@ -113,8 +117,8 @@ returns-5 c =
     rw (passes (m .before .before .before), ← m .check-measure .ensures, x .before .enum-told2 .given .1, ← x .check-body .ensures, r .before .enum-told3 .given .1, ← sized (m .before), ← r .check-room .ensures, l .before .before .enum-told4 .given .1)
     (record { answer = refl; buffer = l .lay .ensures })
 
-pub write-spec : {M : Type 1} → statement M
-write-spec =
+pub write-given-spec : {M : Type 1} → statement M
+write-given-spec =
     tie.close
     (tie.spec
     check-parts-requires
