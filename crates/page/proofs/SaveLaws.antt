@@ -194,10 +194,14 @@ module _ (t before : List ℕ) (w : wellMade t ≡ true) (h : pageLength t ≤ l
     mid-room : pageLength t ≤ length (p .mid)
     mid-room = omega (arith, laid-length (p .pairs .laid))
 
-    pub writing-asks : (length (take (base s + recordWords - base s) (drop (base s) t)) ≡ recordWords)
-        × (recordGood (take (base s + recordWords - base s) (drop (base s) t)) ≡ true)
-        × (at + length (bodyOf (take (base s + recordWords - base s) (drop (base s) t))) ≤ length after)
-    writing-asks = laying-asks t (p .mid) w mid-room after n s at e (p .bodies) g
+    pub record-long : length (take (base s + recordWords - base s) (drop (base s) t)) ≡ recordWords
+    record-long = laying-asks t (p .mid) w mid-room after n s at e (p .bodies) g .0
+
+    pub record-held : recordGood (take (base s + recordWords - base s) (drop (base s) t)) ≡ true
+    record-held = laying-asks t (p .mid) w mid-room after n s at e (p .bodies) g .1
+
+    pub body-placed : at + length (bodyOf (take (base s + recordWords - base s) (drop (base s) t))) ≤ length after
+    body-placed = laying-asks t (p .mid) w mid-room after n s at e (p .bodies) g .2
 
     -- the body is written
     module _ (after′ : List ℕ) (to : ℕ) (q : Laid after at (bodyOf (take (base s + recordWords - base s) (drop (base s) t))) to after′) where

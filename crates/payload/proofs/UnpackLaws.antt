@@ -44,7 +44,7 @@ unfolding wordsFor packingOf
 fields-there first n m h e = rw e (enough (carriedBits first) _ n h)
 
 -- items that are whole words, and pairs of words
-module _ (p : Packing) (n room : ℕ) (ws l : List ℕ) (u : Unpackable p n ws room) (h : (j : ℕ) → getD ws j 0 < 2 ^ 32) where
+module _ {p : Packing} {n room : ℕ} {ws : List ℕ} (u : Unpackable p n ws room) where
   module _ (one : p .item ≡ 32) (narrow : p .field ≤ 32) where
     one-field : p .field ≡ 32
     one-field = omega (arith, u .legal .parts)
@@ -55,8 +55,9 @@ module _ (p : Packing) (n room : ℕ) (ws l : List ℕ) (u : Unpackable p n ws r
     pub words-there : n ≤ length ws
     words-there = let t = rw (one-field, one-carry) at (u .there) in omega arith
 
-    pub plain-words : filled n (λ k. getD ws k 0) l ≡ filled n (λ k. itemIn p (fieldIn p ws k)) l
-    plain-words = filled-same n _ _ l (λ k q. rw (one-field, one-carry, one) (sym (ap (λ (x : ℕ). x / 2 ^ 0) (field-word ws h k) ∙ div-one (getD ws k 0))))
+    pub plain-words : (small : (j : ℕ) → getD ws j 0 < 2 ^ 32) (l left : List ℕ) → left ≡ filled n (λ k. getD ws k 0) l
+        → left ≡ filled n (λ k. itemIn p (fieldIn p ws k)) l
+    plain-words small l left e = e ∙ filled-same n _ _ l (λ k q. rw (one-field, one-carry, one) (sym (ap (λ (x : ℕ). x / 2 ^ 0) (field-word ws small k) ∙ div-one (getD ws k 0))))
 
   module _ (two : p .item ≡ 64) where
     two-field : p .field ≡ 64
@@ -68,10 +69,11 @@ module _ (p : Packing) (n room : ℕ) (ws l : List ℕ) (u : Unpackable p n ws r
     pub pairs-there : 2 * n ≤ length ws
     pairs-there = let t = rw (two-field, two-carry) at (u .there) in omega arith
 
-    pub plain-pairs : filled n (λ k. highFirst (getD ws (2 * k) 0) (getD ws (2 * k + 1) 0)) l ≡ filled n (λ k. itemIn p (fieldIn p ws k)) l
-    plain-pairs =
-        filled-same n _ _ l
-        (λ k q. rw (two-field, two-carry, two) (sym (ap (λ (x : ℕ). x / 2 ^ 0) (field-words ws h k) ∙ div-one (highFirst (getD ws (2 * k) 0) (getD ws (2 * k + 1) 0)))))
+    pub plain-pairs : (small : (j : ℕ) → getD ws j 0 < 2 ^ 32) (l left : List ℕ)
+        → left ≡ filled n (λ k. highFirst (getD ws (2 * k) 0) (getD ws (2 * k + 1) 0)) l → left ≡ filled n (λ k. itemIn p (fieldIn p ws k)) l
+    plain-pairs small l left e =
+        e ∙ filled-same n _ _ l
+        (λ k q. rw (two-field, two-carry, two) (sym (ap (λ (x : ℕ). x / 2 ^ 0) (field-words ws small k) ∙ div-one (highFirst (getD ws (2 * k) 0) (getD ws (2 * k + 1) 0)))))
 
 -- what `unpackCheck` lets through
 pub record UnpackPassed (first second n words room-items room-events room-channels : ℕ) : Type 0 where

@@ -6,6 +6,8 @@ pub mod StreamLaws
 pub mod PlayLaws
 -- what play keeps
 pub mod KeepLaws
+-- what the checks of a packet found
+pub mod CheckedLaws
 -- the entry of one packet
 pub mod EntryLaws
 -- a run of packets

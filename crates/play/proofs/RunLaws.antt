@@ -169,7 +169,7 @@ module _ {most from at n : ℕ} {ws t₀ buffer₀ t buffer : List ℕ} (p : Run
   pub running-over : length ws ≤ at → Running most ws from t₀ buffer₀ t buffer n (ended at t)
   running-over h = rw (walk-over (most - n) ws at t h) at p
 
-  pub running-full : n ≡ most → Running most ws from t₀ buffer₀ t buffer n (ended at t)
+  pub running-full : most ≤ n → Running most ws from t₀ buffer₀ t buffer n (ended at t)
   running-full h = let e : most - n ≡ 0 = omega arith in rw (e, walk-zero ws at t) at p
 
   -- a packet more
@@ -239,6 +239,23 @@ running-end {most} {from} {at} {n} {ws} {t₀} {buffer₀} {t} {buffer} p room =
       table = ap (λ (w : Walk). w .table) (sym e);
       answers = p .wrote ∙ ap (λ (m : ℕ). p .entries ++ drop m buffer₀) (sym (p .size)) ∙ ap (λ (w : Walk). answersOf w buffer₀) (sym e);
     }
+
+-- ---- a turn of the run, from what its calls ensure
+
+module _ (most from at n : ℕ) (ws t₀ buffer₀ t buffer : List ℕ) (p : Running most ws from t₀ buffer₀ t buffer n (walkOf (most - n) ws at t))
+    (less : n < most) (room : most ≡ length buffer₀ / entryWords) (there : at < length ws) (x : Entry) (left written : List ℕ)
+    (y : Entered t (take (length ws - at) (drop at ws)) x left) (w : written ≡ put (entryWords * n) entryWords (wordsOf x) buffer) where
+  pub turned : (x .size ≡ 0 → ⊥) → Running most ws from t₀ buffer₀ left written (n + 1) (walkOf (most - (n + 1)) ws (at + x .size) left)
+  turned g = running-turn p less room there _ _ _ _ (entered-stepped _ _ _ _ _ (p .well) y) (entered-entry _ _ _ _ _ (p .well) y) w (goes-on _ g)
+
+  pub stopped : x .size ≡ 0 → Running most ws from t₀ buffer₀ left written (n + 1) (ended (at + x .size) left)
+  stopped g = running-stop p less room there _ _ _ _ (entered-stepped _ _ _ _ _ (p .well) y) (entered-entry _ _ _ _ _ (p .well) y) w (stops _ g)
+
+  pub stopped-same : x .size ≡ 0 → length left ≡ length t₀
+  stopped-same g = stopped g .same
+
+  pub stopped-long : x .size ≡ 0 → length written ≡ length buffer₀
+  stopped-long g = stopped g .long
 
 -- ---- the answers of a run
 

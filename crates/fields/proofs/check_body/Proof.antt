@@ -6,36 +6,53 @@ use borrow.Author.Needs.{needs}
 use Rattle.fields.proofs.check_body.Statement.{statement}
 use Rattle.fields.proofs.check_body.Tie as tie
 
-word-at-requires : tie.Need-word-at-requires
-word-at-requires c κs = search needs
-
 returns : tie.Need-returns
 unfolding contextOf lowBitsSet
 returns c = rw (← c .before .word-at .ensures, ne-eqb _ _ (c .if1 .taken))
 
-walk-requires : tie.Need-walk-requires
-walk-requires c κs = search needs
-
 returns-2 : tie.Need-returns-2
 unfolding contextOf lowBitsSet otherLength
 returns-2 c =
-    let w = c .before .before .before .before .word-at in
-    rw (← w .ensures, eq-eqb _ _ (c .before .before .before .if1 .left), walked-words _ _ _ (w .ensures) (c .before .before .walk .ensures .0), ne-eqb _ _ (c .if2 .taken))
+    let at-word-at : tie.After-word-at = search in
+    let w = at-word-at .word-at in
+    rw (
+      ← w .ensures,
+      eq-eqb _ _ (c .before .before .before .if1 .left),
+      walked-words _ _ _ (w .ensures) (c .before .before .walk .ensures .0),
+      ne-eqb _ _
+          (c .if2 .taken),
+    )
 
 returns-3 : tie.Need-returns-3
 unfolding contextOf lowBitsSet otherLength ruleBroken
 returns-3 c =
     let k = c .before .before .before in
     let w = k .before .before .word-at in
-    rw (walked-rules _ _ _ (w .ensures) (k .walk .ensures .1), walked-words _ _ _ (w .ensures) (k .walk .ensures .0), ← w .ensures, eq-eqb _ _ (k .before .if1 .left), eq-eqb _ _ (c .before .if2 .left), c .if3 .taken)
+    rw (
+      walked-rules _ _ _ (w .ensures) (k .walk .ensures .1),
+      walked-words _ _ _ (w .ensures) (k .walk .ensures .0),
+      ← w .ensures,
+      eq-eqb _ _
+          (k .before .if1 .left),
+      eq-eqb _ _ (c .before .if2 .left),
+      c .if3 .taken,
+    )
 
 returns-4 : tie.Need-returns-4
 unfolding contextOf lowBitsSet otherLength ruleBroken
 returns-4 c =
     let k = c .before .before .before in
     let w = k .before .before .word-at in
-    rw (walked-rules _ _ _ (w .ensures) (k .walk .ensures .1), walked-words _ _ _ (w .ensures) (k .walk .ensures .0), ← w .ensures, eq-eqb _ _ (k .before .if1 .left), eq-eqb _ _ (c .before .if2 .left), c .if3 .left)
+    rw (
+      walked-rules _ _ _ (w .ensures) (k .walk .ensures .1),
+      walked-words _ _ _ (w .ensures) (k .walk .ensures .0),
+      ← w .ensures,
+      eq-eqb _ _
+          (k .before .if1 .left),
+      eq-eqb _ _ (c .before .if2 .left),
+      c .if3 .left,
+    )
 
 pub check-body-spec : {M : Type 1} → statement M
 check-body-spec =
-    tie.close (tie.spec word-at-requires returns walk-requires returns-2 returns-3 returns-4)
+    tie.close (tie.spec (λ c κs. search needs) returns (λ c κs. search needs) returns-2 returns-3 returns-4)

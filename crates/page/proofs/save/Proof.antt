@@ -6,39 +6,30 @@ use borrow.Author.Needs.{needs}
 use Rattle.page.proofs.save.Statement.{statement}
 use Rattle.page.proofs.save.Tie as tie
 
-page-length-requires : tie.Need-page-length-requires
-page-length-requires c κs = search needs
-
-enum-known-measured : tie.Need-enum-known-measured
-enum-known-measured c = search needs
-
-enum-told : tie.Need-enum-told
-enum-told c = search needs
-
 returns : tie.Need-returns
 returns c = save-refused _ _ _ _ (c .enum-told .given .1) (c .before .before .page-length .ensures)
 
 returns-2 : tie.Need-returns-2
-returns-2 c = save-short _ _ _ (sym (ap paper (c .before .before .measured .given .1)) ∙ c .before .before .before .before .page-length .ensures) (c .if1 .taken)
+returns-2 c =
+    let at-page-length : tie.After-page-length = search in
+    save-short _ _ _ (sym (ap paper (c .before .before .measured .given .1)) ∙ at-page-length .page-length .ensures) (c .if1 .taken)
 
 write-page-requires : tie.Need-write-page-requires
-write-page-requires c κs = let l = length-well _ _ (sym (sym (ap paper (c .before .before .before .measured .given .1)) ∙ c .before .before .before .before .before .page-length .ensures)) in (l .0, l .1, c .before .if1 .left)
-
-same-length : tie.Need-same-length
-same-length c = search needs
+write-page-requires c κs =
+    let at-page-length : tie.After-page-length = search in
+    let l = length-well _ _ (sym (sym (ap paper (c .before .before .before .measured .given .1)) ∙ at-page-length .page-length .ensures)) in
+    (l .0, l .1, c .before .if1 .left)
 
 returns-3 : tie.Need-returns-3
-returns-3 c = save-made _ _ _ (sym (ap paper (c .before .before .before .before .before .before .measured .given .1)) ∙ c .before .before .before .before .before .before .before .before .page-length .ensures) _ (c .before .before .before .before .if1 .left) (c .before .before .write-page .ensures)
+returns-3 c =
+    let at-measured : tie.After-measured = search in
+    let at-page-length : tie.After-page-length = search in
+    let at-if1 : tie.Else1 = search in
+    save-made _ _ _ (sym (ap paper (at-measured .measured .given .1)) ∙ at-page-length .page-length .ensures) _ (at-if1 .if1 .left)
+    (c .before .before .write-page .ensures)
 
 pub save-spec : {M : Type 1} → statement M
 save-spec =
     tie.close
     (tie.spec
-    page-length-requires
-    enum-known-measured
-    enum-told
-    returns
-    returns-2
-    write-page-requires
-    same-length
-    returns-3)
+    (λ c κs. search needs) (λ c. search needs) (λ c. search needs) returns returns-2 write-page-requires (λ c. search needs) returns-3)

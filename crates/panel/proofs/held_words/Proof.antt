@@ -6,28 +6,19 @@ use borrow.Author.Needs.{needs}
 use Rattle.panel.proofs.held_words.Statement.{statement}
 use Rattle.panel.proofs.held_words.Tie as tie
 
-check-requires : tie.Need-check-requires
-check-requires c κs = search needs
-
-enum-known-n : tie.Need-enum-known-n
-enum-known-n c = search needs
-
-enum-told : tie.Need-enum-told
-enum-told c = search needs
-
 copy-at-requires : tie.Need-copy-at-requires
 copy-at-requires c κs = asked-facts _ _ _ (sym (c .before .before .before .check .ensures) ∙ ap checked (c .before .enum-told .given .1))
 
 returns : tie.Need-returns
 returns c = words-refused _ _ _ _ _ (sym (ap checked (c .before .n .given .1)) ∙ c .before .before .before .check .ensures)
 
-same-length : tie.Need-same-length
-same-length c = search needs
-
 returns-2 : tie.Need-returns-2
-returns-2 c = words-copied _ _ _ _ _ (c .before .before .copy-at .result) (sym (ap checked (c .before .before .before .before .enum-told .given .1)) ∙ c .before .before .before .before .before .before .check .ensures) (c .before .before .copy-at .ensures)
+returns-2 c =
+    let at-enum-told : tie.After-enum-told = search in
+    let at-check : tie.After-check = search in
+    words-copied _ _ _ _ _ (c .before .before .copy-at .result) (sym (ap checked (at-enum-told .enum-told .given .1)) ∙ at-check .check .ensures)
+    (c .before .before .copy-at .ensures)
 
 pub held-words-spec : {M : Type 1} → statement M
 held-words-spec =
-    tie.close
-    (tie.spec check-requires enum-known-n enum-told copy-at-requires returns same-length returns-2)
+    tie.close (tie.spec (λ c κs. search needs) (λ c. search needs) (λ c. search needs) copy-at-requires returns (λ c. search needs) returns-2)

@@ -6,15 +6,6 @@ use borrow.Author.Needs.{needs}
 use Rattle.panel.proofs.reading.Statement.{statement}
 use Rattle.panel.proofs.reading.Tie as tie
 
-check-requires : tie.Need-check-requires
-check-requires c κs = search needs
-
-enum-known-n : tie.Need-enum-known-n
-enum-known-n c = search needs
-
-enum-told : tie.Need-enum-told
-enum-told c = search needs
-
 read-at-requires : tie.Need-read-at-requires
 read-at-requires c κs = asked-facts _ _ _ (sym (c .before .before .check .ensures) ∙ ap checked (c .enum-told .given .1))
 
@@ -22,8 +13,10 @@ returns : tie.Need-returns
 returns c = reading-refused _ _ _ _ (sym (ap checked (c .before .n .given .1)) ∙ c .before .before .before .check .ensures)
 
 returns-2 : tie.Need-returns-2
-returns-2 c = reading-shown _ _ _ (c .read-at .result) (sym (ap checked (c .before .enum-told .given .1)) ∙ c .before .before .before .check .ensures) (c .read-at .ensures)
+returns-2 c =
+    reading-shown _ _ _ (c .read-at .result) (sym (ap checked (c .before .enum-told .given .1)) ∙ c .before .before .before .check .ensures)
+    (c .read-at .ensures)
 
 pub reading-spec : {M : Type 1} → statement M
 reading-spec =
-    tie.close (tie.spec check-requires enum-known-n enum-told read-at-requires returns returns-2)
+    tie.close (tie.spec (λ c κs. search needs) (λ c. search needs) (λ c. search needs) read-at-requires returns returns-2)

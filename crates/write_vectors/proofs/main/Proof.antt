@@ -10,45 +10,9 @@ Inv-loop words₀ out₀ k₀ words out k = k ≤ 4294967295
 abbrev μ-loop : tie.MeasureT-loop
 μ-loop words₀ out₀ k₀ words out k = 4294967295 - k
 
-slice-aggregate-words : tie.Need-slice-aggregate-words Inv-loop μ-loop
-slice-aggregate-words c = search needs
-
-slice-aggregate-out : tie.Need-slice-aggregate-out Inv-loop μ-loop
-slice-aggregate-out c = search needs
-
-loop-holds : tie.Need-loop-holds Inv-loop μ-loop
-loop-holds c = search needs
-
-one-case-requires : tie.Need-one-case-requires Inv-loop μ-loop
-one-case-requires c κs = search needs
-
-add-k : tie.Need-add-k Inv-loop μ-loop
-add-k c = search needs
-
-loop-less : tie.Need-loop-less Inv-loop μ-loop
-loop-less c = search needs
-
-loop-again : tie.Need-loop-again Inv-loop μ-loop
-loop-again c = search needs
-
-returns : tie.Need-returns Inv-loop μ-loop
-returns c = search needs
-
-returns-2 : tie.Need-returns-2 Inv-loop μ-loop
-returns-2 c = search needs
-
 pub main-spec : {M : Type 1} → statement M
 main-spec =
     tie.close
     (tie.spec
-    Inv-loop
-    μ-loop
-    slice-aggregate-words
-    slice-aggregate-out
-    loop-holds
-    one-case-requires
-    add-k
-    loop-less
-    loop-again
-    returns
-    returns-2)
+    Inv-loop μ-loop (λ c. search needs) (λ c. search needs) (λ c. search needs) (λ c κs. search needs) (λ c. search needs) (λ c. search needs)
+    (λ c. search needs) (λ c. search needs) (λ c. search needs))

@@ -7,9 +7,6 @@ use lib.Pow.{pow-pos, pow-lt, pow-mono}
 use Rattle.bitstream.proofs.inner.power.Statement.{statement}
 use Rattle.bitstream.proofs.inner.power.Tie as tie
 
-shl-result : tie.Need-shl-result
-shl-result c = search needs
-
 returns : tie.Need-returns
 returns c =
     let n = c .args .n in
@@ -17,4 +14,5 @@ returns c =
     rw e (refl, pow-pos n, pow-mono {i = n} {j = 63} (le-of-suc-le-suc (c .pre)))
 
 pub power-spec : {M : Type 1} → statement M
-power-spec = tie.close (tie.spec shl-result returns)
+power-spec =
+    tie.close (tie.spec (λ c. search needs) returns)

@@ -16,39 +16,16 @@ returns-2 : tie.Need-returns-2
 unfolding foundOf
 returns-2 c = search cases
 
-word-at-requires : tie.Need-word-at-requires
-word-at-requires c κs = search needs
-
-shr-if3 : tie.Need-shr-if3
-shr-if3 c = search needs
-
 returns-3 : tie.Need-returns-3
 unfolding foundOf
 returns-3 c = search (cases, ← c .before .word-at .ensures)
 
-add-above : tie.Need-add-above
-add-above c = search needs
-
-shr-above : tie.Need-shr-above
-shr-above c = search needs
-
-add-above-2 : tie.Need-add-above-2
-add-above-2 c = search needs
-
-shl-above : tie.Need-shl-above
-shl-above c = search needs
-
-walk-requires : tie.Need-walk-requires
-walk-requires c κs = search needs
-
-inside-requires : tie.Need-inside-requires
-inside-requires c κs = search needs
-
 returns-4 : tie.Need-returns-4
 unfolding foundOf
 returns-4 c =
+    let start : tie.Start = search in
     let w = c .before .before .before .word-at in
-    let a = c .before .before .before .before .before .before .before .args in
+    let a = start .args in
     let e : c .before .walk .result .end ≡ placeOf (a .bit) (now (a .body)) =
     place-above (w .result) (a .bit) _ (now (a .body)) (w .ensures) (search needs) (c .before .walk .ensures .0) in
     search (cases, ← w .ensures, ← e, c .inside .ensures)
@@ -57,15 +34,5 @@ pub find-spec : {M : Type 1} → statement M
 find-spec =
     tie.close
     (tie.spec
-    returns
-    returns-2
-    word-at-requires
-    shr-if3
-    returns-3
-    add-above
-    shr-above
-    add-above-2
-    shl-above
-    walk-requires
-    inside-requires
-    returns-4)
+    returns returns-2 (λ c κs. search needs) (λ c. search needs) returns-3 (λ c. search needs) (λ c. search needs) (λ c. search needs)
+    (λ c. search needs) (λ c κs. search needs) (λ c κs. search needs) returns-4)

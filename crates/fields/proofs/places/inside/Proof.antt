@@ -8,24 +8,6 @@ use Rattle.fields.proofs.places.inside.Tie as tie
 returns : tie.Need-returns
 returns c = sym (inside-past _ _ _ (c .if1 .taken))
 
-mul-words-at : tie.Need-mul-words-at
-mul-words-at c = search needs
-
-sub-words-at : tie.Need-sub-words-at
-sub-words-at c = search needs
-
-part-words-at-start : tie.Need-part-words-at-start
-part-words-at-start c = search needs
-
-part-words-at-end : tie.Need-part-words-at-end
-part-words-at-end c = search needs
-
-words-at-requires : tie.Need-words-at-requires
-words-at-requires c κs = search needs
-
-sub-if2 : tie.Need-sub-if2
-sub-if2 c = search needs
-
 returns-2 : tie.Need-returns-2
 returns-2 c = sym (inside-cut _ _ _ _ (c .before .words-at .ensures .0) (c .if2 .taken))
 
@@ -36,12 +18,5 @@ pub inside-spec : {M : Type 1} → statement M
 inside-spec =
     tie.close
     (tie.spec
-    returns
-    mul-words-at
-    sub-words-at
-    part-words-at-start
-    part-words-at-end
-    words-at-requires
-    sub-if2
-    returns-2
+    returns (λ c. search needs) (λ c. search needs) (λ c. search needs) (λ c. search needs) (λ c κs. search needs) (λ c. search needs) returns-2
     returns-3)

@@ -9,12 +9,10 @@ returns : tie.Need-returns
 unfolding bodyChecks
 returns c = rw (ne-eqb _ _ (c .if1 .taken))
 
-check-body-requires : tie.Need-check-body-requires
-check-body-requires c κs = search needs
-
 returns-2 : tie.Need-returns-2
 unfolding bodyChecks
 returns-2 c = rw (eq-eqb _ _ (c .before .if1 .left)) (c .check-body .ensures)
 
 pub check-body-spec : {M : Type 1} → statement M
-check-body-spec = tie.close (tie.spec returns check-body-requires returns-2)
+check-body-spec =
+    tie.close (tie.spec returns (λ c κs. search needs) returns-2)

@@ -11,35 +11,14 @@ use borrow.Author.Needs.{needs}
 use Rattle.packet.proofs.checks.check_context.Statement.{statement}
 use Rattle.packet.proofs.checks.check_context.Tie as tie
 
-type-of-requires : tie.Need-type-of-requires
-type-of-requires c κs = search needs
-
 returns : tie.Need-returns
 unfolding bodyChecks
 returns c = search (cases, ← c .before .type-of .ensures)
 
-body-at-requires : tie.Need-body-at-requires
-body-at-requires c κs = search needs
-
-body-end-requires : tie.Need-body-end-requires
-body-end-requires c κs = search needs
-
-mul-check-body : tie.Need-mul-check-body
-mul-check-body c = search needs
-
-sub-check-body : tie.Need-sub-check-body
-sub-check-body c = search needs
-
-part-check-body-start : tie.Need-part-check-body-start
-part-check-body-start c = search needs
-
 part-check-body-end : tie.Need-part-check-body-end
 part-check-body-end c =
-    let s = c .before .before .before .before .before in
+    let s : tie.Start = search in
     omega (arith, room _ _ (s .pre .0) (s .pre .1) .body, c .body-end .ensures, c .before .body-at .ensures .0)
-
-check-body-requires : tie.Need-check-body-requires
-check-body-requires c κs = search needs
 
 returns-2 : tie.Need-returns-2
 unfolding bodyChecks bodyOf
@@ -47,20 +26,13 @@ returns-2 c =
     let b = c .before .before .before in
     let t = b .before .before in
     let a = t .before .before .args in
-    let e = seen (b .body-at .result) (c .before .before .body-end .result) (bodyLength (a .w)) (now (a .words)) (omega (arith, c .before .before .body-end .ensures, b .body-at .ensures .0)) in
+    let e = seen (b .body-at .result) (c .before .before .body-end .result) (bodyLength (a .w)) (now (a .words))
+    (omega (arith, c .before .before .body-end .ensures, b .body-at .ensures .0)) in
     rw (← t .type-of .ensures, eq-eqb _ _ (b .before .if1 .left), ← b .body-at .ensures .0, ← e) (c .check-body .ensures)
 
 pub check-context-spec : {M : Type 1} → statement M
 check-context-spec =
     tie.close
     (tie.spec
-    type-of-requires
-    returns
-    body-at-requires
-    body-end-requires
-    mul-check-body
-    sub-check-body
-    part-check-body-start
-    part-check-body-end
-    check-body-requires
-    returns-2)
+    (λ c κs. search needs) returns (λ c κs. search needs) (λ c κs. search needs) (λ c. search needs) (λ c. search needs) (λ c. search needs)
+    part-check-body-end (λ c κs. search needs) returns-2)

@@ -9,15 +9,10 @@ returns : tie.Need-returns
 unfolding frontChecks
 returns c = rw (eq-eqb _ _ (c .if1 .taken))
 
-shared-slice-read-check-headed : tie.Need-shared-slice-read-check-headed
-shared-slice-read-check-headed c = search needs
-
-check-headed-requires : tie.Need-check-headed-requires
-check-headed-requires c κs = search needs
-
 returns-2 : tie.Need-returns-2
 unfolding frontChecks
 returns-2 c = rw (ne-eqb _ _ (c .before .before .if1 .left)) (c .check-headed .ensures)
 
 pub check-front-spec : {M : Type 1} → statement M
-check-front-spec = tie.close (tie.spec returns shared-slice-read-check-headed check-headed-requires returns-2)
+check-front-spec =
+    tie.close (tie.spec returns (λ c. search needs) (λ c κs. search needs) returns-2)

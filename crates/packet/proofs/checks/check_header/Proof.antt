@@ -5,15 +5,9 @@ use borrow.Author.Needs.{needs}
 use Rattle.packet.proofs.checks.check_header.Statement.{statement}
 use Rattle.packet.proofs.checks.check_header.Tie as tie
 
-type-of-requires : tie.Need-type-of-requires
-type-of-requires c κs = search needs
-
 returns : tie.Need-returns
 unfolding headerChecks
 returns c = search (cases, ← c .before .type-of .ensures)
-
-reserved-of-requires : tie.Need-reserved-of-requires
-reserved-of-requires c κs = search needs
 
 returns-2 : tie.Need-returns-2
 unfolding headerChecks
@@ -25,4 +19,4 @@ returns-3 c = search (cases, ← c .before .reserved-of .ensures, ← c .before 
 
 pub check-header-spec : {M : Type 1} → statement M
 check-header-spec =
-    tie.close (tie.spec type-of-requires returns reserved-of-requires returns-2 returns-3)
+    tie.close (tie.spec (λ c κs. search needs) returns (λ c κs. search needs) returns-2 returns-3)

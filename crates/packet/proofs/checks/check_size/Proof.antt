@@ -5,12 +5,6 @@ use borrow.Author.Needs.{needs}
 use Rattle.packet.proofs.checks.check_size.Statement.{statement}
 use Rattle.packet.proofs.checks.check_size.Tie as tie
 
-size-of-requires : tie.Need-size-of-requires
-size-of-requires c κs = search needs
-
-required-requires : tie.Need-required-requires
-required-requires c κs = search needs
-
 returns : tie.Need-returns
 unfolding sizeChecks
 returns c = search (cases, ← c .before .required .ensures .0, ← c .before .before .size-of .ensures .0)
@@ -25,4 +19,4 @@ returns-3 c = search (cases, ← c .before .before .required .ensures .0, ← c 
 
 pub check-size-spec : {M : Type 1} → statement M
 check-size-spec =
-    tie.close (tie.spec size-of-requires required-requires returns returns-2 returns-3)
+    tie.close (tie.spec (λ c κs. search needs) (λ c κs. search needs) returns returns-2 returns-3)

@@ -4,12 +4,10 @@ use borrow.Author.Needs.{needs}
 use Rattle.packet.proofs.checks.time_over.Statement.{statement}
 use Rattle.packet.proofs.checks.time_over.Tie as tie
 
-both-of-requires : tie.Need-both-of-requires
-both-of-requires c κs = search needs
-
 returns : tie.Need-returns
 unfolding timeOver
 returns c = c .both-of .ensures
 
 pub time-over-spec : {M : Type 1} → statement M
-time-over-spec = tie.close (tie.spec both-of-requires returns)
+time-over-spec =
+    tie.close (tie.spec (λ c κs. search needs) returns)

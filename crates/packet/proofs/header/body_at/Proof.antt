@@ -4,23 +4,10 @@ use borrow.Author.Needs.{needs}
 use Rattle.packet.proofs.header.body_at.Statement.{statement}
 use Rattle.packet.proofs.header.body_at.Tie as tie
 
-fraction-at-requires : tie.Need-fraction-at-requires
-fraction-at-requires c κs = search needs
-
-has-fraction-requires : tie.Need-has-fraction-requires
-has-fraction-requires c κs = search needs
-
-when-so-requires : tie.Need-when-so-requires
-when-so-requires c κs = search needs
-
-add-result : tie.Need-add-result
-add-result c = search needs
-
 returns : tie.Need-returns
 unfolding bodyAt
 returns c = (rw (c .when-so .ensures .0, c .before .has-fraction .ensures, c .before .before .fraction-at .ensures .0), search needs)
 
 pub body-at-spec : {M : Type 1} → statement M
 body-at-spec =
-    tie.close
-    (tie.spec fraction-at-requires has-fraction-requires when-so-requires add-result returns)
+    tie.close (tie.spec (λ c κs. search needs) (λ c κs. search needs) (λ c κs. search needs) (λ c. search needs) returns)

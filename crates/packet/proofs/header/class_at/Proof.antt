@@ -4,18 +4,10 @@ use borrow.Author.Needs.{needs}
 use Rattle.packet.proofs.header.class_at.Statement.{statement}
 use Rattle.packet.proofs.header.class_at.Tie as tie
 
-has-stream-requires : tie.Need-has-stream-requires
-has-stream-requires c κs = search needs
-
-when-so-requires : tie.Need-when-so-requires
-when-so-requires c κs = search needs
-
-add-result : tie.Need-add-result
-add-result c = search needs
-
 returns : tie.Need-returns
 unfolding classAt
 returns c = (rw (c .when-so .ensures .0, c .before .has-stream .ensures), search needs)
 
 pub class-at-spec : {M : Type 1} → statement M
-class-at-spec = tie.close (tie.spec has-stream-requires when-so-requires add-result returns)
+class-at-spec =
+    tie.close (tie.spec (λ c κs. search needs) (λ c κs. search needs) (λ c. search needs) returns)

@@ -4,12 +4,10 @@ use borrow.Author.Needs.{needs}
 use Rattle.packet.proofs.header.has_fraction.Statement.{statement}
 use Rattle.packet.proofs.header.has_fraction.Tie as tie
 
-tsf-of-requires : tie.Need-tsf-of-requires
-tsf-of-requires c κs = search needs
-
 returns : tie.Need-returns
 unfolding hasFraction
 returns c = rw (c .tsf-of .ensures)
 
 pub has-fraction-spec : {M : Type 1} → statement M
-has-fraction-spec = tie.close (tie.spec tsf-of-requires returns)
+has-fraction-spec =
+    tie.close (tie.spec (λ c κs. search needs) returns)

@@ -8,15 +8,10 @@ use borrow.Author.Needs.{needs}
 use Rattle.packet.proofs.header.has_stream.Statement.{statement}
 use Rattle.packet.proofs.header.has_stream.Tie as tie
 
-type-of-requires : tie.Need-type-of-requires
-type-of-requires c κs = search needs
-
-shr-result : tie.Need-shr-result
-shr-result c = search needs
-
 returns : tie.Need-returns
 unfolding streamed
 returns c = rw (c .type-of .ensures) (streamed-bit (typeOf (c .before .args .w)) (mod-lt _ (omega arith)))
 
 pub has-stream-spec : {M : Type 1} → statement M
-has-stream-spec = tie.close (tie.spec type-of-requires shr-result returns)
+has-stream-spec =
+    tie.close (tie.spec (λ c κs. search needs) (λ c. search needs) returns)

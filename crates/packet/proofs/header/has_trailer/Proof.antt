@@ -5,9 +5,6 @@ use borrow.Author.Needs.{needs}
 use Rattle.packet.proofs.header.has_trailer.Statement.{statement}
 use Rattle.packet.proofs.header.has_trailer.Tie as tie
 
-type-of-requires : tie.Need-type-of-requires
-type-of-requires c κs = search needs
-
 returns : tie.Need-returns
 unfolding trailed
 returns c = search (cases, ← c .before .type-of .ensures)
@@ -17,4 +14,5 @@ unfolding trailed
 returns-2 c = search (cases, ← c .before .type-of .ensures)
 
 pub has-trailer-spec : {M : Type 1} → statement M
-has-trailer-spec = tie.close (tie.spec type-of-requires returns returns-2)
+has-trailer-spec =
+    tie.close (tie.spec (λ c κs. search needs) returns returns-2)

@@ -4,27 +4,6 @@ use borrow.Author.Needs.{needs}
 use Rattle.packet.proofs.header.required.Statement.{statement}
 use Rattle.packet.proofs.header.required.Tie as tie
 
-body-at-requires : tie.Need-body-at-requires
-body-at-requires c κs = search needs
-
-has-trailer-requires : tie.Need-has-trailer-requires
-has-trailer-requires c κs = search needs
-
-when-so-requires : tie.Need-when-so-requires
-when-so-requires c κs = search needs
-
-add-result : tie.Need-add-result
-add-result c = search needs
-
-type-of-requires : tie.Need-type-of-requires
-type-of-requires c κs = search needs
-
-when-so-requires-2 : tie.Need-when-so-requires-2
-when-so-requires-2 c κs = search needs
-
-add-result-2 : tie.Need-add-result-2
-add-result-2 c = search needs
-
 returns : tie.Need-returns
 unfolding requiredOf
 returns c =
@@ -35,11 +14,5 @@ pub required-spec : {M : Type 1} → statement M
 required-spec =
     tie.close
     (tie.spec
-    body-at-requires
-    has-trailer-requires
-    when-so-requires
-    add-result
-    type-of-requires
-    when-so-requires-2
-    add-result-2
-    returns)
+    (λ c κs. search needs) (λ c κs. search needs) (λ c κs. search needs) (λ c. search needs) (λ c κs. search needs) (λ c κs. search needs)
+    (λ c. search needs) returns)

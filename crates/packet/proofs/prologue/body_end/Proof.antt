@@ -7,15 +7,6 @@ use borrow.Author.Needs.{needs}
 use Rattle.packet.proofs.prologue.body_end.Statement.{statement}
 use Rattle.packet.proofs.prologue.body_end.Tie as tie
 
-size-of-requires : tie.Need-size-of-requires
-size-of-requires c κs = search needs
-
-has-trailer-requires : tie.Need-has-trailer-requires
-has-trailer-requires c κs = search needs
-
-when-so-requires : tie.Need-when-so-requires
-when-so-requires c κs = search needs
-
 sub-result : tie.Need-sub-result
 sub-result c =
     let s = c .before .before in
@@ -29,4 +20,4 @@ returns c =
 
 pub body-end-spec : {M : Type 1} → statement M
 body-end-spec =
-    tie.close (tie.spec size-of-requires has-trailer-requires when-so-requires sub-result returns)
+    tie.close (tie.spec (λ c κs. search needs) (λ c κs. search needs) (λ c κs. search needs) sub-result returns)

@@ -6,12 +6,6 @@ use borrow.Author.Needs.{needs}
 use Rattle.packet.proofs.prologue.class_high.Statement.{statement}
 use Rattle.packet.proofs.prologue.class_high.Tie as tie
 
-has-class-requires : tie.Need-has-class-requires
-has-class-requires c κs = search needs
-
-class-at-requires : tie.Need-class-at-requires
-class-at-requires c κs = search needs
-
 word-if-requires : tie.Need-word-if-requires
 word-if-requires c κs =
     let p = c .before .before .before .pre in
@@ -23,4 +17,4 @@ returns c = rw (← c .before .class-at .ensures .0, ← c .before .before .has-
 
 pub class-high-spec : {M : Type 1} → statement M
 class-high-spec =
-    tie.close (tie.spec has-class-requires class-at-requires word-if-requires returns)
+    tie.close (tie.spec (λ c κs. search needs) (λ c κs. search needs) word-if-requires returns)

@@ -15,39 +15,24 @@ use Rattle.packet.proofs.prologue.fraction_of.Tie as tie
 inside : (c : tie.Start) → hasFraction (c .args .w) ≡ true → fractionAt (c .args .w) + 2 ≤ length (now (c .args .words))
 inside c there = when-inside _ _ _ _ (room _ _ (c .pre .0) (c .pre .1) .fraction) there
 
-has-fraction-requires : tie.Need-has-fraction-requires
-has-fraction-requires c κs = search needs
-
-fraction-at-requires : tie.Need-fraction-at-requires
-fraction-at-requires c κs = search needs
-
 word-if-requires : tie.Need-word-if-requires
-word-if-requires c κs = rw (c .fraction-at .ensures .0, c .before .has-fraction .ensures) (λ there. omega (arith, inside (c .before .before .before) there))
-
-add-word-if : tie.Need-add-word-if
-add-word-if c = search needs
+word-if-requires c κs =
+    rw (c .fraction-at .ensures .0, c .before .has-fraction .ensures) (λ there. omega (arith, inside (c .before .before .before) there))
 
 word-if-requires-2 : tie.Need-word-if-requires-2
 word-if-requires-2 c κs =
-    rw (c .before .fraction-at .ensures .0, c .before .before .has-fraction .ensures) (λ there. omega (arith, inside (c .before .before .before .before) there))
-
-high-first-requires : tie.Need-high-first-requires
-high-first-requires c κs = search needs
+    let start : tie.Start = search in
+    rw (c .before .fraction-at .ensures .0, c .before .before .has-fraction .ensures) (λ there. omega (arith, inside (start) there))
 
 returns : tie.Need-returns
 unfolding fractionOf
 returns c =
     let at = c .before .before .before in
-    rw (← at .fraction-at .ensures .0, ← at .before .has-fraction .ensures, ← c .before .before .word-if .ensures, ← c .before .word-if2 .ensures) (c .high-first .ensures)
+    rw (← at .fraction-at .ensures .0, ← at .before .has-fraction .ensures, ← c .before .before .word-if .ensures, ← c .before .word-if2 .ensures)
+    (c .high-first .ensures)
 
 pub fraction-of-spec : {M : Type 1} → statement M
 fraction-of-spec =
     tie.close
     (tie.spec
-    has-fraction-requires
-    fraction-at-requires
-    word-if-requires
-    add-word-if
-    word-if-requires-2
-    high-first-requires
-    returns)
+    (λ c κs. search needs) (λ c κs. search needs) word-if-requires (λ c. search needs) word-if-requires-2 (λ c κs. search needs) returns)

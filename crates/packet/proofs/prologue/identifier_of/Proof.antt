@@ -5,9 +5,6 @@ use borrow.Author.Needs.{needs}
 use Rattle.packet.proofs.prologue.identifier_of.Statement.{statement}
 use Rattle.packet.proofs.prologue.identifier_of.Tie as tie
 
-has-stream-requires : tie.Need-has-stream-requires
-has-stream-requires c κs = search needs
-
 word-if-requires : tie.Need-word-if-requires
 word-if-requires c κs =
     let p = c .before .before .pre in
@@ -17,4 +14,5 @@ returns : tie.Need-returns
 returns c = rw (← c .before .has-stream .ensures) (c .word-if .ensures)
 
 pub identifier-of-spec : {M : Type 1} → statement M
-identifier-of-spec = tie.close (tie.spec has-stream-requires word-if-requires returns)
+identifier-of-spec =
+    tie.close (tie.spec (λ c κs. search needs) word-if-requires returns)

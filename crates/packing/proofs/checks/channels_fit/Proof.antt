@@ -6,15 +6,6 @@ use borrow.Author.Needs.{needs}
 use Rattle.packing.proofs.checks.channels_fit.Statement.{statement}
 use Rattle.packing.proofs.checks.channels_fit.Tie as tie
 
-join-channels-requires : tie.Need-join-channels-requires
-join-channels-requires c κs = search needs
-
-cast-result : tie.Need-cast-result
-cast-result c = search needs
-
-power-requires : tie.Need-power-requires
-power-requires c κs = search needs
-
 returns : tie.Need-returns
 returns c =
     let a = c .before .before .before .args in
@@ -22,4 +13,5 @@ returns c =
     rw (c .before .join-channels .ensures, c .power .ensures .0) (sym (fitting-joined (a .w) (length l) l))
 
 pub channels-fit-spec : {M : Type 1} → statement M
-channels-fit-spec = tie.close (tie.spec join-channels-requires cast-result power-requires returns)
+channels-fit-spec =
+    tie.close (tie.spec (λ c κs. search needs) (λ c. search needs) (λ c κs. search needs) returns)

@@ -8,17 +8,13 @@ use borrow.Author.Needs.{needs}
 use Rattle.packing.proofs.checks.items_fit.Statement.{statement}
 use Rattle.packing.proofs.checks.items_fit.Tie as tie
 
-join-items-requires : tie.Need-join-items-requires
-join-items-requires c κs = search needs
-
-ones-requires : tie.Need-ones-requires
-ones-requires c κs = search needs
-
 returns : tie.Need-returns
 returns c =
     let a = c .before .before .before .args in
     let l = a .items .now in
-    rw (c .before .join-items .ensures) (leb-ltb (joined (length l) l) (c .ones .result) (2 ^ a .w) (c .ones .ensures) ∙ sym (fitting-joined (a .w) (length l) l))
+    rw (c .before .join-items .ensures)
+    (leb-ltb (joined (length l) l) (c .ones .result) (2 ^ a .w) (c .ones .ensures) ∙ sym (fitting-joined (a .w) (length l) l))
 
 pub items-fit-spec : {M : Type 1} → statement M
-items-fit-spec = tie.close (tie.spec join-items-requires ones-requires returns)
+items-fit-spec =
+    tie.close (tie.spec (λ c κs. search needs) (λ c κs. search needs) returns)

@@ -12,57 +12,24 @@ mul-word-at c = omega (arith, contents-of _ (c .before .pre .0) .few, c .before 
 add-word-at : tie.Need-add-word-at
 add-word-at c = omega (arith, contents-of _ (c .before .pre .0) .few, c .before .pre .1)
 
-word-at-requires : tie.Need-word-at-requires
-word-at-requires c κs = search needs
-
-cast-at : tie.Need-cast-at
-cast-at c = search needs
-
 mul-word-at-2 : tie.Need-mul-word-at-2
 mul-word-at-2 c = omega (arith, contents-of _ (c .before .before .pre .0) .few, c .before .before .pre .1)
 
 add-word-at-2 : tie.Need-add-word-at-2
 add-word-at-2 c = omega (arith, contents-of _ (c .before .before .pre .0) .few, c .before .before .pre .1)
 
-word-at-requires-2 : tie.Need-word-at-requires-2
-word-at-requires-2 c κs = search needs
-
-cast-end : tie.Need-cast-end
-cast-end c = search needs
-
-add-end : tie.Need-add-end
-add-end c = search needs
-
-mul-result : tie.Need-mul-result
-mul-result c = search needs
-
-sub-result : tie.Need-sub-result
-sub-result c = search needs
-
-part-result-start : tie.Need-part-result-start
-part-result-start c = search needs
-
 part-result-end : tie.Need-part-result-end
-part-result-end c = let b = c .before .before .before in load-inside _ _ (b .pre .0) (b .pre .1) _ _ (c .before .word-at .ensures) (c .word-at2 .ensures)
+part-result-end c =
+    let b = c .before .before .before in load-inside _ _ (b .pre .0) (b .pre .1) _ _ (c .before .word-at .ensures) (c .word-at2 .ensures)
 
 returns : tie.Need-returns
-returns c = let b = c .before .before .before .before in load-body _ _ (b .pre .0) (b .pre .1) _ _ (c .before .before .word-at .ensures) (c .before .word-at2 .ensures)
+returns c =
+    let start : tie.Start = search in
+    let b = start in load-body _ _ (b .pre .0) (b .pre .1) _ _ (c .before .before .word-at .ensures) (c .before .word-at2 .ensures)
 
 pub body-in-spec : {M : Type 1} → statement M
 body-in-spec =
     tie.close
     (tie.spec
-    mul-word-at
-    add-word-at
-    word-at-requires
-    cast-at
-    mul-word-at-2
-    add-word-at-2
-    word-at-requires-2
-    cast-end
-    add-end
-    mul-result
-    sub-result
-    part-result-start
-    part-result-end
-    returns)
+    mul-word-at add-word-at (λ c κs. search needs) (λ c. search needs) mul-word-at-2 add-word-at-2 (λ c κs. search needs) (λ c. search needs)
+    (λ c. search needs) (λ c. search needs) (λ c. search needs) (λ c. search needs) part-result-end returns)

@@ -19,14 +19,8 @@ loop-holds c = adding-start _ _ refl
 next-field-requires : tie.Need-next-field-requires Inv-loop μ-loop
 next-field-requires c κs = pos-of-ne-zero (c .loop-test .taken)
 
-size-in-requires : tie.Need-size-in-requires Inv-loop μ-loop
-size-in-requires c κs = search needs
-
 add-length : tie.Need-add-length Inv-loop μ-loop
 add-length c = omega (arith, adding-most _ _ _ _ _ _ (c .before .before .before .loop .inv) (c .before .next-field .ensures .0) (c .size-in .ensures .0))
-
-loop-less : tie.Need-loop-less Inv-loop μ-loop
-loop-less c = search needs
 
 loop-again : tie.Need-loop-again Inv-loop μ-loop
 loop-again c = adding-turn _ _ _ _ _ _ (c .before .before .before .loop .inv) (c .before .next-field .ensures .0) (c .size-in .ensures .0)
@@ -36,14 +30,4 @@ returns c = adding-end _ _ _ (c .before .loop .inv) (c .loop-test .left)
 
 pub body-words-spec : {M : Type 1} → statement M
 body-words-spec =
-    tie.close
-    (tie.spec
-    Inv-loop
-    μ-loop
-    loop-holds
-    next-field-requires
-    size-in-requires
-    add-length
-    loop-less
-    loop-again
-    returns)
+    tie.close (tie.spec Inv-loop μ-loop loop-holds next-field-requires (λ c κs. search needs) add-length (λ c. search needs) loop-again returns)

@@ -15,29 +15,8 @@ Inv-loop table sizes n length₀ s₀ length s = Summing table n s length
 abbrev μ-loop : tie.MeasureT-loop
 μ-loop table sizes n length₀ s₀ length s = n - s
 
-streams-requires : tie.Need-streams-requires Inv-loop μ-loop
-streams-requires c κs = search needs
-
-mul-length : tie.Need-mul-length Inv-loop μ-loop
-mul-length c = search needs
-
-add-length : tie.Need-add-length Inv-loop μ-loop
-add-length c = search needs
-
 loop-holds : tie.Need-loop-holds Inv-loop μ-loop
 loop-holds c = summing-start _ (c .before .before .pre) _ (c .streams .ensures .0)
-
-mul-at : tie.Need-mul-at Inv-loop μ-loop
-mul-at c = search needs
-
-add-at : tie.Need-add-at Inv-loop μ-loop
-add-at c = search needs
-
-add-body-words : tie.Need-add-body-words Inv-loop μ-loop
-add-body-words c = search needs
-
-mul-body-words : tie.Need-mul-body-words Inv-loop μ-loop
-mul-body-words c = search needs
 
 shared-slice-read-body-words : tie.Need-shared-slice-read-body-words Inv-loop μ-loop
 shared-slice-read-body-words c =
@@ -50,41 +29,30 @@ body-words-requires c κs = refl
 
 add-length-2 : tie.Need-add-length-2 Inv-loop μ-loop
 add-length-2 c =
-    let b = c .before .before .before .before .before in
-    omega (arith, summing-most _ (b .before .before .pre) _ _ _ _ (b .streams .ensures .0) (c .before .before .before .before .loop .inv) (c .before .before .before .loop-test .taken) (c .body-words .ensures .0))
-
-add-s : tie.Need-add-s Inv-loop μ-loop
-add-s c = search needs
-
-loop-less : tie.Need-loop-less Inv-loop μ-loop
-loop-less c = search needs
+    let at-loop : tie.At-loop Inv-loop μ-loop = search in
+    let b : tie.After-streams Inv-loop μ-loop = search in
+    omega (
+      arith,
+      summing-most _ (b .before .before .pre) _ _ _ _ (b .streams .ensures .0) (at-loop .loop .inv)
+          (c .before .before .before .loop-test .taken) (c .body-words .ensures .0),
+    )
 
 loop-again : tie.Need-loop-again Inv-loop μ-loop
 loop-again c =
-    let b = c .before .before .before .before .before in
-    summing-turn _ (b .before .before .pre) _ _ _ _ (b .streams .ensures .0) (c .before .before .before .before .loop .inv) (c .before .before .before .loop-test .taken) (c .body-words .ensures .0)
+    let at-loop : tie.At-loop Inv-loop μ-loop = search in
+    let b : tie.After-streams Inv-loop μ-loop = search in
+    summing-turn _ (b .before .before .pre) _ _ _ _ (b .streams .ensures .0) (at-loop .loop .inv) (c .before .before .before .loop-test .taken)
+    (c .body-words .ensures .0)
 
 returns : tie.Need-returns Inv-loop μ-loop
-returns c = summing-end _ (c .before .before .before .before .pre) _ _ _ (c .before .before .streams .ensures .0) (c .before .loop .inv) (c .loop-test .left)
+returns c =
+    let start : tie.Start Inv-loop μ-loop = search in
+    summing-end _ (start .pre) _ _ _ (c .before .before .streams .ensures .0) (c .before .loop .inv) (c .loop-test .left)
 
 pub page-words-spec : {M : Type 1} → statement M
 page-words-spec =
     tie.close
     (tie.spec
-    Inv-loop
-    μ-loop
-    streams-requires
-    mul-length
-    add-length
-    loop-holds
-    mul-at
-    add-at
-    add-body-words
-    mul-body-words
-    shared-slice-read-body-words
-    body-words-requires
-    add-length-2
-    add-s
-    loop-less
-    loop-again
-    returns)
+    Inv-loop μ-loop (λ c κs. search needs) (λ c. search needs) (λ c. search needs) loop-holds (λ c. search needs) (λ c. search needs)
+    (λ c. search needs) (λ c. search needs) shared-slice-read-body-words body-words-requires add-length-2 (λ c. search needs) (λ c. search needs)
+    loop-again returns)

@@ -21,15 +21,9 @@ loop-holds c = squeezing-start _ _ _ _ (c .before .before .pre .1)
 next-field-requires : tie.Need-next-field-requires Inv-loop μ-loop
 next-field-requires c κs = pos-of-ne-zero (c .loop-test .taken)
 
-size-in-requires : tie.Need-size-in-requires Inv-loop μ-loop
-size-in-requires c κs = search needs
-
-slot-in-requires : tie.Need-slot-in-requires Inv-loop μ-loop
-slot-in-requires c κs = search needs
-
 copy-field-requires : tie.Need-copy-field-requires Inv-loop μ-loop
 copy-field-requires c κs =
-    let h = c .before .before .before .before .before in
+    let h : tie.At-loop Inv-loop μ-loop = search in
     let b = h .before .before .before in
     let f = c .before .before .before .next-field in
     let n = c .before .before .size-in in
@@ -39,20 +33,18 @@ copy-field-requires c κs =
       size-held _ _ held (n .ensures .0),
     )
 
-add-to : tie.Need-add-to Inv-loop μ-loop
-add-to c = search needs
-
-loop-less : tie.Need-loop-less Inv-loop μ-loop
-loop-less c = search needs
-
 loop-again : tie.Need-loop-again Inv-loop μ-loop
 loop-again c =
-    let h = c .before .before .before .before .before .before .before .before in
+    let at-next-field : tie.After-next-field Inv-loop μ-loop = search in
+    let at-size-in : tie.After-size-in Inv-loop μ-loop = search in
+    let at-slot-in : tie.After-slot-in Inv-loop μ-loop = search in
+    let h : tie.At-loop Inv-loop μ-loop = search in
     let b = h .before .before .before in
-    let f = c .before .before .before .before .before .before .next-field in
-    let n = c .before .before .before .before .before .size-in in
+    let f = at-next-field .next-field in
+    let n = at-size-in .size-in in
     squeezing-turn (h .loop .inv) _ _ _ _ (f .ensures .0) (n .ensures .0) (squeezing-holds (h .loop .inv) _ _ 0 (f .ensures .0)) (b .pre .0)
-    (squeezing-room (h .loop .inv) _ _ _ (f .ensures .0) (n .ensures .0) (b .pre .2)) (rw (c .before .before .before .before .slot-in .ensures .0) at (c .before .before .copy-field .ensures))
+    (squeezing-room (h .loop .inv) _ _ _ (f .ensures .0) (n .ensures .0) (b .pre .2))
+    (rw (at-slot-in .slot-in .ensures .0) at (c .before .before .copy-field .ensures))
 
 same-length : tie.Need-same-length Inv-loop μ-loop
 same-length c = laid-length (c .before .loop .inv .laid)
@@ -64,15 +56,5 @@ pub squeeze-spec : {M : Type 1} → statement M
 squeeze-spec =
     tie.close
     (tie.spec
-    Inv-loop
-    μ-loop
-    loop-holds
-    next-field-requires
-    size-in-requires
-    slot-in-requires
-    copy-field-requires
-    add-to
-    loop-less
-    loop-again
-    same-length
-    returns)
+    Inv-loop μ-loop loop-holds next-field-requires (λ c κs. search needs) (λ c κs. search needs) copy-field-requires (λ c. search needs)
+    (λ c. search needs) loop-again same-length returns)

@@ -8,39 +8,34 @@ use borrow.Author.Needs.{needs}
 use Rattle.page.proofs.good.page_ok.Statement.{statement}
 use Rattle.page.proofs.good.page_ok.Tie as tie
 
-contents-good-requires : tie.Need-contents-good-requires
-contents-good-requires c κs = search needs
-
 returns : tie.Need-returns
 returns c = page-contents-ill _ (sym (c .before .contents-good .ensures) ∙ not-true _ (c .if1 .taken))
 
-word-at-requires : tie.Need-word-at-requires
-word-at-requires c κs = search needs
-
-cast-n : tie.Need-cast-n
-cast-n c = search needs
-
 list-good-requires : tie.Need-list-good-requires
-list-good-requires c κs = omega (arith, c .word-at .ensures, contents-of _ (sym (c .before .before .contents-good .ensures) ∙ not-false _ (c .before .if1 .left)) .few)
+list-good-requires c κs =
+    omega (arith, c .word-at .ensures, contents-of _ (sym (c .before .before .contents-good .ensures) ∙ not-false _ (c .before .if1 .left)) .few)
 
 returns-2 : tie.Need-returns-2
-returns-2 c = page-list-ill _ _ (c .before .before .word-at .ensures) (sym (c .before .before .before .before .contents-good .ensures) ∙ not-false _ (c .before .before .before .if1 .left)) (sym (c .before .list-good .ensures) ∙ not-true _ (c .if2 .taken))
+returns-2 c =
+    let at-contents-good : tie.After-contents-good = search in
+    page-list-ill _ _ (c .before .before .word-at .ensures)
+    (sym (at-contents-good .contents-good .ensures) ∙ not-false _ (c .before .before .before .if1 .left))
+    (sym (c .before .list-good .ensures) ∙ not-true _ (c .if2 .taken))
 
 records-good-requires : tie.Need-records-good-requires
-records-good-requires c κs = (sym (c .before .before .before .before .contents-good .ensures) ∙ not-false _ (c .before .before .before .if1 .left), c .before .before .word-at .ensures)
+records-good-requires c κs =
+    let at-contents-good : tie.After-contents-good = search in
+    (sym (at-contents-good .contents-good .ensures) ∙ not-false _ (c .before .before .before .if1 .left), c .before .before .word-at .ensures)
 
 returns-3 : tie.Need-returns-3
-returns-3 c = page-records _ _ (c .before .before .before .word-at .ensures) (sym (c .before .before .before .before .before .contents-good .ensures) ∙ not-false _ (c .before .before .before .before .if1 .left)) _ (sym (c .before .before .list-good .ensures) ∙ not-false _ (c .before .if2 .left)) (c .records-good .ensures)
+returns-3 c =
+    let at-contents-good : tie.After-contents-good = search in
+    let at-if1 : tie.Else1 = search in
+    page-records _ _ (c .before .before .before .word-at .ensures) (sym (at-contents-good .contents-good .ensures) ∙ not-false _ (at-if1 .if1 .left)) _
+    (sym (c .before .before .list-good .ensures) ∙ not-false _ (c .before .if2 .left)) (c .records-good .ensures)
 
 pub page-ok-spec : {M : Type 1} → statement M
 page-ok-spec =
     tie.close
     (tie.spec
-    contents-good-requires
-    returns
-    word-at-requires
-    cast-n
-    list-good-requires
-    returns-2
-    records-good-requires
-    returns-3)
+    (λ c κs. search needs) returns (λ c κs. search needs) (λ c. search needs) list-good-requires returns-2 records-good-requires returns-3)

@@ -15,12 +15,6 @@ Inv-loop page n sizes at₀ s₀ at s = Paired page n s at
 abbrev μ-loop : tie.MeasureT-loop
 μ-loop page n sizes at₀ s₀ at s = n - s
 
-mul-at : tie.Need-mul-at Inv-loop μ-loop
-mul-at c = search needs
-
-add-at : tie.Need-add-at Inv-loop μ-loop
-add-at c = search needs
-
 loop-holds : tie.Need-loop-holds Inv-loop μ-loop
 loop-holds c = paired-start _ _ (c .before .pre .0) (c .before .pre .2)
 
@@ -29,31 +23,17 @@ unfolding sizeOf all
 pair-good-requires c κs = (search needs, search needs, search needs, refl)
 
 returns : tie.Need-returns Inv-loop μ-loop
-returns c = paired-fails _ _ _ _ (c .before .before .before .before .loop .inv) (c .before .before .before .loop-test .taken) (sym (c .before .pair-good .ensures) ∙ not-true _ (c .if1 .taken))
-
-mul-word-at : tie.Need-mul-word-at Inv-loop μ-loop
-mul-word-at c = search needs
-
-add-word-at : tie.Need-add-word-at Inv-loop μ-loop
-add-word-at c = search needs
-
-word-at-requires : tie.Need-word-at-requires Inv-loop μ-loop
-word-at-requires c κs = search needs
-
-cast-at : tie.Need-cast-at Inv-loop μ-loop
-cast-at c = search needs
-
-add-at-2 : tie.Need-add-at-2 Inv-loop μ-loop
-add-at-2 c = search needs
-
-add-s : tie.Need-add-s Inv-loop μ-loop
-add-s c = search needs
-
-loop-less : tie.Need-loop-less Inv-loop μ-loop
-loop-less c = search needs
+returns c =
+    let at-loop : tie.At-loop Inv-loop μ-loop = search in
+    paired-fails _ _ _ _ (at-loop .loop .inv) (c .before .before .before .loop-test .taken)
+    (sym (c .before .pair-good .ensures) ∙ not-true _ (c .if1 .taken))
 
 loop-again : tie.Need-loop-again Inv-loop μ-loop
-loop-again c = paired-turn _ _ _ _ (c .before .before .before .before .before .loop .inv) _ (sym (c .before .before .pair-good .ensures) ∙ not-false _ (c .before .if1 .left)) (c .word-at .ensures) (c .before .before .before .before .loop-test .taken)
+loop-again c =
+    let at-loop : tie.At-loop Inv-loop μ-loop = search in
+    let at-loop-test : tie.In-loop Inv-loop μ-loop = search in
+    paired-turn _ _ _ _ (at-loop .loop .inv) _ (sym (c .before .before .pair-good .ensures) ∙ not-false _ (c .before .if1 .left)) (c .word-at .ensures)
+    (at-loop-test .loop-test .taken)
 
 returns-2 : tie.Need-returns-2 Inv-loop μ-loop
 returns-2 c = paired-end _ _ _ _ (c .before .loop .inv) (c .loop-test .left)
@@ -62,19 +42,5 @@ pub pairs-good-spec : {M : Type 1} → statement M
 pairs-good-spec =
     tie.close
     (tie.spec
-    Inv-loop
-    μ-loop
-    mul-at
-    add-at
-    loop-holds
-    pair-good-requires
-    returns
-    mul-word-at
-    add-word-at
-    word-at-requires
-    cast-at
-    add-at-2
-    add-s
-    loop-less
-    loop-again
-    returns-2)
+    Inv-loop μ-loop (λ c. search needs) (λ c. search needs) loop-holds pair-good-requires returns (λ c. search needs) (λ c. search needs)
+    (λ c κs. search needs) (λ c. search needs) (λ c. search needs) (λ c. search needs) (λ c. search needs) loop-again returns-2)

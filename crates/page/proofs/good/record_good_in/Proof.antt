@@ -9,9 +9,6 @@ use borrow.Author.Needs.{needs}
 use Rattle.page.proofs.good.record_good_in.Statement.{statement}
 use Rattle.page.proofs.good.record_good_in.Tie as tie
 
-body-in-requires : tie.Need-body-in-requires
-body-in-requires c κs = search needs
-
 body-good-requires : tie.Need-body-good-requires
 body-good-requires c κs = let b = c .before .before in load-asks _ _ (b .pre .0) (b .pre .1) _ (c .body-in .ensures)
 
@@ -20,4 +17,5 @@ unfolding recordGoodIn savedRecord
 returns c = c .body-good .ensures ∙ ap (λ x. recordGood (recordOf x)) (c .before .body-in .ensures)
 
 pub record-good-in-spec : {M : Type 1} → statement M
-record-good-in-spec = tie.close (tie.spec body-in-requires body-good-requires returns)
+record-good-in-spec =
+    tie.close (tie.spec (λ c κs. search needs) body-good-requires returns)

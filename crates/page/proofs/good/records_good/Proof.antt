@@ -20,34 +20,18 @@ abbrev μ-loop : tie.MeasureT-loop
 loop-holds : tie.Need-loop-holds Inv-loop μ-loop
 loop-holds c = (search needs, all-none _)
 
-record-good-in-requires : tie.Need-record-good-in-requires Inv-loop μ-loop
-record-good-in-requires c κs = search needs
-
 returns : tie.Need-returns Inv-loop μ-loop
-returns c = sym (all-fails _ _ (c .before .before .before .loop .s) (c .before .before .loop-test .taken) (sym (c .before .record-good-in .ensures) ∙ not-true _ (c .if1 .taken)))
-
-add-s : tie.Need-add-s Inv-loop μ-loop
-add-s c = search needs
-
-loop-less : tie.Need-loop-less Inv-loop μ-loop
-loop-less c = search needs
+returns c =
+    sym (all-fails _ _ (c .before .before .before .loop .s) (c .before .before .loop-test .taken)
+    (sym (c .before .record-good-in .ensures) ∙ not-true _ (c .if1 .taken)))
 
 loop-again : tie.Need-loop-again Inv-loop μ-loop
-loop-again c = (search needs, all-more _ _ (c .before .before .before .loop .inv .1) (sym (c .before .record-good-in .ensures) ∙ not-false _ (c .if1 .left)))
+loop-again c =
+    (search needs, all-more _ _ (c .before .before .before .loop .inv .1) (sym (c .before .record-good-in .ensures) ∙ not-false _ (c .if1 .left)))
 
 returns-2 : tie.Need-returns-2 Inv-loop μ-loop
 returns-2 c = sym (all-end _ _ _ (omega arith) (c .before .loop .inv .1))
 
 pub records-good-spec : {M : Type 1} → statement M
 records-good-spec =
-    tie.close
-    (tie.spec
-    Inv-loop
-    μ-loop
-    loop-holds
-    record-good-in-requires
-    returns
-    add-s
-    loop-less
-    loop-again
-    returns-2)
+    tie.close (tie.spec Inv-loop μ-loop loop-holds (λ c κs. search needs) returns (λ c. search needs) (λ c. search needs) loop-again returns-2)

@@ -4,15 +4,10 @@ use borrow.Author.Needs.{needs}
 use Rattle.panel.proofs.records.is_held.Statement.{statement}
 use Rattle.panel.proofs.records.is_held.Tie as tie
 
-shared-slice-read-result : tie.Need-shared-slice-read-result
-shared-slice-read-result c = search needs
-
-shr-result : tie.Need-shr-result
-shr-result c = search needs
-
 returns : tie.Need-returns
 unfolding isHeld
 returns c = search needs
 
 pub is-held-spec : {M : Type 1} → statement M
-is-held-spec = tie.close (tie.spec shared-slice-read-result shr-result returns)
+is-held-spec =
+    tie.close (tie.spec (λ c. search needs) (λ c. search needs) returns)

@@ -7,55 +7,25 @@ use borrow.Author.Needs.{needs}
 use Rattle.panel.proofs.records.read_record.Statement.{statement}
 use Rattle.panel.proofs.records.read_record.Tie as tie
 
-is-held-requires : tie.Need-is-held-requires
-is-held-requires c κs = search needs
-
 returns : tie.Need-returns
 returns c = shows-absent _ _ (sym (c .before .is-held .ensures) ∙ not-true _ (c .if1 .taken))
 
-slot-at-requires : tie.Need-slot-at-requires
-slot-at-requires c κs = search needs
-
-add-at : tie.Need-add-at
-add-at c = search needs
-
-size-of-requires : tie.Need-size-of-requires
-size-of-requires c κs = search needs
-
-add-end : tie.Need-add-end
-add-end c = search needs
-
-mul-show : tie.Need-mul-show
-mul-show c = search needs
-
-sub-show : tie.Need-sub-show
-sub-show c = search needs
-
-part-show-start : tie.Need-part-show-start
-part-show-start c = search needs
-
 part-show-end : tie.Need-part-show-end
-part-show-end c = omega (arith, slot-most (c .before .before .before .before .before .args .rec .now) (c .before .before .before .before .before .args .bit) _ (c .before .before .before .before .before .pre .0) (c .before .before .before .before .before .pre .1) (c .before .before .before .before .before .pre .2) (c .before .slot-at .ensures .0))
-
-show-requires : tie.Need-show-requires
-show-requires c κs = search needs
+part-show-end c =
+    let start : tie.Start = search in
+    omega (arith, slot-most (start .args .rec .now) (start .args .bit) _ (start .pre .0) (start .pre .1) (start .pre .2) (c .before .slot-at .ensures .0))
 
 returns-2 : tie.Need-returns-2
-returns-2 c = shows-held _ _ _ (c .before .before .before .before .before .before .before .pre .0) (c .before .before .before .before .before .before .before .pre .1) (c .before .before .before .before .before .before .before .pre .2) (c .before .before .before .slot-at .ensures .0) _ (c .show .result) (c .before .before .size-of .ensures .0) (sym (c .before .before .before .before .before .is-held .ensures) ∙ not-false _ (c .before .before .before .before .if1 .left)) (c .show .ensures)
+returns-2 c =
+    let start : tie.Start = search in
+    let at-is-held : tie.After-is-held = search in
+    let at-if1 : tie.Else1 = search in
+    shows-held _ _ _ (start .pre .0) (start .pre .1) (start .pre .2) (c .before .before .before .slot-at .ensures .0) _ (c .show .result)
+    (c .before .before .size-of .ensures .0) (sym (at-is-held .is-held .ensures) ∙ not-false _ (at-if1 .if1 .left)) (c .show .ensures)
 
 pub read-record-spec : {M : Type 1} → statement M
 read-record-spec =
     tie.close
     (tie.spec
-    is-held-requires
-    returns
-    slot-at-requires
-    add-at
-    size-of-requires
-    add-end
-    mul-show
-    sub-show
-    part-show-start
-    part-show-end
-    show-requires
-    returns-2)
+    (λ c κs. search needs) returns (λ c κs. search needs) (λ c. search needs) (λ c κs. search needs) (λ c. search needs) (λ c. search needs)
+    (λ c. search needs) (λ c. search needs) part-show-end (λ c κs. search needs) returns-2)

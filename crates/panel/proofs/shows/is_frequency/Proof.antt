@@ -9,12 +9,10 @@ returns : tie.Need-returns
 unfolding isFrequency
 returns c = simp (eq-eqb _ _ (c .if1 .taken))
 
-both-of-requires : tie.Need-both-of-requires
-both-of-requires c κs = search needs
-
 returns-2 : tie.Need-returns-2
 unfolding isFrequency
 returns-2 c = simp (ne-eqb _ _ (c .before .if1 .left)) (c .both-of .ensures)
 
 pub is-frequency-spec : {M : Type 1} → statement M
-is-frequency-spec = tie.close (tie.spec returns both-of-requires returns-2)
+is-frequency-spec =
+    tie.close (tie.spec returns (λ c κs. search needs) returns-2)

@@ -9,12 +9,10 @@ use borrow.Author.Needs.{needs}
 use Rattle.panel.proofs.values.degrees.Statement.{statement}
 use Rattle.panel.proofs.values.degrees.Tie as tie
 
-divided-requires : tie.Need-divided-requires
-divided-requires c κs = search needs
-
 returns : tie.Need-returns
 unfolding ofBits
 returns c = c .divided .ensures ∙ quotient 6 _ (lit≤ tt) (omega (arith, value-mag 16 (c .before .args .half) (lit≤ tt) (omega arith)))
 
 pub degrees-spec : {M : Type 1} → statement M
-degrees-spec = tie.close (tie.spec divided-requires returns)
+degrees-spec =
+    tie.close (tie.spec (λ c κs. search needs) returns)

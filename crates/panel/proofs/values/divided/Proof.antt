@@ -9,9 +9,6 @@ use borrow.Author.Needs.{needs}
 use Rattle.panel.proofs.values.divided.Statement.{statement}
 use Rattle.panel.proofs.values.divided.Tie as tie
 
-value-of-requires : tie.Need-value-of-requires
-value-of-requires c κs = search needs
-
 int-to-float-result : tie.Need-int-to-float-result
 int-to-float-result c =
     let s = c .before .value-of in
@@ -24,4 +21,5 @@ returns c =
     ap (λ (z : ℤ). div binary32 (ofInt binary32 z) (c .before .before .args .by)) (back (s .result) (s .ok) (s .ensures))
 
 pub divided-spec : {M : Type 1} → statement M
-divided-spec = tie.close (tie.spec value-of-requires int-to-float-result returns)
+divided-spec =
+    tie.close (tie.spec (λ c κs. search needs) int-to-float-result returns)

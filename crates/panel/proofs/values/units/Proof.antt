@@ -7,15 +7,10 @@ use borrow.Author.Needs.{needs}
 use Rattle.panel.proofs.values.units.Statement.{statement}
 use Rattle.panel.proofs.values.units.Tie as tie
 
-high-first-requires : tie.Need-high-first-requires
-high-first-requires c κs = search needs
-
-value-of-requires : tie.Need-value-of-requires
-value-of-requires c κs = search needs
-
 returns : tie.Need-returns
 unfolding unitsOf
 returns c = back (c .value-of .result) (c .value-of .ok) (c .value-of .ensures ∙ ap (twosComplement 64) (c .before .high-first .ensures))
 
 pub units-spec : {M : Type 1} → statement M
-units-spec = tie.close (tie.spec high-first-requires value-of-requires returns)
+units-spec =
+    tie.close (tie.spec (λ c κs. search needs) (λ c κs. search needs) returns)

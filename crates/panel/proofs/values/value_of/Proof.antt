@@ -6,20 +6,18 @@ use borrow.Author.Needs.{needs}
 use Rattle.panel.proofs.values.value_of.Statement.{statement}
 use Rattle.panel.proofs.values.value_of.Tie as tie
 
-signed-requires : tie.Need-signed-requires
-signed-requires c κs = search needs
-
-enum-known-z : tie.Need-enum-known-z
-enum-known-z c = search needs
-
-enum-told : tie.Need-enum-told
-enum-told c = search needs
-
 returns : tie.Need-returns
-returns c = let a = c .before .before .before .before .args in value-told (a .width) (a .bits) (c .before .before .before .before .pre .0) (c .before .before .before .before .pre .1) (c .before .before .before .before .pre .2) _ (sym (ap shownPaper (c .before .z .given .1)) ∙ c .before .before .before .signed .ensures)
+returns c =
+    let start : tie.Start = search in
+    let a = start .args in value-told (a .width) (a .bits) (start .pre .0) (start .pre .1) (start .pre .2) _
+    (sym (ap shownPaper (c .before .z .given .1)) ∙ c .before .before .before .signed .ensures)
 
 returns-2 : tie.Need-returns-2
-returns-2 c = let a = c .before .before .before .args in absurd (value-untold (a .width) (a .bits) (c .before .before .before .pre .0) (c .before .before .before .pre .1) (c .before .before .before .pre .2) _ (sym (ap shownPaper (c .enum-told .given .1)) ∙ c .before .before .signed .ensures))
+returns-2 c =
+    let a = c .before .before .before .args in absurd
+    (value-untold (a .width) (a .bits) (c .before .before .before .pre .0) (c .before .before .before .pre .1) (c .before .before .before .pre .2) _
+    (sym (ap shownPaper (c .enum-told .given .1)) ∙ c .before .before .signed .ensures))
 
 pub value-of-spec : {M : Type 1} → statement M
-value-of-spec = tie.close (tie.spec signed-requires enum-known-z enum-told returns returns-2)
+value-of-spec =
+    tie.close (tie.spec (λ c κs. search needs) (λ c. search needs) (λ c. search needs) returns returns-2)

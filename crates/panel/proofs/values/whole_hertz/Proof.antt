@@ -11,15 +11,14 @@ div-result c = (lit< tt, quot-fits (c .args .z) (c .fits .z .sfits))
 rem-rounded-up : tie.Need-rem-rounded-up
 rem-rounded-up c = (lit< tt, quot-fits (c .args .z) (c .fits .z .sfits))
 
-rounded-up-requires : tie.Need-rounded-up-requires
-rounded-up-requires c κs = search needs
-
 sub-result : tie.Need-sub-result
 sub-result c = floored-fits (c .before .args .z) (c .before .fits .z .sfits) (c .rounded-up .result) (c .rounded-up .ok) (c .rounded-up .ensures)
 
 returns : tie.Need-returns
-returns c = back _ (sub-result c .sfits) (floored (c .before .args .z) (c .before .fits .z .sfits) (c .rounded-up .result) (c .rounded-up .ok) (c .rounded-up .ensures))
+returns c =
+    back _ (sub-result c .sfits)
+    (floored (c .before .args .z) (c .before .fits .z .sfits) (c .rounded-up .result) (c .rounded-up .ok) (c .rounded-up .ensures))
 
 pub whole-hertz-spec : {M : Type 1} → statement M
 whole-hertz-spec =
-    tie.close (tie.spec div-result rem-rounded-up rounded-up-requires sub-result returns)
+    tie.close (tie.spec div-result rem-rounded-up (λ c κs. search needs) sub-result returns)

@@ -7,56 +7,38 @@ use borrow.Author.Needs.{needs}
 use Rattle.payload.proofs.unpacking.unpack.Statement.{statement}
 use Rattle.payload.proofs.unpacking.unpack.Tie as tie
 
-unpack-check-requires : tie.Need-unpack-check-requires
-unpack-check-requires c κs = search needs
-
-enum-known-checked : tie.Need-enum-known-checked
-enum-known-checked c = search needs
-
 returns : tie.Need-returns
 returns c =
-    let a = c .before .before .before .before .before .before .before .before .args in
-    unpack-refused (a .first) (a .second) (a .n) (a .words .now) (buffers (a .items .now) (a .events .now) (a .channels .now)) _ (sym (ap checked (c .before .checked .given .1)) ∙ c .before .before .before .unpack-check .ensures)
-
-enum-told : tie.Need-enum-told
-enum-told c = search needs
-
-packing-of-requires : tie.Need-packing-of-requires
-packing-of-requires c κs = search needs
+    let start : tie.Start = search in
+    let a = start .args in
+    unpack-refused (a .first) (a .second) (a .n) (a .words .now) (buffers (a .items .now) (a .events .now) (a .channels .now)) _
+    (sym (ap checked (c .before .checked .given .1)) ∙ c .before .before .before .unpack-check .ensures)
 
 unpack-fields-requires : tie.Need-unpack-fields-requires
 unpack-fields-requires c κs =
-    let a = c .before .before .before .before .before .before .before .before .before .before .before .args in
+    let start : tie.Start = search in
+    let at-unpack-check : tie.After-unpack-check = search in
+    let at-enum-told : tie.After-enum-told = search in
+    let a = start .args in
     rw (c .before .before .before .packing-of .ensures)
-    (unpackable (a .first) (a .second) (a .n) (a .words .now) (buffers (a .items .now) (a .events .now) (a .channels .now)) (sym (c .before .before .before .before .before .before .unpack-check .ensures) ∙ ap checked (c .before .before .before .before .enum-told .given .1)))
-
-same-length : tie.Need-same-length
-same-length c = search needs
-
-same-length-2 : tie.Need-same-length-2
-same-length-2 c = search needs
-
-same-length-3 : tie.Need-same-length-3
-same-length-3 c = search needs
+    (unpackable (a .first) (a .second) (a .n) (a .words .now) (buffers (a .items .now) (a .events .now) (a .channels .now))
+    (sym (at-unpack-check .unpack-check .ensures) ∙ ap checked (at-enum-told .enum-told .given .1)))
 
 returns-2 : tie.Need-returns-2
 returns-2 c =
-    let a = c .before .before .before .before .before .before .before .before .before .before .before .before .before .before .before .before .before .before .args in
+    let at-unpack-fields : tie.After-unpack-fields = search in
+    let at-packing-of : tie.After-packing-of = search in
+    let at-enum-told : tie.After-enum-told = search in
+    let at-unpack-check : tie.After-unpack-check = search in
+    let start : tie.Start = search in
+    let a = start .args in
     unpack-accepted (a .first) (a .second) (a .n) (a .words .now) (buffers (a .items .now) (a .events .now) (a .channels .now)) _
-    (sym (ap checked (c .before .before .before .before .before .before .before .before .before .before .before .enum-told .given .1)) ∙ c .before .before .before .before .before .before .before .before .before .before .before .before .before .unpack-check .ensures)
-    (rw (c .before .before .before .before .before .before .before .before .before .before .packing-of .ensures) at (c .before .before .before .before .before .before .unpack-fields .ensures))
+    (sym (ap checked (at-enum-told .enum-told .given .1)) ∙ at-unpack-check .unpack-check .ensures)
+    (rw (at-packing-of .packing-of .ensures) at (at-unpack-fields .unpack-fields .ensures))
 
 pub unpack-spec : {M : Type 1} → statement M
 unpack-spec =
     tie.close
     (tie.spec
-    unpack-check-requires
-    enum-known-checked
-    returns
-    enum-told
-    packing-of-requires
-    unpack-fields-requires
-    same-length
-    same-length-2
-    same-length-3
-    returns-2)
+    (λ c κs. search needs) (λ c. search needs) returns (λ c. search needs) (λ c κs. search needs) unpack-fields-requires (λ c. search needs)
+    (λ c. search needs) (λ c. search needs) returns-2)

@@ -14,15 +14,9 @@ use borrow.Author.Needs.{needs}
 use Rattle.payload.proofs.unpacking.unpack_check.Statement.{statement}
 use Rattle.payload.proofs.unpacking.unpack_check.Tie as tie
 
-format-bad-requires : tie.Need-format-bad-requires
-format-bad-requires c κs = search needs
-
 returns : tie.Need-returns
 unfolding unpackCheck
 returns c = let e₁ = sym (c .before .format-bad .ensures) ∙ c .if1 .taken in simp e₁
-
-count-bad-requires : tie.Need-count-bad-requires
-count-bad-requires c κs = search needs
 
 returns-2 : tie.Need-returns-2
 unfolding unpackCheck
@@ -31,25 +25,29 @@ returns-2 c =
     let e₂ = sym (c .before .count-bad .ensures) ∙ c .if2 .taken in
     simp (e₁, e₂)
 
-packing-of-requires : tie.Need-packing-of-requires
-packing-of-requires c κs = search needs
-
 words-of-requires : tie.Need-words-of-requires
 words-of-requires c κs =
-    let a = c .before .before .before .before .before .args in
+    let start : tie.Start = search in
+    let at-format-bad : tie.After-format-bad = search in
+    let a = start .args in
     let q = c .packing-of .ensures in
-    let l = legal (a .first) (a .second) (sym (c .before .before .before .before .format-bad .ensures) ∙ c .before .before .before .if1 .left) in
+    let l = legal (a .first) (a .second) (sym (at-format-bad .format-bad .ensures) ∙ c .before .before .before .if1 .left) in
     let n = count-few (a .first) (a .second) (a .n) (sym (c .before .before .count-bad .ensures) ∙ c .before .if2 .left) in
     rw q (l .some, l .most, l .few, n)
 
 counted-here : (c : tie.After-words-of) →
-    let a = c .before .before .before .before .before .before .args in
+    let start : tie.Start = search in
+    let a = start .args in
     let n = a .n in
     unpackCheck (a .first) (a .second) n (a .words) (a .items) (a .events) (a .channels)
-    ≡ pick (not (eqb (a .words) (c .words-of .result))) (refused COUNT) (pick (ltb (a .items) n) (refused ROOM) (pick (ltb (a .events) n) (refused ROOM) (pick (ltb (a .channels) n) (refused ROOM) (accepted tt))))
+    ≡ pick (not (eqb (a .words) (c .words-of .result))) (refused COUNT)
+    (pick (ltb (a .items) n) (refused ROOM) (pick (ltb (a .events) n) (refused ROOM) (pick (ltb (a .channels) n) (refused ROOM) (accepted tt))))
 counted-here c =
-    let a = c .before .before .before .before .before .before .args in
-    let f = sym (c .before .before .before .before .before .format-bad .ensures) ∙ c .before .before .before .before .if1 .left in
+    let start : tie.Start = search in
+    let at-format-bad : tie.After-format-bad = search in
+    let at-if1 : tie.Else1 = search in
+    let a = start .args in
+    let f = sym (at-format-bad .format-bad .ensures) ∙ at-if1 .if1 .left in
     let n = sym (c .before .before .before .count-bad .ensures) ∙ c .before .before .if2 .left in
     unpack-counted _ _ _ (a .words) (a .items) (a .events) (a .channels) _ f n (words-for _ _ _ _ (c .before .packing-of .ensures) (c .words-of .ensures))
 
@@ -63,23 +61,18 @@ returns-5 : tie.Need-returns-5
 returns-5 c = rw (counted-here (c .before .before .before)) (search cases)
 
 returns-6 : tie.Need-returns-6
-returns-6 c = rw (counted-here (c .before .before .before .before)) (search cases)
+returns-6 c =
+    let at-words-of : tie.After-words-of = search in
+    rw (counted-here at-words-of) (search cases)
 
 returns-7 : tie.Need-returns-7
-returns-7 c = rw (counted-here (c .before .before .before .before)) (search cases)
+returns-7 c =
+    let at-words-of : tie.After-words-of = search in
+    rw (counted-here at-words-of) (search cases)
 
 pub unpack-check-spec : {M : Type 1} → statement M
 unpack-check-spec =
     tie.close
     (tie.spec
-    format-bad-requires
-    returns
-    count-bad-requires
-    returns-2
-    packing-of-requires
-    words-of-requires
-    returns-3
-    returns-4
-    returns-5
-    returns-6
+    (λ c κs. search needs) returns (λ c κs. search needs) returns-2 (λ c κs. search needs) words-of-requires returns-3 returns-4 returns-5 returns-6
     returns-7)

@@ -16,30 +16,19 @@ Inv-loop n words items₀ c f up s₀ k₀ items s k = (k ≤ n) × (items ≡ f
 abbrev μ-loop : tie.MeasureT-loop
 μ-loop n words items₀ c f up s₀ k₀ items s k = n - k
 
-sub-up : tie.Need-sub-up Inv-loop μ-loop
-sub-up c = search needs
-
 loop-holds : tie.Need-loop-holds Inv-loop μ-loop
 loop-holds c = (omega arith, filled-none _ _, items-start _ _ _ _ (c .before .before .before .pre .0 .legal .some))
 
 take-item-requires : tie.Need-take-item-requires Inv-loop μ-loop
 take-item-requires c κs =
-    let a = c .before .before .before .before .before .args in
-    let r = c .before .before .before .before .before .pre in
+    let start : tie.Start Inv-loop μ-loop = search in
+    let a = start .args in
+    let r = start .pre in
     let u : a .p .field - a .p .item < a .p .field = omega (arith, r .0 .legal .item, r .0 .legal .parts) in
     (items-can _ _ _ _ _ _ _ (r .0) u (r .1) (c .loop-test .taken) (c .before .loop .inv .2), u, r .1)
 
-mul-items : tie.Need-mul-items Inv-loop μ-loop
-mul-items c = search needs
-
 slice-write-items : tie.Need-slice-write-items Inv-loop μ-loop
 slice-write-items c = omega (arith, filled-long _ _ _ _ (c .before .before .loop .inv .1))
-
-add-k : tie.Need-add-k Inv-loop μ-loop
-add-k c = search needs
-
-loop-less : tie.Need-loop-less Inv-loop μ-loop
-loop-less c = search needs
 
 loop-again : tie.Need-loop-again Inv-loop μ-loop
 loop-again c =
@@ -51,21 +40,13 @@ same-length : tie.Need-same-length Inv-loop μ-loop
 same-length c = filled-long _ _ _ _ (c .before .loop .inv .1)
 
 returns : tie.Need-returns Inv-loop μ-loop
-returns c = let e : c .before .loop .k ≡ c .before .before .before .before .before .args .n = omega arith in rw e at (c .before .loop .inv .1)
+returns c =
+    let start : tie.Start Inv-loop μ-loop = search in
+    let e : c .before .loop .k ≡ start .args .n = omega arith in rw e at (c .before .loop .inv .1)
 
 pub unpack-items-spec : {M : Type 1} → statement M
 unpack-items-spec =
     tie.close
     (tie.spec
-    Inv-loop
-    μ-loop
-    sub-up
-    loop-holds
-    take-item-requires
-    mul-items
-    slice-write-items
-    add-k
-    loop-less
-    loop-again
-    same-length
-    returns)
+    Inv-loop μ-loop (λ c. search needs) loop-holds take-item-requires (λ c. search needs) slice-write-items (λ c. search needs) (λ c. search needs)
+    loop-again same-length returns)

@@ -19,70 +19,28 @@ abbrev μ-loop : tie.MeasureT-loop
 loop-holds : tie.Need-loop-holds Inv-loop μ-loop
 loop-holds c = (omega arith, filled-none _ _)
 
-mul-high-first : tie.Need-mul-high-first Inv-loop μ-loop
-mul-high-first c = search needs
-
-mul-high-first-2 : tie.Need-mul-high-first-2 Inv-loop μ-loop
-mul-high-first-2 c = search needs
-
-shared-slice-read-high-first : tie.Need-shared-slice-read-high-first Inv-loop μ-loop
-shared-slice-read-high-first c = search needs
-
-mul-high-first-3 : tie.Need-mul-high-first-3 Inv-loop μ-loop
-mul-high-first-3 c = search needs
-
-add-high-first : tie.Need-add-high-first Inv-loop μ-loop
-add-high-first c = search needs
-
-mul-high-first-4 : tie.Need-mul-high-first-4 Inv-loop μ-loop
-mul-high-first-4 c = search needs
-
-shared-slice-read-high-first-2 : tie.Need-shared-slice-read-high-first-2 Inv-loop μ-loop
-shared-slice-read-high-first-2 c = search needs
-
-high-first-requires : tie.Need-high-first-requires Inv-loop μ-loop
-high-first-requires c κs = search needs
-
-mul-items : tie.Need-mul-items Inv-loop μ-loop
-mul-items c = search needs
-
 slice-write-items : tie.Need-slice-write-items Inv-loop μ-loop
-slice-write-items c = omega (arith, filled-long _ _ _ _ (c .before .before .before .before .loop .inv .1))
-
-add-k : tie.Need-add-k Inv-loop μ-loop
-add-k c = search needs
-
-loop-less : tie.Need-loop-less Inv-loop μ-loop
-loop-less c = search needs
+slice-write-items c =
+    let at-loop : tie.At-loop Inv-loop μ-loop = search in
+    omega (arith, filled-long _ _ _ _ (at-loop .loop .inv .1))
 
 loop-again : tie.Need-loop-again Inv-loop μ-loop
-loop-again c = (omega arith, filled-more _ _ _ _ _ (c .before .before .before .before .loop .inv .1) (c .high-first .ensures))
+loop-again c =
+    let at-loop : tie.At-loop Inv-loop μ-loop = search in
+    (omega arith, filled-more _ _ _ _ _ (at-loop .loop .inv .1) (c .high-first .ensures))
 
 same-length : tie.Need-same-length Inv-loop μ-loop
 same-length c = filled-long _ _ _ _ (c .before .loop .inv .1)
 
 returns : tie.Need-returns Inv-loop μ-loop
-returns c = let e : c .before .loop .k ≡ c .before .before .before .before .args .n = omega arith in rw e at (c .before .loop .inv .1)
+returns c =
+    let start : tie.Start Inv-loop μ-loop = search in
+    let e : c .before .loop .k ≡ start .args .n = omega arith in rw e at (c .before .loop .inv .1)
 
 pub unpack-pairs-spec : {M : Type 1} → statement M
 unpack-pairs-spec =
     tie.close
     (tie.spec
-    Inv-loop
-    μ-loop
-    loop-holds
-    mul-high-first
-    mul-high-first-2
-    shared-slice-read-high-first
-    mul-high-first-3
-    add-high-first
-    mul-high-first-4
-    shared-slice-read-high-first-2
-    high-first-requires
-    mul-items
-    slice-write-items
-    add-k
-    loop-less
-    loop-again
-    same-length
+    Inv-loop μ-loop loop-holds (λ c. search needs) (λ c. search needs) (λ c. search needs) (λ c. search needs) (λ c. search needs) (λ c. search needs)
+    (λ c. search needs) (λ c κs. search needs) (λ c. search needs) slice-write-items (λ c. search needs) (λ c. search needs) loop-again same-length
     returns)

@@ -23,62 +23,45 @@ Inv-loop n words items₀ events₀ channels₀ c f up we wc s₀ k₀ items eve
 abbrev μ-loop : tie.MeasureT-loop
 μ-loop n words items₀ events₀ channels₀ c f up we wc s₀ k₀ items events channels s k = n - k
 
-sub-up : tie.Need-sub-up Inv-loop μ-loop
-sub-up c = search needs
-
 loop-holds : tie.Need-loop-holds Inv-loop μ-loop
-loop-holds c = (omega arith, filled-none _ _, filled-none _ _, filled-none _ _, reading-start _ _ _ (c .before .before .before .before .before .pre .0 .legal .some))
+loop-holds c =
+    let start : tie.Start Inv-loop μ-loop = search in
+    (omega arith, filled-none _ _, filled-none _ _, filled-none _ _, reading-start _ _ _ (start .pre .0 .legal .some))
 
 take-field-requires : tie.Need-take-field-requires Inv-loop μ-loop
-take-field-requires c κs = reading-can _ _ _ _ _ _ (c .before .before .before .before .before .before .before .pre .0) (c .loop-test .taken) (c .before .loop .inv .4)
-
-shr-items : tie.Need-shr-items Inv-loop μ-loop
-shr-items c = search needs
-
-mul-items : tie.Need-mul-items Inv-loop μ-loop
-mul-items c = search needs
+take-field-requires c κs =
+    let start : tie.Start Inv-loop μ-loop = search in
+    reading-can _ _ _ _ _ _ (start .pre .0) (c .loop-test .taken) (c .before .loop .inv .4)
 
 slice-write-items : tie.Need-slice-write-items Inv-loop μ-loop
 slice-write-items c = omega (arith, filled-long _ _ _ _ (c .before .before .loop .inv .1))
 
-shr-low : tie.Need-shr-low Inv-loop μ-loop
-shr-low c = search needs
-
-low-requires : tie.Need-low-requires Inv-loop μ-loop
-low-requires c κs = search needs
-
 cast-events : tie.Need-cast-events Inv-loop μ-loop
 cast-events c =
-    let a = c .before .before .before .before .before .before .before .before .before .args in
-    omega (arith, pow-mono {i = a .p .event} {j = 7} (c .before .before .before .before .before .before .before .before .before .pre .0 .legal .event))
+    let start : tie.Start Inv-loop μ-loop = search in
+    let a = start .args in
+    omega (arith, pow-mono {i = a .p .event} {j = 7} (start .pre .0 .legal .event))
 
 slice-write-events : tie.Need-slice-write-events Inv-loop μ-loop
 slice-write-events c = omega (arith, filled-long _ _ _ _ (c .before .before .before .loop .inv .2))
 
-low-requires-2 : tie.Need-low-requires-2 Inv-loop μ-loop
-low-requires-2 c κs = search needs
-
 cast-channels : tie.Need-cast-channels Inv-loop μ-loop
 cast-channels c =
-    let a = c .before .before .before .before .before .before .before .before .before .before .args in
-    omega (arith, pow-mono {i = a .p .channel} {j = 15} (c .before .before .before .before .before .before .before .before .before .before .pre .0 .legal .channel))
-
-mul-channels : tie.Need-mul-channels Inv-loop μ-loop
-mul-channels c = search needs
+    let start : tie.Start Inv-loop μ-loop = search in
+    let a = start .args in
+    omega (arith, pow-mono {i = a .p .channel} {j = 15} (start .pre .0 .legal .channel))
 
 slice-write-channels : tie.Need-slice-write-channels Inv-loop μ-loop
-slice-write-channels c = omega (arith, filled-long _ _ _ _ (c .before .before .before .before .loop .inv .3))
-
-add-k : tie.Need-add-k Inv-loop μ-loop
-add-k c = search needs
-
-loop-less : tie.Need-loop-less Inv-loop μ-loop
-loop-less c = search needs
+slice-write-channels c =
+    let at-loop : tie.At-loop Inv-loop μ-loop = search in
+    omega (arith, filled-long _ _ _ _ (at-loop .loop .inv .3))
 
 loop-again : tie.Need-loop-again Inv-loop μ-loop
 loop-again c =
-    let a = c .before .before .before .before .before .before .before .before .before .before .args in
-    let i = c .before .before .before .before .loop .inv in
+    let start : tie.Start Inv-loop μ-loop = search in
+    let at-loop : tie.At-loop Inv-loop μ-loop = search in
+    let a = start .args in
+    let i = at-loop .loop .inv in
     let t = c .before .before .take-field .ensures in
     let e = reading-field (i .4) t in (
       omega arith,
@@ -99,34 +82,15 @@ same-length-3 c = filled-long _ _ _ _ (c .before .loop .inv .3)
 
 returns : tie.Need-returns Inv-loop μ-loop
 returns c =
+    let start : tie.Start Inv-loop μ-loop = search in
     let i = c .before .loop .inv in
-    let e : c .before .loop .k ≡ c .before .before .before .before .before .before .before .args .n = omega arith in
+    let e : c .before .loop .k ≡ start .args .n = omega arith in
     buffers-same (rw e at (i .1)) (rw e at (i .2)) (rw e at (i .3))
 
 pub unpack-tagged-spec : {M : Type 1} → statement M
 unpack-tagged-spec =
     tie.close
     (tie.spec
-    Inv-loop
-    μ-loop
-    sub-up
-    loop-holds
-    take-field-requires
-    shr-items
-    mul-items
-    slice-write-items
-    shr-low
-    low-requires
-    cast-events
-    slice-write-events
-    low-requires-2
-    cast-channels
-    mul-channels
-    slice-write-channels
-    add-k
-    loop-less
-    loop-again
-    same-length
-    same-length-2
-    same-length-3
-    returns)
+    Inv-loop μ-loop (λ c. search needs) loop-holds take-field-requires (λ c. search needs) (λ c. search needs) slice-write-items (λ c. search needs)
+    (λ c κs. search needs) cast-events slice-write-events (λ c κs. search needs) cast-channels (λ c. search needs) slice-write-channels
+    (λ c. search needs) (λ c. search needs) loop-again same-length same-length-2 same-length-3 returns)

@@ -18,26 +18,11 @@ abbrev μ-loop : tie.MeasureT-loop
 loop-holds : tie.Need-loop-holds Inv-loop μ-loop
 loop-holds c = (omega arith, filled-none _ _)
 
-mul-items : tie.Need-mul-items Inv-loop μ-loop
-mul-items c = search needs
-
-shared-slice-read-items : tie.Need-shared-slice-read-items Inv-loop μ-loop
-shared-slice-read-items c = search needs
-
 cast-items : tie.Need-cast-items Inv-loop μ-loop
 cast-items c = omega (arith, c .shared-slice-known .given (c .before .before .loop .k))
 
-mul-items-2 : tie.Need-mul-items-2 Inv-loop μ-loop
-mul-items-2 c = search needs
-
 slice-write-items : tie.Need-slice-write-items Inv-loop μ-loop
 slice-write-items c = omega (arith, filled-long _ _ _ _ (c .before .before .loop .inv .1))
-
-add-k : tie.Need-add-k Inv-loop μ-loop
-add-k c = search needs
-
-loop-less : tie.Need-loop-less Inv-loop μ-loop
-loop-less c = search needs
 
 loop-again : tie.Need-loop-again Inv-loop μ-loop
 loop-again c = (omega arith, filled-more _ _ _ _ _ (c .before .before .loop .inv .1) refl)
@@ -52,16 +37,5 @@ pub unpack-words-spec : {M : Type 1} → statement M
 unpack-words-spec =
     tie.close
     (tie.spec
-    Inv-loop
-    μ-loop
-    loop-holds
-    mul-items
-    shared-slice-read-items
-    cast-items
-    mul-items-2
-    slice-write-items
-    add-k
-    loop-less
-    loop-again
-    same-length
-    returns)
+    Inv-loop μ-loop loop-holds (λ c. search needs) (λ c. search needs) cast-items (λ c. search needs) slice-write-items (λ c. search needs)
+    (λ c. search needs) loop-again same-length returns)

@@ -12,15 +12,6 @@ returns : tie.Need-returns
 unfolding carriedBits
 returns c = search cases
 
-add-field : tie.Need-add-field
-add-field c = search needs
-
-cast-field : tie.Need-cast-field
-cast-field c = search needs
-
-div-result : tie.Need-div-result
-div-result c = search needs
-
 mul-result : tie.Need-mul-result
 mul-result c = let k = c .before .before .args .first in omega (arith, div-mul-le-self 32 (k / 64 % 64 + 1))
 
@@ -37,4 +28,4 @@ returns-3 c = search cases
 
 pub carry-spec : {M : Type 1} → statement M
 carry-spec =
-    tie.close (tie.spec returns add-field cast-field div-result mul-result returns-2 returns-3)
+    tie.close (tie.spec returns (λ c. search needs) (λ c. search needs) (λ c. search needs) mul-result returns-2 returns-3)

@@ -9,15 +9,10 @@ returns : tie.Need-returns
 unfolding countBad
 returns c = search cases
 
-unit-requires : tie.Need-unit-requires
-unit-requires c κs = search needs
-
-rem-result : tie.Need-rem-result
-rem-result c = search needs
-
 returns-2 : tie.Need-returns-2
 unfolding countBad
 returns-2 c = rw (← (c .unit .ensures .0)) (search cases)
 
 pub count-bad-spec : {M : Type 1} → statement M
-count-bad-spec = tie.close (tie.spec returns unit-requires rem-result returns-2)
+count-bad-spec =
+    tie.close (tie.spec returns (λ c κs. search needs) (λ c. search needs) returns-2)

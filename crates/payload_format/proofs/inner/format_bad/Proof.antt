@@ -9,15 +9,9 @@ use borrow.Author.Needs.{needs}
 use Rattle.payload_format.proofs.inner.format_bad.Statement.{statement}
 use Rattle.payload_format.proofs.inner.format_bad.Tie as tie
 
-format-ok-requires : tie.Need-format-ok-requires
-format-ok-requires c κs = search needs
-
 returns : tie.Need-returns
 unfolding formatBad
 returns c = let e = ap not (sym (c .before .format-ok .ensures)) ∙ c .if1 .taken in simp e
-
-add-repeat : tie.Need-add-repeat
-add-repeat c = search needs
 
 returns-2 : tie.Need-returns-2
 unfolding formatBad
@@ -29,30 +23,22 @@ returns-2 c =
 returns-3 : tie.Need-returns-3
 unfolding formatBad
 returns-3 c =
+    let start : tie.Start = search in
     let e = ap not (sym (c .before .before .before .format-ok .ensures)) ∙ c .before .before .if1 .left in
-    let q = eq-eqb (c .before .before .before .before .args .second / 65536 % 65536 + 1) 1 (omega arith) in
-    let h = eq-eqb (c .before .before .before .before .args .first / 8388608 % 2) 1 (c .if3 .taken) in
+    let q = eq-eqb (start .args .second / 65536 % 65536 + 1) 1 (omega arith) in
+    let h = eq-eqb (start .args .first / 8388608 % 2) 1 (c .if3 .taken) in
     simp (e, q, h)
-
-wide-processing-requires : tie.Need-wide-processing-requires
-wide-processing-requires c κs = search needs
 
 returns-4 : tie.Need-returns-4
 unfolding formatBad
 returns-4 c =
-    let e = ap not (sym (c .before .before .before .before .format-ok .ensures)) ∙ c .before .before .before .if1 .left in
-    let q = eq-eqb (c .before .before .before .before .before .args .second / 65536 % 65536 + 1) 1 (omega arith) in
-    let h = ne-eqb (c .before .before .before .before .before .args .first / 8388608 % 2) 1 (c .before .if3 .left) in
+    let at-format-ok : tie.After-format-ok = search in
+    let start : tie.Start = search in
+    let e = ap not (sym (at-format-ok .format-ok .ensures)) ∙ c .before .before .before .if1 .left in
+    let q = eq-eqb (start .args .second / 65536 % 65536 + 1) 1 (omega arith) in
+    let h = ne-eqb (start .args .first / 8388608 % 2) 1 (c .before .if3 .left) in
     simp (e, q, h) (c .wide-processing .ensures)
 
 pub format-bad-spec : {M : Type 1} → statement M
 format-bad-spec =
-    tie.close
-    (tie.spec
-    format-ok-requires
-    returns
-    add-repeat
-    returns-2
-    returns-3
-    wide-processing-requires
-    returns-4)
+    tie.close (tie.spec (λ c κs. search needs) returns (λ c. search needs) returns-2 returns-3 (λ c κs. search needs) returns-4)

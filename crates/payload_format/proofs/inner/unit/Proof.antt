@@ -7,22 +7,14 @@ use borrow.Author.Needs.{needs}
 use Rattle.payload_format.proofs.inner.unit.Statement.{statement}
 use Rattle.payload_format.proofs.inner.unit.Tie as tie
 
-add-vector : tie.Need-add-vector
-add-vector c = search needs
-
-cast-vector : tie.Need-cast-vector
-cast-vector c = search needs
-
 returns : tie.Need-returns
 unfolding unitOf
 returns c = let e = eq-eqb (c .before .args .first / 536870912 % 4) 0 (c .if1 .taken) in (simp e (omega arith), omega arith)
-
-mul-result : tie.Need-mul-result
-mul-result c = search needs
 
 returns-2 : tie.Need-returns-2
 unfolding unitOf
 returns-2 c = let e = ne-eqb (c .before .args .first / 536870912 % 4) 0 (c .if1 .left) in (simp e (omega arith), omega arith)
 
 pub unit-spec : {M : Type 1} → statement M
-unit-spec = tie.close (tie.spec add-vector cast-vector returns mul-result returns-2)
+unit-spec =
+    tie.close (tie.spec (λ c. search needs) (λ c. search needs) returns (λ c. search needs) returns-2)

@@ -9,9 +9,6 @@ returns : tie.Need-returns
 unfolding wideProcessing
 returns c = search cases
 
-add-field : tie.Need-add-field
-add-field c = search needs
-
 returns-2 : tie.Need-returns-2
 unfolding wideProcessing
 returns-2 c = search cases
@@ -21,4 +18,5 @@ unfolding wideProcessing
 returns-3 c = search cases
 
 pub wide-processing-spec : {M : Type 1} → statement M
-wide-processing-spec = tie.close (tie.spec returns add-field returns-2 returns-3)
+wide-processing-spec =
+    tie.close (tie.spec returns (λ c. search needs) returns-2 returns-3)

@@ -10,18 +10,13 @@ use Rattle.payload_format.proofs.inner.words_of.Tie as tie
 mul-result : tie.Need-mul-result
 mul-result c = omega (arith, mul-le-mul-right (c .args .n) (c .pre .2))
 
-sub-result : tie.Need-sub-result
-sub-result c = search needs
-
 add-result : tie.Need-add-result
 add-result c = omega (arith, mul-le-mul-right (c .args .n) (c .pre .2))
-
-div-result : tie.Need-div-result
-div-result c = search needs
 
 returns : tie.Need-returns
 unfolding needed
 returns c = refl
 
 pub words-of-spec : {M : Type 1} → statement M
-words-of-spec = tie.close (tie.spec mul-result sub-result add-result div-result returns)
+words-of-spec =
+    tie.close (tie.spec mul-result (λ c. search needs) add-result (λ c. search needs) returns)

@@ -17,56 +17,33 @@ returns-2 : tie.Need-returns-2
 unfolding signedOf
 returns-2 c = search cases
 
-sub-power : tie.Need-sub-power
-sub-power c = search needs
-
-power-requires : tie.Need-power-requires
-power-requires c κs = search needs
-
-sub-most : tie.Need-sub-most
-sub-most c = search needs
-
-add-most : tie.Need-add-most
-add-most c = search needs
-
 returns-3 : tie.Need-returns-3
 unfolding signedOf
 returns-3 c =
-    let a = c .before .before .before .before .args in
+    let start : tie.Start = search in
+    let a = start .args in
     let o : 1 ≤ a .width = omega arith in
     let h : 2 ^ a .width ≤ a .item = omega (arith, halves (a .width) o) in
     search cases
 
-cast-t9 : tie.Need-cast-t9
-cast-t9 c = search needs
-
 returns-4 : tie.Need-returns-4
 returns-4 c =
-    let a = c .before .before .before .before .before .args in
+    let start : tie.Start = search in
+    let a = start .args in
     sign-zero (a .width) (a .item) (omega arith) (omega arith) (omega arith)
-
-cast-t10 : tie.Need-cast-t10
-cast-t10 c = search needs
 
 returns-5 : tie.Need-returns-5
 returns-5 c =
-    let a = c .before .before .before .before .before .args in
+    let start : tie.Start = search in
+    let a = start .args in
     let o : 1 ≤ a .width = omega arith in
     let h = c .before .before .power .result in
-    sign-one (a .width) (a .item) o (omega arith) (omega arith) (omega (arith, halves (a .width) o)) (h - 1 + h - a .item) (omega (arith, halves (a .width) o))
+    sign-one (a .width) (a .item) o (omega arith) (omega arith) (omega (arith, halves (a .width) o)) (h - 1 + h - a .item)
+    (omega (arith, halves (a .width) o))
 
 pub signed-spec : {M : Type 1} → statement M
 signed-spec =
     tie.close
     (tie.spec
-    returns
-    returns-2
-    sub-power
-    power-requires
-    sub-most
-    add-most
-    returns-3
-    cast-t9
-    returns-4
-    cast-t10
-    returns-5)
+    returns returns-2 (λ c. search needs) (λ c κs. search needs) (λ c. search needs) (λ c. search needs) returns-3 (λ c. search needs) returns-4
+    (λ c. search needs) returns-5)

@@ -10,61 +10,9 @@ Inv-loop n channels k₀ text k = k ≤ n
 abbrev μ-loop : tie.MeasureT-loop
 μ-loop n channels k₀ text k = n - k
 
-slice-aggregate-text : tie.Need-slice-aggregate-text Inv-loop μ-loop
-slice-aggregate-text c = search needs
-
-text-requires : tie.Need-text-requires Inv-loop μ-loop
-text-requires c κs = search needs
-
-loop-holds : tie.Need-loop-holds Inv-loop μ-loop
-loop-holds c = search needs
-
-mul-of-channel : tie.Need-mul-of-channel Inv-loop μ-loop
-mul-of-channel c = search needs
-
-element-copy-out-of-channel : tie.Need-element-copy-out-of-channel Inv-loop μ-loop
-element-copy-out-of-channel c = search needs
-
-of-channel-requires : tie.Need-of-channel-requires Inv-loop μ-loop
-of-channel-requires c κs = search needs
-
-print-number-requires : tie.Need-print-number-requires Inv-loop μ-loop
-print-number-requires c κs = search needs
-
-add-k : tie.Need-add-k Inv-loop μ-loop
-add-k c = search needs
-
-loop-less : tie.Need-loop-less Inv-loop μ-loop
-loop-less c = search needs
-
-loop-again : tie.Need-loop-again Inv-loop μ-loop
-loop-again c = search needs
-
-slice-aggregate-text-2 : tie.Need-slice-aggregate-text-2 Inv-loop μ-loop
-slice-aggregate-text-2 c = search needs
-
-text-requires-2 : tie.Need-text-requires-2 Inv-loop μ-loop
-text-requires-2 c κs = search needs
-
-returns : tie.Need-returns Inv-loop μ-loop
-returns c = search needs
-
 pub print-channels-spec : {M : Type 1} → statement M
 print-channels-spec =
     tie.close
     (tie.spec
-    Inv-loop
-    μ-loop
-    slice-aggregate-text
-    text-requires
-    loop-holds
-    mul-of-channel
-    element-copy-out-of-channel
-    of-channel-requires
-    print-number-requires
-    add-k
-    loop-less
-    loop-again
-    slice-aggregate-text-2
-    text-requires-2
-    returns)
+    Inv-loop μ-loop (λ c. search needs) (λ c κs. search needs) (λ c. search needs) (λ c. search needs) (λ c. search needs) (λ c κs. search needs)
+    (λ c κs. search needs) (λ c. search needs) (λ c. search needs) (λ c. search needs) (λ c. search needs) (λ c κs. search needs) (λ c. search needs))

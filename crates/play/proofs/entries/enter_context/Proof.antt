@@ -12,69 +12,44 @@ use borrow.Author.Needs.{needs}
 use Rattle.play.proofs.entries.enter_context.Statement.{statement}
 use Rattle.play.proofs.entries.enter_context.Tie as tie
 
-size-of-requires : tie.Need-size-of-requires
-size-of-requires c κs = search needs
-
-seek-requires : tie.Need-seek-requires
-seek-requires c κs = search needs
-
-enum-known-sought : tie.Need-enum-known-sought
-enum-known-sought c = search needs
-
-enum-told : tie.Need-enum-told
-enum-told c = search needs
-
-unsought-requires : tie.Need-unsought-requires
-unsought-requires c κs = search needs
-
-unheard-requires : tie.Need-unheard-requires
-unheard-requires c κs = search needs
-
-same-length : tie.Need-same-length
-same-length c = search needs
-
 returns : tie.Need-returns
 returns c =
-    let b = c .before .before .before .before .before .before .before .before .before in
+    let at-seek : tie.After-seek = search in
+    let at-size-of : tie.After-size-of = search in
+    let b : tie.Start = search in
     let told = c .before .before .enum-told .given .1 in
     rw (c .unheard .ensures)
-    (entered-unsought (now (b .args .table)) (now (b .args .words)) (b .args .w) (b .pre .1) _ _ _ (sym (c .before .before .before .before .seek .ensures) ∙ ap soughtPaper told)
-    (c .before .unsought .ensures ∙ ap (λ (o : Sought). numberOf (soughtPaper o)) told) (c .before .before .before .before .before .before .size-of .ensures .0))
+    (entered-unsought (now (b .args .table)) (now (b .args .words)) (b .args .w) (b .pre .1) _ _ _ (sym (at-seek .seek .ensures) ∙ ap soughtPaper told)
+    (c .before .unsought .ensures ∙ ap (λ (o : Sought). numberOf (soughtPaper o)) told) (at-size-of .size-of .ensures .0))
 
 hear-context-requires : tie.Need-hear-context-requires
 hear-context-requires c κs =
-    let b = c .before .before .before .before .before .before .before .before .before in
-    let f = sym (c .before .before .before .before .seek .ensures) ∙ ap soughtPaper (c .before .before .sought .given .1) in
+    let at-seek : tie.After-seek = search in
+    let b : tie.Start = search in
+    let f = sym (at-seek .seek .ensures) ∙ ap soughtPaper (c .before .before .sought .given .1) in
     (b .pre .0, found-below (b .args .w) (now (b .args .words)) (b .pre .1) _ _ f, b .pre .1, b .pre .2)
 
 cast-t13 : tie.Need-cast-t13
 cast-t13 c =
-    let b = c .before .before .before .before .before .before .before .before .before .before .before .before in
-    let f = sym (c .before .before .before .before .before .before .before .seek .ensures) ∙ ap soughtPaper (c .before .before .before .before .before .sought .given .1) in
+    let at-seek : tie.After-seek = search in
+    let at-sought : tie.After-sought = search in
+    let b : tie.Start = search in
+    let f = sym (at-seek .seek .ensures) ∙ ap soughtPaper (at-sought .sought .given .1) in
     omega (arith, lent-few _ _ (b .pre .0) (found-below (b .args .w) (now (b .args .words)) (b .pre .1) _ _ f))
-
-same-length-2 : tie.Need-same-length-2
-same-length-2 c = search needs
 
 returns-2 : tie.Need-returns-2
 returns-2 c =
-    let b = c .before .before .before .before .before .before .before .before .before .before .before .before in
-    let f = sym (c .before .before .before .before .before .before .before .seek .ensures) ∙ ap soughtPaper (c .before .before .before .before .before .sought .given .1) in
-    entered-heard (now (b .args .table)) (now (b .args .words)) (b .args .w) (b .pre .1) _ _ _ _ _ f (c .before .before .before .before .before .before .before .before .before .size-of .ensures .0) (sym (b .pre .2)) (c .before .before .hear-context .ensures)
+    let at-seek : tie.After-seek = search in
+    let at-sought : tie.After-sought = search in
+    let at-size-of : tie.After-size-of = search in
+    let b : tie.Start = search in
+    let f = sym (at-seek .seek .ensures) ∙ ap soughtPaper (at-sought .sought .given .1) in
+    entered-heard (now (b .args .table)) (now (b .args .words)) (b .args .w) (b .pre .1) _ _ _ _ _ f (at-size-of .size-of .ensures .0) (sym (b .pre .2))
+    (c .before .before .hear-context .ensures)
 
 pub enter-context-spec : {M : Type 1} → statement M
 enter-context-spec =
     tie.close
     (tie.spec
-    size-of-requires
-    seek-requires
-    enum-known-sought
-    enum-told
-    unsought-requires
-    unheard-requires
-    same-length
-    returns
-    hear-context-requires
-    cast-t13
-    same-length-2
-    returns-2)
+    (λ c κs. search needs) (λ c κs. search needs) (λ c. search needs) (λ c. search needs) (λ c κs. search needs) (λ c κs. search needs)
+    (λ c. search needs) returns hear-context-requires cast-t13 (λ c. search needs) returns-2)

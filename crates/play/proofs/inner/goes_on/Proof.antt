@@ -7,17 +7,9 @@ use borrow.Author.Needs.{needs}
 use Rattle.play.proofs.inner.goes_on.Statement.{statement}
 use Rattle.play.proofs.inner.goes_on.Tie as tie
 
-enum-told : tie.Need-enum-told
-enum-told c = search needs
-
-enum-known-answer : tie.Need-enum-known-answer
-enum-known-answer c = search needs
-
-returns : tie.Need-returns
-returns c = search needs
-
 returns-2 : tie.Need-returns-2
 returns-2 c = sym (ap (λ (a : Played). goesOn (paper a)) (c .before .answer .given .1))
 
 pub goes-on-spec : {M : Type 1} → statement M
-goes-on-spec = tie.close (tie.spec enum-told enum-known-answer returns returns-2)
+goes-on-spec =
+    tie.close (tie.spec (λ c. search needs) (λ c. search needs) (λ c. search needs) returns-2)

@@ -6,26 +6,8 @@ use borrow.Author.Needs.{needs}
 use Rattle.play.proofs.run.store.Statement.{statement}
 use Rattle.play.proofs.run.store.Tie as tie
 
-slice-write-place : tie.Need-slice-write-place
-slice-write-place c = search needs
-
-cast-place : tie.Need-cast-place
-cast-place c = search needs
-
-slice-write-place-2 : tie.Need-slice-write-place-2
-slice-write-place-2 c = search needs
-
-slice-write-place-3 : tie.Need-slice-write-place-3
-slice-write-place-3 c = search needs
-
-slice-write-place-4 : tie.Need-slice-write-place-4
-slice-write-place-4 c = search needs
-
 slice-write-place-5 : tie.Need-slice-write-place-5
 slice-write-place-5 c = simp length-set (omega arith)
-
-same-length : tie.Need-same-length
-same-length c = search needs
 
 returns : tie.Need-returns
 returns c = entry-stored (c .before .args .place .now) _ _ _ _ _ (c .before .pre .0)
@@ -34,11 +16,5 @@ pub store-spec : {M : Type 1} → statement M
 store-spec =
     tie.close
     (tie.spec
-    slice-write-place
-    cast-place
-    slice-write-place-2
-    slice-write-place-3
-    slice-write-place-4
-    slice-write-place-5
-    same-length
+    (λ c. search needs) (λ c. search needs) (λ c. search needs) (λ c. search needs) (λ c. search needs) slice-write-place-5 (λ c. search needs)
     returns)

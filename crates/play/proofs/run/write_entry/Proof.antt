@@ -6,39 +6,14 @@ use borrow.Author.Needs.{needs}
 use Rattle.play.proofs.run.write_entry.Statement.{statement}
 use Rattle.play.proofs.run.write_entry.Tie as tie
 
-add-end : tie.Need-add-end
-add-end c = search needs
-
-mul-store : tie.Need-mul-store
-mul-store c = search needs
-
-sub-store : tie.Need-sub-store
-sub-store c = search needs
-
-part-store-start : tie.Need-part-store-start
-part-store-start c = search needs
-
-part-store-end : tie.Need-part-store-end
-part-store-end c = search needs
-
-store-requires : tie.Need-store-requires
-store-requires c κs = search needs
-
-same-length : tie.Need-same-length
-same-length c = search needs
-
 returns : tie.Need-returns
-returns c = lent-to _ _ entryWords (λ _. wordsOf (c .before .before .before .before .before .args .e)) _ (c .before .before .before .before .before .args .answers .now) refl (c .before .before .store .ensures)
+returns c =
+    let start : tie.Start = search in
+    lent-to _ _ entryWords (λ _. wordsOf (start .args .e)) _ (start .args .answers .now) refl (c .before .before .store .ensures)
 
 pub write-entry-spec : {M : Type 1} → statement M
 write-entry-spec =
     tie.close
     (tie.spec
-    add-end
-    mul-store
-    sub-store
-    part-store-start
-    part-store-end
-    store-requires
-    same-length
+    (λ c. search needs) (λ c. search needs) (λ c. search needs) (λ c. search needs) (λ c. search needs) (λ c κs. search needs) (λ c. search needs)
     returns)

@@ -7,9 +7,6 @@ use borrow.Author.Needs.{needs}
 use Rattle.play.proofs.streams.hear_context.Statement.{statement}
 use Rattle.play.proofs.streams.hear_context.Tie as tie
 
-count-of-requires : tie.Need-count-of-requires
-count-of-requires c κs = search needs
-
 mul-at : tie.Need-mul-at
 mul-at c = omega (arith, lent-few _ _ (c .before .before .before .pre .0) (c .before .before .before .pre .1))
 
@@ -19,84 +16,70 @@ add-at c = omega (arith, lent-few _ _ (c .before .before .before .pre .0) (c .be
 add-end : tie.Need-add-end
 add-end c = omega (arith, lent-few _ _ (c .before .before .before .pre .0) (c .before .before .before .pre .1))
 
-body-at-requires : tie.Need-body-at-requires
-body-at-requires c κs = search needs
-
 body-end-requires : tie.Need-body-end-requires
-body-end-requires c κs = headed-sized _ _ (c .before .before .before .before .pre .2) .0
+body-end-requires c κs =
+    let start : tie.Start = search in
+    headed-sized _ _ (start .pre .2) .0
 
 mul-hear-context : tie.Need-mul-hear-context
 mul-hear-context c =
-    let b = c .before .before .before .before .before in
+    let b : tie.Start = search in
     omega (arith, lent-few _ _ (b .pre .0) (b .pre .1), lent-inside _ _ (b .pre .0) (b .pre .1))
-
-sub-hear-context : tie.Need-sub-hear-context
-sub-hear-context c = search needs
-
-part-hear-context-start : tie.Need-part-hear-context-start
-part-hear-context-start c = search needs
 
 part-hear-context-end : tie.Need-part-hear-context-end
 part-hear-context-end c =
-    let b = c .before .before .before .before .before in
+    let b : tie.Start = search in
     omega (arith, lent-few _ _ (b .pre .0) (b .pre .1), lent-inside _ _ (b .pre .0) (b .pre .1))
-
-mul-hear-context-2 : tie.Need-mul-hear-context-2
-mul-hear-context-2 c = search needs
 
 sub-hear-context-2 : tie.Need-sub-hear-context-2
 sub-hear-context-2 c =
-    let b = c .before .before .before .before .before .before in
-    omega (arith, body-lent (b .args .w) (b .args .s) (now (b .args .words)) (now (b .args .table)) (b .pre .2) _ _ (c .before .before .body-at .ensures .0) (c .before .body-end .ensures) (b .pre .3))
+    let b : tie.Start = search in
+    omega (
+      arith,
+      body-lent (b .args .w) (b .args .s) (now (b .args .words)) (now (b .args .table)) (b .pre .2) _ _
+          (c .before .before .body-at .ensures .0) (c .before .body-end .ensures) (b .pre .3),
+    )
 
 part-hear-context-start-2 : tie.Need-part-hear-context-start-2
 part-hear-context-start-2 c =
-    let b = c .before .before .before .before .before .before in
-    body-lent (b .args .w) (b .args .s) (now (b .args .words)) (now (b .args .table)) (b .pre .2) _ _ (c .before .before .body-at .ensures .0) (c .before .body-end .ensures) (b .pre .3) .0
+    let b : tie.Start = search in
+    body-lent (b .args .w) (b .args .s) (now (b .args .words)) (now (b .args .table)) (b .pre .2) _ _ (c .before .before .body-at .ensures .0)
+    (c .before .body-end .ensures) (b .pre .3) .0
 
 part-hear-context-end-2 : tie.Need-part-hear-context-end-2
 part-hear-context-end-2 c =
-    let b = c .before .before .before .before .before .before in
-    body-lent (b .args .w) (b .args .s) (now (b .args .words)) (now (b .args .table)) (b .pre .2) _ _ (c .before .before .body-at .ensures .0) (c .before .body-end .ensures) (b .pre .3) .1
+    let b : tie.Start = search in
+    body-lent (b .args .w) (b .args .s) (now (b .args .words)) (now (b .args .table)) (b .pre .2) _ _ (c .before .before .body-at .ensures .0)
+    (c .before .body-end .ensures) (b .pre .3) .1
 
 hear-context-requires : tie.Need-hear-context-requires
 hear-context-requires c κs =
-    let b = c .before .before .before .before .before .before .before in
+    let at-count-of : tie.After-count-of = search in
+    let b : tie.Start = search in
     let a = lent-good (b .args .s) (b .args .table .now) (b .pre .0) (b .pre .1) in (
       a .0,
       a .1,
-      omega (arith, c .before .before .before .before .count-of .ensures),
-      body-good (b .args .w) (b .args .s) (now (b .args .words)) (now (b .args .table)) (b .pre .2) _ _ (c .before .before .before .body-at .ensures .0) (c .before .before .body-end .ensures) (b .pre .3),
+      omega (arith, at-count-of .count-of .ensures),
+      body-good (b .args .w) (b .args .s) (now (b .args .words)) (now (b .args .table)) (b .pre .2) _ _ (c .before .before .before .body-at .ensures .0)
+          (c .before .before .body-end .ensures) (b .pre .3),
     )
-
-same-length : tie.Need-same-length
-same-length c = search needs
 
 returns : tie.Need-returns
 returns c =
-    let b = c .before .before .before .before .before .before .before .before .before .before in
-    heard-context (b .args .w) (b .args .s) (now (b .args .words)) (now (b .args .table)) (b .pre .2) _ _ (c .before .before .before .before .before .before .body-at .ensures .0) (c .before .before .before .before .before .body-end .ensures) (b .pre .3) _ _ _
-    (c .before .before .before .before .before .before .before .count-of .ensures)
-    (lent-heard (b .args .s) (b .args .table .now) (b .pre .0) (b .pre .1) _ _ _ _ _ (c .before .before .hear-context .ensures .0) (c .before .before .hear-context .ensures .1))
+    let at-body-at : tie.After-body-at = search in
+    let at-body-end : tie.After-body-end = search in
+    let at-count-of : tie.After-count-of = search in
+    let b : tie.Start = search in
+    heard-context (b .args .w) (b .args .s) (now (b .args .words)) (now (b .args .table)) (b .pre .2) _ _ (at-body-at .body-at .ensures .0)
+    (at-body-end .body-end .ensures) (b .pre .3) _ _ _
+    (at-count-of .count-of .ensures)
+    (lent-heard (b .args .s) (b .args .table .now) (b .pre .0) (b .pre .1) _ _ _ _ _ (c .before .before .hear-context .ensures .0)
+    (c .before .before .hear-context .ensures .1))
 
 pub hear-context-spec : {M : Type 1} → statement M
 hear-context-spec =
     tie.close
     (tie.spec
-    count-of-requires
-    mul-at
-    add-at
-    add-end
-    body-at-requires
-    body-end-requires
-    mul-hear-context
-    sub-hear-context
-    part-hear-context-start
-    part-hear-context-end
-    mul-hear-context-2
-    sub-hear-context-2
-    part-hear-context-start-2
-    part-hear-context-end-2
-    hear-context-requires
-    same-length
-    returns)
+    (λ c κs. search needs) mul-at add-at add-end (λ c κs. search needs) body-end-requires mul-hear-context (λ c. search needs) (λ c. search needs)
+    part-hear-context-end (λ c. search needs) sub-hear-context-2 part-hear-context-start-2 part-hear-context-end-2 hear-context-requires
+    (λ c. search needs) returns)

@@ -6,12 +6,6 @@ use borrow.Author.Needs.{needs}
 use Rattle.play.proofs.streams.hear_data.Statement.{statement}
 use Rattle.play.proofs.streams.hear_data.Tie as tie
 
-type-of-requires : tie.Need-type-of-requires
-type-of-requires c κs = search needs
-
-count-of-requires : tie.Need-count-of-requires
-count-of-requires c κs = search needs
-
 mul-first : tie.Need-mul-first
 mul-first c = omega (arith, lent-few _ _ (c .before .before .before .pre .0) (c .before .before .before .pre .1))
 
@@ -22,46 +16,42 @@ add-end : tie.Need-add-end
 add-end c = omega (arith, lent-few _ _ (c .before .before .before .pre .0) (c .before .before .before .pre .1))
 
 mul-hear-data : tie.Need-mul-hear-data
-mul-hear-data c = omega (arith, lent-few _ _ (c .before .before .before .pre .0) (c .before .before .before .pre .1), lent-inside _ _ (c .before .before .before .pre .0) (c .before .before .before .pre .1))
-
-sub-hear-data : tie.Need-sub-hear-data
-sub-hear-data c = search needs
-
-part-hear-data-start : tie.Need-part-hear-data-start
-part-hear-data-start c = search needs
+mul-hear-data c =
+    omega (
+      arith,
+      lent-few _ _ (c .before .before .before .pre .0) (c .before .before .before .pre .1),
+      lent-inside _ _ (c .before .before .before .pre .0)
+          (c .before .before .before .pre .1),
+    )
 
 part-hear-data-end : tie.Need-part-hear-data-end
-part-hear-data-end c = omega (arith, lent-few _ _ (c .before .before .before .pre .0) (c .before .before .before .pre .1), lent-inside _ _ (c .before .before .before .pre .0) (c .before .before .before .pre .1))
+part-hear-data-end c =
+    omega (
+      arith,
+      lent-few _ _ (c .before .before .before .pre .0) (c .before .before .before .pre .1),
+      lent-inside _ _ (c .before .before .before .pre .0)
+          (c .before .before .before .pre .1),
+    )
 
 hear-data-requires : tie.Need-hear-data-requires
 hear-data-requires c κs =
-    let b = c .before .before .before .before in
+    let b : tie.Start = search in
     let a = lent-good (b .args .s) (b .args .table .now) (b .pre .0) (b .pre .1) in
     (a .0, a .1, omega (arith, c .before .count-of .ensures), rw (c .before .before .type-of .ensures) (b .pre .2))
 
-same-length : tie.Need-same-length
-same-length c = search needs
-
 returns : tie.Need-returns
 returns c =
-    let b = c .before .before .before .before .before .before .before in
-    let k = c .before .before .before .before .before .type-of .ensures in
-    let n = c .before .before .before .before .count-of .ensures in
-    lent-heard (b .args .s) (b .args .table .now) (b .pre .0) (b .pre .1) _ _ _ _ _ (c .before .before .hear-data .ensures .0 ∙ rw (k, n)) (c .before .before .hear-data .ensures .1 ∙ rw (k, n))
+    let at-type-of : tie.After-type-of = search in
+    let at-count-of : tie.After-count-of = search in
+    let b : tie.Start = search in
+    let k = at-type-of .type-of .ensures in
+    let n = at-count-of .count-of .ensures in
+    lent-heard (b .args .s) (b .args .table .now) (b .pre .0) (b .pre .1) _ _ _ _ _ (c .before .before .hear-data .ensures .0 ∙ rw (k, n))
+    (c .before .before .hear-data .ensures .1 ∙ rw (k, n))
 
 pub hear-data-spec : {M : Type 1} → statement M
 hear-data-spec =
     tie.close
     (tie.spec
-    type-of-requires
-    count-of-requires
-    mul-first
-    add-first
-    add-end
-    mul-hear-data
-    sub-hear-data
-    part-hear-data-start
-    part-hear-data-end
-    hear-data-requires
-    same-length
-    returns)
+    (λ c κs. search needs) (λ c κs. search needs) mul-first add-first add-end mul-hear-data (λ c. search needs) (λ c. search needs) part-hear-data-end
+    hear-data-requires (λ c. search needs) returns)

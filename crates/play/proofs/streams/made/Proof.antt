@@ -5,9 +5,6 @@ use borrow.Author.Needs.{needs}
 use Rattle.play.proofs.streams.made.Statement.{statement}
 use Rattle.play.proofs.streams.made.Tie as tie
 
-well-made-requires : tie.Need-well-made-requires
-well-made-requires c κs = search needs
-
 returns : tie.Need-returns
 unfolding madeOf
 returns c = rw (sym (c .before .well-made .ensures) ∙ c .if1 .taken)
@@ -17,4 +14,5 @@ unfolding madeOf
 returns-2 c = rw (sym (c .before .well-made .ensures) ∙ c .if1 .left)
 
 pub made-spec : {M : Type 1} → statement M
-made-spec = tie.close (tie.spec well-made-requires returns returns-2)
+made-spec =
+    tie.close (tie.spec (λ c κs. search needs) returns returns-2)

@@ -8,16 +8,12 @@ use Rattle.play.proofs.streams.seek.Tie as tie
 identifier-of-requires : tie.Need-identifier-of-requires
 identifier-of-requires c κs = headed-sized _ _ (c .before .before .pre .1)
 
-has-stream-requires : tie.Need-has-stream-requires
-has-stream-requires c κs = search needs
-
-seek-streamed-requires : tie.Need-seek-streamed-requires
-seek-streamed-requires c κs = search needs
-
 returns : tie.Need-returns
 returns c =
-    let b = c .before .before .before .before .before in
-    sought-in (b .args .w) (now (b .args .words)) (b .pre .1) (now (b .args .table)) _ _ _ (c .before .has-stream .ensures) (c .before .before .identifier-of .ensures) (c .seek-streamed .ensures)
+    let b : tie.Start = search in
+    sought-in (b .args .w) (now (b .args .words)) (b .pre .1) (now (b .args .table)) _ _ _ (c .before .has-stream .ensures)
+    (c .before .before .identifier-of .ensures) (c .seek-streamed .ensures)
 
 pub seek-spec : {M : Type 1} → statement M
-seek-spec = tie.close (tie.spec identifier-of-requires has-stream-requires seek-streamed-requires returns)
+seek-spec =
+    tie.close (tie.spec identifier-of-requires (λ c κs. search needs) (λ c κs. search needs) returns)

@@ -3,9 +3,6 @@ use borrow.Author.Needs.{needs}
 use Rattle.play.proofs.streams.seek_streamed.Statement.{statement}
 use Rattle.play.proofs.streams.seek_streamed.Tie as tie
 
-seek-stream-requires : tie.Need-seek-stream-requires
-seek-stream-requires c κs = search needs
-
 returns : tie.Need-returns
 returns c = rw (c .before .if1 .taken) (c .seek-stream .ensures)
 
@@ -13,4 +10,5 @@ returns-2 : tie.Need-returns-2
 returns-2 c = rw (c .if1 .left)
 
 pub seek-streamed-spec : {M : Type 1} → statement M
-seek-streamed-spec = tie.close (tie.spec seek-stream-requires returns returns-2)
+seek-streamed-spec =
+    tie.close (tie.spec (λ c κs. search needs) returns returns-2)

@@ -25,13 +25,9 @@ is-apart-requires : tie.Need-is-apart-requires Inv-loop μ-loop
 is-apart-requires c κs = spaced-inside _ _ _ _ _ (c .before .before .before .pre .0) (c .loop-test .taken) (c .before .before .before .pre .1)
 
 returns : tie.Need-returns Inv-loop μ-loop
-returns c = sym (all-fails _ _ (c .before .before .before .loop .s) (c .before .before .loop-test .taken) (sym (c .before .is-apart .ensures) ∙ not-true _ (c .if1 .taken)))
-
-add-s : tie.Need-add-s Inv-loop μ-loop
-add-s c = search needs
-
-loop-less : tie.Need-loop-less Inv-loop μ-loop
-loop-less c = search needs
+returns c =
+    sym (all-fails _ _ (c .before .before .before .loop .s) (c .before .before .loop-test .taken)
+    (sym (c .before .is-apart .ensures) ∙ not-true _ (c .if1 .taken)))
 
 loop-again : tie.Need-loop-again Inv-loop μ-loop
 loop-again c = (search needs, all-more _ _ (c .before .before .before .loop .inv .1) (sym (c .before .is-apart .ensures) ∙ not-false _ (c .if1 .left)))
@@ -41,14 +37,4 @@ returns-2 c = sym (all-end _ _ _ (omega arith) (c .before .loop .inv .1))
 
 pub all-apart-spec : {M : Type 1} → statement M
 all-apart-spec =
-    tie.close
-    (tie.spec
-    Inv-loop
-    μ-loop
-    loop-holds
-    is-apart-requires
-    returns
-    add-s
-    loop-less
-    loop-again
-    returns-2)
+    tie.close (tie.spec Inv-loop μ-loop loop-holds is-apart-requires returns (λ c. search needs) (λ c. search needs) loop-again returns-2)

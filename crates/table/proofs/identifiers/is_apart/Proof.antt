@@ -24,42 +24,45 @@ Inv-loop words first step s mine u₀ u = (mine ≡ spaced first step words s) �
 abbrev μ-loop : tie.MeasureT-loop
 μ-loop words first step s mine u₀ u = s - u
 
-mul-mine : tie.Need-mul-mine Inv-loop μ-loop
-mul-mine c = search needs
-
-add-mine : tie.Need-add-mine Inv-loop μ-loop
-add-mine c = search needs
-
-mul-mine-2 : tie.Need-mul-mine-2 Inv-loop μ-loop
-mul-mine-2 c = search needs
-
-shared-slice-read-mine : tie.Need-shared-slice-read-mine Inv-loop μ-loop
-shared-slice-read-mine c = search needs
-
 loop-holds : tie.Need-loop-holds Inv-loop μ-loop
-loop-holds c = (refl, search needs, all-none (other (c .before .args .words .now) (c .before .args .first) (c .before .args .step) (c .before .args .s)))
+loop-holds c =
+    (refl, search needs, all-none (other (c .before .args .words .now) (c .before .args .first) (c .before .args .step) (c .before .args .s)))
 
 mul-if1 : tie.Need-mul-if1 Inv-loop μ-loop
-mul-if1 c = omega (arith, spaced-less (c .before .before .before .args .first) (c .before .before .before .args .step) (c .before .loop .u) (c .before .before .before .args .s) (omega arith))
+mul-if1 c =
+    omega (
+      arith,
+      spaced-less (c .before .before .before .args .first) (c .before .before .before .args .step) (c .before .loop .u)
+          (c .before .before .before .args .s) (omega arith),
+    )
 
 add-if1 : tie.Need-add-if1 Inv-loop μ-loop
-add-if1 c = omega (arith, spaced-less (c .before .before .before .args .first) (c .before .before .before .args .step) (c .before .loop .u) (c .before .before .before .args .s) (omega arith))
+add-if1 c =
+    omega (
+      arith,
+      spaced-less (c .before .before .before .args .first) (c .before .before .before .args .step) (c .before .loop .u)
+          (c .before .before .before .args .s) (omega arith),
+    )
 
 mul-if1-2 : tie.Need-mul-if1-2 Inv-loop μ-loop
-mul-if1-2 c = omega (arith, spaced-less (c .before .before .before .args .first) (c .before .before .before .args .step) (c .before .loop .u) (c .before .before .before .args .s) (omega arith))
+mul-if1-2 c =
+    omega (
+      arith,
+      spaced-less (c .before .before .before .args .first) (c .before .before .before .args .step) (c .before .loop .u)
+          (c .before .before .before .args .s) (omega arith),
+    )
 
 shared-slice-read-if1 : tie.Need-shared-slice-read-if1 Inv-loop μ-loop
-shared-slice-read-if1 c = omega (arith, spaced-less (c .before .before .before .before .args .first) (c .before .before .before .before .args .step) (c .before .before .loop .u) (c .before .before .before .before .args .s) (omega arith))
+shared-slice-read-if1 c =
+    let start : tie.Start Inv-loop μ-loop = search in
+    omega (arith, spaced-less (start .args .first) (start .args .step) (c .before .before .loop .u) (start .args .s) (omega arith))
 
 returns : tie.Need-returns Inv-loop μ-loop
 unfolding apart
-returns c = sym (all-fails (other (c .before .before .before .before .before .args .words .now) (c .before .before .before .before .before .args .first) (c .before .before .before .before .before .args .step) (c .before .before .before .before .before .args .s)) _ (c .before .before .before .loop .u) (c .before .before .loop-test .taken) (ap not (eq-eqb _ _ (c .if1 .taken ∙ c .before .before .before .loop .inv .0))))
-
-add-u : tie.Need-add-u Inv-loop μ-loop
-add-u c = search needs
-
-loop-less : tie.Need-loop-less Inv-loop μ-loop
-loop-less c = search needs
+returns c =
+    let start : tie.Start Inv-loop μ-loop = search in
+    sym (all-fails (other (start .args .words .now) (start .args .first) (start .args .step) (start .args .s)) _ (c .before .before .before .loop .u)
+    (c .before .before .loop-test .taken) (ap not (eq-eqb _ _ (c .if1 .taken ∙ c .before .before .before .loop .inv .0))))
 
 loop-again : tie.Need-loop-again Inv-loop μ-loop
 loop-again c =
@@ -74,19 +77,5 @@ pub is-apart-spec : {M : Type 1} → statement M
 is-apart-spec =
     tie.close
     (tie.spec
-    Inv-loop
-    μ-loop
-    mul-mine
-    add-mine
-    mul-mine-2
-    shared-slice-read-mine
-    loop-holds
-    mul-if1
-    add-if1
-    mul-if1-2
-    shared-slice-read-if1
-    returns
-    add-u
-    loop-less
-    loop-again
-    returns-2)
+    Inv-loop μ-loop (λ c. search needs) (λ c. search needs) (λ c. search needs) (λ c. search needs) loop-holds mul-if1 add-if1 mul-if1-2
+    shared-slice-read-if1 returns (λ c. search needs) (λ c. search needs) loop-again returns-2)

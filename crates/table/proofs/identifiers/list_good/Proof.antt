@@ -13,12 +13,10 @@ returns-2 : tie.Need-returns-2
 unfolding listGood
 returns-2 c = rw (le-leb _ _ (c .before .if1 .left), lt-leb _ _ (c .if2 .taken))
 
-all-apart-requires : tie.Need-all-apart-requires
-all-apart-requires c κs = search needs
-
 returns-3 : tie.Need-returns-3
 unfolding listGood
 returns-3 c = rw (le-leb _ _ (c .before .before .if1 .left), le-leb _ _ (c .before .if2 .left)) (c .all-apart .ensures)
 
 pub list-good-spec : {M : Type 1} → statement M
-list-good-spec = tie.close (tie.spec returns returns-2 all-apart-requires returns-3)
+list-good-spec =
+    tie.close (tie.spec returns returns-2 (λ c κs. search needs) returns-3)

@@ -5,14 +5,11 @@ use borrow.Author.Needs.{needs}
 use Rattle.vrt49.proofs.answers.store.Statement.{statement}
 use Rattle.vrt49.proofs.answers.store.Tie as tie
 
-copy-part-requires : tie.Need-copy-part-requires
-copy-part-requires c κs = search needs
-
-same-length : tie.Need-same-length
-same-length c = search needs
-
 returns : tie.Need-returns
-returns c = c .before .before .copy-part .ensures ∙ copied-front (c .before .before .before .before .before .before .args .values .now) (c .before .before .before .before .before .before .args .answer .now)
+returns c =
+    let start : tie.Start = search in
+    c .before .before .copy-part .ensures ∙ copied-front (start .args .values .now) (start .args .answer .now)
 
 pub store-spec : {M : Type 1} → statement M
-store-spec = tie.close (tie.spec copy-part-requires same-length returns)
+store-spec =
+    tie.close (tie.spec (λ c κs. search needs) (λ c. search needs) returns)

@@ -5,15 +5,6 @@ use borrow.Author.Needs.{needs}
 use Rattle.vrt49.proofs.packets.vrt49_check_body.Statement.{statement}
 use Rattle.vrt49.proofs.packets.vrt49_check_body.Tie as tie
 
-check-body-requires : tie.Need-check-body-requires
-check-body-requires c κs = search needs
-
-enum-told : tie.Need-enum-told
-enum-told c = search needs
-
-enum-known-n : tie.Need-enum-known-n
-enum-known-n c = search needs
-
 returns : tie.Need-returns
 returns c = ap numberOf (sym (ap checked (c .enum-told .given .1)) ∙ c .before .before .check-body .ensures)
 
@@ -22,4 +13,4 @@ returns-2 c = ap numberOf (sym (ap checked (c .before .n .given .1)) ∙ c .befo
 
 pub vrt49-check-body-spec : {M : Type 1} → statement M
 vrt49-check-body-spec =
-    tie.close (tie.spec check-body-requires enum-told enum-known-n returns returns-2)
+    tie.close (tie.spec (λ c κs. search needs) (λ c. search needs) (λ c. search needs) returns returns-2)

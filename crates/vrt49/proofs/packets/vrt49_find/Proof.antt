@@ -12,50 +12,23 @@ returns : tie.Need-returns
 unfolding findGives
 returns c = gives-room _ _ _ _ (c .if1 .taken)
 
-find-requires : tie.Need-find-requires
-find-requires c κs = search needs
-
-enum-known-at : tie.Need-enum-known-at
-enum-known-at c = search needs
-
-store-three-requires : tie.Need-store-three-requires
-store-three-requires c κs = search needs
-
-enum-told : tie.Need-enum-told
-enum-told c = search needs
-
-store-three-requires-2 : tie.Need-store-three-requires-2
-store-three-requires-2 c κs = search needs
-
-same-length : tie.Need-same-length
-same-length c = search needs
-
 returns-2 : tie.Need-returns-2
 unfolding findGives
 returns-2 c =
-    let k = c .before .before .before .before .before in
-    gives-values _ _ _ _ _ _ (k .before .before .before .if1 .left) (ap accepted (sym (k .before .before .find .ensures) ∙ ap foundPaper (k .at .given .1))) (c .before .before .store-three .ensures)
-
-same-length-2 : tie.Need-same-length-2
-same-length-2 c = search needs
+    let k : tie.After-at = search in
+    gives-values _ _ _ _ _ _ (k .before .before .before .if1 .left)
+    (ap accepted (sym (k .before .before .find .ensures) ∙ ap foundPaper (k .at .given .1))) (c .before .before .store-three .ensures)
 
 returns-3 : tie.Need-returns-3
 unfolding findGives
 returns-3 c =
-    let k = c .before .before .before .before in
-    gives-values _ _ _ _ _ _ (k .before .before .before .if1 .left) (ap accepted (sym (k .before .before .find .ensures) ∙ ap foundPaper (k .enum-told .given .1))) (c .before .before .store-three2 .ensures)
+    let k : tie.After-enum-told = search in
+    gives-values _ _ _ _ _ _ (k .before .before .before .if1 .left)
+    (ap accepted (sym (k .before .before .find .ensures) ∙ ap foundPaper (k .enum-told .given .1))) (c .before .before .store-three2 .ensures)
 
 pub vrt49-find-spec : {M : Type 1} → statement M
 vrt49-find-spec =
     tie.close
     (tie.spec
-    returns
-    find-requires
-    enum-known-at
-    store-three-requires
-    enum-told
-    store-three-requires-2
-    same-length
-    returns-2
-    same-length-2
-    returns-3)
+    returns (λ c κs. search needs) (λ c. search needs) (λ c κs. search needs) (λ c. search needs) (λ c κs. search needs) (λ c. search needs) returns-2
+    (λ c. search needs) returns-3)

@@ -14,18 +14,9 @@ returns : tie.Need-returns
 unfolding readGives
 returns c = gives-room _ _ _ _ (omega (arith, c .if1 .taken))
 
-read-requires : tie.Need-read-requires
-read-requires c κs = search needs
-
-enum-known-n : tie.Need-enum-known-n
-enum-known-n c = search needs
-
-enum-known-p : tie.Need-enum-known-p
-enum-known-p c = search needs
-
 store-packet-requires : tie.Need-store-packet-requires
 store-packet-requires c κs =
-    let k = c .before .before .before .before in
+    let k : tie.After-read = search in
     let e = sym (k .read .ensures) ∙ ap paper (c .before .before .p .given .1) in
     (k .before .if1 .left, size-small _ _ e, body-inside _ _ e)
 
@@ -35,24 +26,15 @@ returns-2 c =
     let k = c .before .before .before in
     gives-refused _ _ _ _ _ (k .before .if1 .left) (sym (k .read .ensures) ∙ ap paper (c .before .n .given .1))
 
-same-length : tie.Need-same-length
-same-length c = search needs
-
 returns-3 : tie.Need-returns-3
 unfolding readGives
 returns-3 c =
-    let k = c .before .before .before .before .before in
-    gives-values _ _ _ _ _ _ (k .before .before .before .if1 .left) (sym (k .before .before .read .ensures) ∙ ap paper (k .p .given .1)) (c .before .before .store-packet .ensures)
+    let k : tie.After-p = search in
+    gives-values _ _ _ _ _ _ (k .before .before .before .if1 .left) (sym (k .before .before .read .ensures) ∙ ap paper (k .p .given .1))
+    (c .before .before .store-packet .ensures)
 
 pub vrt49-read-spec : {M : Type 1} → statement M
 vrt49-read-spec =
     tie.close
     (tie.spec
-    returns
-    read-requires
-    enum-known-n
-    enum-known-p
-    store-packet-requires
-    returns-2
-    same-length
-    returns-3)
+    returns (λ c κs. search needs) (λ c. search needs) (λ c. search needs) store-packet-requires returns-2 (λ c. search needs) returns-3)

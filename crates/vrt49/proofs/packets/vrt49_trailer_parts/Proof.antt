@@ -11,35 +11,15 @@ returns : tie.Need-returns
 unfolding trailerGives
 returns c = gives-room _ _ _ _ (c .if1 .taken)
 
-trailer-parts-requires : tie.Need-trailer-parts-requires
-trailer-parts-requires c κs = search needs
-
-flag-requires : tie.Need-flag-requires
-flag-requires c κs = search needs
-
-slice-aggregate-store : tie.Need-slice-aggregate-store
-slice-aggregate-store c = search needs
-
-store-requires : tie.Need-store-requires
-store-requires c κs = search needs
-
-same-length : tie.Need-same-length
-same-length c = search needs
-
 returns-2 : tie.Need-returns-2
 unfolding trailerGives
 returns-2 c =
-    let k = c .before .before .before .before .before in
-    gives-values _ _ _ _ _ _ (k .before .before .if1 .left) (ap accepted (sym (k .before .trailer-parts .ensures))) (rw (← k .flag .ensures) (c .before .before .store .ensures))
+    let k : tie.After-flag = search in
+    gives-values _ _ _ _ _ _ (k .before .before .if1 .left) (ap accepted (sym (k .before .trailer-parts .ensures)))
+    (rw (← k .flag .ensures) (c .before .before .store .ensures))
 
 pub vrt49-trailer-parts-spec : {M : Type 1} → statement M
 vrt49-trailer-parts-spec =
     tie.close
     (tie.spec
-    returns
-    trailer-parts-requires
-    flag-requires
-    slice-aggregate-store
-    store-requires
-    same-length
-    returns-2)
+    returns (λ c κs. search needs) (λ c κs. search needs) (λ c. search needs) (λ c κs. search needs) (λ c. search needs) returns-2)

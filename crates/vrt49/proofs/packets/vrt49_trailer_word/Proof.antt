@@ -12,42 +12,21 @@ returns : tie.Need-returns
 unfolding trailerWordGives
 returns c = gives-room _ _ _ _ (c .if1 .taken)
 
-trailer-word-requires : tie.Need-trailer-word-requires
-trailer-word-requires c κs = search needs
-
-enum-known-n : tie.Need-enum-known-n
-enum-known-n c = search needs
-
-enum-known-w : tie.Need-enum-known-w
-enum-known-w c = search needs
-
-slice-write-answer : tie.Need-slice-write-answer
-slice-write-answer c = search needs
-
 returns-2 : tie.Need-returns-2
 unfolding trailerWordGives
 returns-2 c =
     let k = c .before .before .before in
     gives-refused _ _ _ _ _ (k .before .if1 .left) (sym (k .trailer-word .ensures) ∙ ap trailerPaper (c .before .n .given .1))
 
-same-length : tie.Need-same-length
-same-length c = search needs
-
 returns-3 : tie.Need-returns-3
 unfolding trailerWordGives
 returns-3 c =
     let k = c .before .before .before in
-    gives-values _ _ _ _ _ _ (k .before .if1 .left) (sym (k .trailer-word .ensures) ∙ ap trailerPaper (c .before .w .given .1)) (stored-front (_ ∷ []) _ (k .before .if1 .left))
+    gives-values _ _ _ _ _ _ (k .before .if1 .left) (sym (k .trailer-word .ensures) ∙ ap trailerPaper (c .before .w .given .1))
+    (stored-front (_ ∷ []) _ (k .before .if1 .left))
 
 pub vrt49-trailer-word-spec : {M : Type 1} → statement M
 vrt49-trailer-word-spec =
     tie.close
     (tie.spec
-    returns
-    trailer-word-requires
-    enum-known-n
-    enum-known-w
-    slice-write-answer
-    returns-2
-    same-length
-    returns-3)
+    returns (λ c κs. search needs) (λ c. search needs) (λ c. search needs) (λ c. search needs) returns-2 (λ c. search needs) returns-3)

@@ -15,59 +15,38 @@ returns : tie.Need-returns
 unfolding writeGives
 returns c = beside-room _ _ _ _ _ (c .if1 .taken)
 
-write-words-requires : tie.Need-write-words-requires
-write-words-requires c κs = search needs
-
-enum-known-n : tie.Need-enum-known-n
-enum-known-n c = search needs
-
-enum-known-n-2 : tie.Need-enum-known-n-2
-enum-known-n-2 c = search needs
-
 cast-answer : tie.Need-cast-answer
 cast-answer c =
-    let k = c .before .before .before .before .before in
-    let a = k .before .before .before .before .before .before .before .args in
-    omega (arith, said (λ n. n ≤ 65535) {want = writeWordsOf (a .parts .now) (a .body .now) (a .out .now) (a .at)} (k .write-words .ensures) (ap writtenPaper (c .before .n2 .given .1)) (written-small _ _ _ _))
-
-slice-write-answer : tie.Need-slice-write-answer
-slice-write-answer c = search needs
-
-same-length : tie.Need-same-length
-same-length c = search needs
+    let start : tie.Start = search in
+    let k : tie.After-write-words = search in
+    let a = start .args in
+    omega (
+      arith,
+      said (λ n. n ≤ 65535) {want = writeWordsOf (a .parts .now) (a .body .now) (a .out .now) (a .at)} (k .write-words .ensures)
+          (ap writtenPaper (c .before .n2 .given .1)) (written-small _ _ _ _),
+    )
 
 returns-2 : tie.Need-returns-2
 unfolding writeGives
 returns-2 c =
-    let k = c .before .before .before .before .before in
-    let a = k .before .before .before .before .before .before .before .args in
-    beside-refused _ _ (writeWordsOf (a .parts .now) (a .body .now) (a .out .now) (a .at)) _ _ _ _ _ (k .before .before .if1 .left) (k .write-words .ensures) _ (ap writtenPaper (c .before .n .given .1))
-
-same-length-2 : tie.Need-same-length-2
-same-length-2 c = search needs
-
-same-length-3 : tie.Need-same-length-3
-same-length-3 c = search needs
+    let start : tie.Start = search in
+    let k : tie.After-write-words = search in
+    let a = start .args in
+    beside-refused _ _ (writeWordsOf (a .parts .now) (a .body .now) (a .out .now) (a .at)) _ _ _ _ _ (k .before .before .if1 .left)
+    (k .write-words .ensures) _ (ap writtenPaper (c .before .n .given .1))
 
 returns-3 : tie.Need-returns-3
 unfolding writeGives
 returns-3 c =
-    let k = c .before .before .before .before .before in
-    let a = k .before .before .before .before .before .before .before .args in
-    beside-values _ _ (writeWordsOf (a .parts .now) (a .body .now) (a .out .now) (a .at)) _ _ _ _ _ (k .before .before .if1 .left) (k .write-words .ensures) _ _ (ap writtenPaper (c .before .n2 .given .1)) (stored-front (_ ∷ []) _ (k .before .before .if1 .left))
+    let start : tie.Start = search in
+    let k : tie.After-write-words = search in
+    let a = start .args in
+    beside-values _ _ (writeWordsOf (a .parts .now) (a .body .now) (a .out .now) (a .at)) _ _ _ _ _ (k .before .before .if1 .left)
+    (k .write-words .ensures) _ _ (ap writtenPaper (c .before .n2 .given .1)) (stored-front (_ ∷ []) _ (k .before .before .if1 .left))
 
 pub vrt49-write-spec : {M : Type 1} → statement M
 vrt49-write-spec =
     tie.close
     (tie.spec
-    returns
-    write-words-requires
-    enum-known-n
-    enum-known-n-2
-    cast-answer
-    slice-write-answer
-    same-length
-    returns-2
-    same-length-2
-    same-length-3
-    returns-3)
+    returns (λ c κs. search needs) (λ c. search needs) (λ c. search needs) cast-answer (λ c. search needs) (λ c. search needs) returns-2
+    (λ c. search needs) (λ c. search needs) returns-3)

@@ -14,22 +14,10 @@ returns : tie.Need-returns
 unfolding lengthGives
 returns c = gives-room _ _ _ _ (c .if1 .taken)
 
-page-length-requires : tie.Need-page-length-requires
-page-length-requires c κs = search needs
-
-enum-known-n : tie.Need-enum-known-n
-enum-known-n c = search needs
-
-enum-known-length : tie.Need-enum-known-length
-enum-known-length c = search needs
-
 cast-answer : tie.Need-cast-answer
 cast-answer c =
     let k = c .before .before .before in
     omega (arith, length-small _ _ (sym (k .page-length .ensures) ∙ ap paper (c .before .length .given .1)))
-
-slice-write-answer : tie.Need-slice-write-answer
-slice-write-answer c = search needs
 
 returns-2 : tie.Need-returns-2
 unfolding lengthGives
@@ -37,25 +25,15 @@ returns-2 c =
     let k = c .before .before .before in
     gives-refused _ _ _ _ _ (k .before .if1 .left) (sym (k .page-length .ensures) ∙ ap paper (c .before .n .given .1))
 
-same-length : tie.Need-same-length
-same-length c = search needs
-
 returns-3 : tie.Need-returns-3
 unfolding lengthGives
 returns-3 c =
     let k = c .before .before .before in
-    gives-values _ _ _ _ _ _ (k .before .if1 .left) (sym (k .page-length .ensures) ∙ ap paper (c .before .length .given .1)) (stored-front (_ ∷ []) _ (k .before .if1 .left))
+    gives-values _ _ _ _ _ _ (k .before .if1 .left) (sym (k .page-length .ensures) ∙ ap paper (c .before .length .given .1))
+    (stored-front (_ ∷ []) _ (k .before .if1 .left))
 
 pub vrt49-page-length-spec : {M : Type 1} → statement M
 vrt49-page-length-spec =
     tie.close
     (tie.spec
-    returns
-    page-length-requires
-    enum-known-n
-    enum-known-length
-    cast-answer
-    slice-write-answer
-    returns-2
-    same-length
-    returns-3)
+    returns (λ c κs. search needs) (λ c. search needs) (λ c. search needs) cast-answer (λ c. search needs) returns-2 (λ c. search needs) returns-3)

@@ -15,42 +15,23 @@ returns : tie.Need-returns
 unfolding signedGives
 returns c = gives-room _ _ _ _ (c .if1 .taken)
 
-signed-requires : tie.Need-signed-requires
-signed-requires c κs = search needs
-
-enum-known-n : tie.Need-enum-known-n
-enum-known-n c = search needs
-
-enum-known-z : tie.Need-enum-known-z
-enum-known-z c = search needs
-
-store-signed-requires : tie.Need-store-signed-requires
-store-signed-requires c κs = search needs
-
 returns-2 : tie.Need-returns-2
 unfolding signedGives
 returns-2 c =
     let k = c .before .before .before in
     gives-refused _ _ _ _ _ (k .before .if1 .left) (sym (k .signed .ensures) ∙ ap shownPaper (c .before .n .given .1))
 
-same-length : tie.Need-same-length
-same-length c = search needs
-
 returns-3 : tie.Need-returns-3
 unfolding signedGives
 returns-3 c =
-    let k = c .before .before .before .before in
-    gives-values _ _ _ _ _ _ (k .before .before .before .if1 .left) (sym (k .before .before .signed .ensures) ∙ ap shownPaper (k .z .given .1)) (c .before .store-signed .ensures ∙ ap (λ (z : ℤ). front (z ∷ []) (c .before .before .before .before .before .before .before .before .args .value .now)) (toZ-ofZ (sfits-of (c .before .before .before .known-told2 .given .0 .1))))
+    let start : tie.Start = search in
+    let k : tie.After-z = search in
+    gives-values _ _ _ _ _ _ (k .before .before .before .if1 .left) (sym (k .before .before .signed .ensures) ∙ ap shownPaper (k .z .given .1))
+    (c .before .store-signed .ensures ∙ ap (λ (z : ℤ). front (z ∷ []) (start .args .value .now))
+    (toZ-ofZ (sfits-of (c .before .before .before .known-told2 .given .0 .1))))
 
 pub vrt49-signed-spec : {M : Type 1} → statement M
 vrt49-signed-spec =
     tie.close
     (tie.spec
-    returns
-    signed-requires
-    enum-known-n
-    enum-known-z
-    store-signed-requires
-    returns-2
-    same-length
-    returns-3)
+    returns (λ c κs. search needs) (λ c. search needs) (λ c. search needs) (λ c κs. search needs) returns-2 (λ c. search needs) returns-3)

@@ -14,22 +14,10 @@ returns : tie.Need-returns
 unfolding neededGives
 returns c = gives-room _ _ _ _ (c .if1 .taken)
 
-words-needed-requires : tie.Need-words-needed-requires
-words-needed-requires c κs = search needs
-
-enum-known-number : tie.Need-enum-known-number
-enum-known-number c = search needs
-
-enum-known-many : tie.Need-enum-known-many
-enum-known-many c = search needs
-
 cast-answer : tie.Need-cast-answer
 cast-answer c =
     let k = c .before .before .before in
     omega (arith, needed-small _ _ _ _ (sym (k .words-needed .ensures) ∙ ap neededPaper (c .before .many .given .1)))
-
-slice-write-answer : tie.Need-slice-write-answer
-slice-write-answer c = search needs
 
 returns-2 : tie.Need-returns-2
 unfolding neededGives
@@ -37,25 +25,15 @@ returns-2 c =
     let k = c .before .before .before in
     gives-refused _ _ _ _ _ (k .before .if1 .left) (sym (k .words-needed .ensures) ∙ ap neededPaper (c .before .number .given .1))
 
-same-length : tie.Need-same-length
-same-length c = search needs
-
 returns-3 : tie.Need-returns-3
 unfolding neededGives
 returns-3 c =
     let k = c .before .before .before in
-    gives-values _ _ _ _ _ _ (k .before .if1 .left) (sym (k .words-needed .ensures) ∙ ap neededPaper (c .before .many .given .1)) (stored-front (_ ∷ []) _ (k .before .if1 .left))
+    gives-values _ _ _ _ _ _ (k .before .if1 .left) (sym (k .words-needed .ensures) ∙ ap neededPaper (c .before .many .given .1))
+    (stored-front (_ ∷ []) _ (k .before .if1 .left))
 
 pub vrt49-words-needed-spec : {M : Type 1} → statement M
 vrt49-words-needed-spec =
     tie.close
     (tie.spec
-    returns
-    words-needed-requires
-    enum-known-number
-    enum-known-many
-    cast-answer
-    slice-write-answer
-    returns-2
-    same-length
-    returns-3)
+    returns (λ c κs. search needs) (λ c. search needs) (λ c. search needs) cast-answer (λ c. search needs) returns-2 (λ c. search needs) returns-3)

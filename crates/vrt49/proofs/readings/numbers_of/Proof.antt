@@ -6,45 +6,6 @@ use borrow.Author.Needs.{needs, sfits-of}
 use Rattle.vrt49.proofs.readings.numbers_of.Statement.{statement}
 use Rattle.vrt49.proofs.readings.numbers_of.Tie as tie
 
-enum-known-dial : tie.Need-enum-known-dial
-enum-known-dial c = search needs
-
-enum-known-dial-2 : tie.Need-enum-known-dial-2
-enum-known-dial-2 c = search needs
-
-levelled-requires : tie.Need-levelled-requires
-levelled-requires c κs = search needs
-
-enum-known-dial-3 : tie.Need-enum-known-dial-3
-enum-known-dial-3 c = search needs
-
-levelled-requires-2 : tie.Need-levelled-requires-2
-levelled-requires-2 c κs = search needs
-
-enum-known-dial-4 : tie.Need-enum-known-dial-4
-enum-known-dial-4 c = search needs
-
-levelled-requires-3 : tie.Need-levelled-requires-3
-levelled-requires-3 c κs = search needs
-
-enum-told : tie.Need-enum-told
-enum-told c = search needs
-
-levelled-requires-4 : tie.Need-levelled-requires-4
-levelled-requires-4 c κs = search needs
-
-enum-told-2 : tie.Need-enum-told-2
-enum-told-2 c = search needs
-
-levelled-requires-5 : tie.Need-levelled-requires-5
-levelled-requires-5 c κs = search needs
-
-enum-told-3 : tie.Need-enum-told-3
-enum-told-3 c = search needs
-
-levelled-requires-6 : tie.Need-levelled-requires-6
-levelled-requires-6 c κs = search needs
-
 returns : tie.Need-returns
 unfolding ofBits
 returns c = numbers-frequency _ _ _ _ (toZ-ofZ (sfits-of (c .known-told .given .0 .1))) (c .before .dial .given .1)
@@ -77,23 +38,6 @@ pub numbers-of-spec : {M : Type 1} → statement M
 numbers-of-spec =
     tie.close
     (tie.spec
-    enum-known-dial
-    enum-known-dial-2
-    levelled-requires
-    enum-known-dial-3
-    levelled-requires-2
-    enum-known-dial-4
-    levelled-requires-3
-    enum-told
-    levelled-requires-4
-    enum-told-2
-    levelled-requires-5
-    enum-told-3
-    levelled-requires-6
-    returns
-    returns-2
-    returns-3
-    returns-4
-    returns-5
-    returns-6
-    returns-7)
+    (λ c. search needs) (λ c. search needs) (λ c κs. search needs) (λ c. search needs) (λ c κs. search needs) (λ c. search needs)
+    (λ c κs. search needs) (λ c. search needs) (λ c κs. search needs) (λ c. search needs) (λ c κs. search needs) (λ c. search needs)
+    (λ c κs. search needs) returns returns-2 returns-3 returns-4 returns-5 returns-6 returns-7)

@@ -5,18 +5,9 @@ use borrow.Author.Needs.{needs}
 use Rattle.vrt49.proofs.readings.store_levels.Statement.{statement}
 use Rattle.vrt49.proofs.readings.store_levels.Tie as tie
 
-slice-write-levels : tie.Need-slice-write-levels
-slice-write-levels c = search needs
-
-slice-write-levels-2 : tie.Need-slice-write-levels-2
-slice-write-levels-2 c = search needs
-
-same-length : tie.Need-same-length
-same-length c = search needs
-
 returns : tie.Need-returns
 returns c = stored-front (c .args .first ∷ c .args .second ∷ []) (c .args .levels .now) (c .pre)
 
 pub store-levels-spec : {M : Type 1} → statement M
 store-levels-spec =
-    tie.close (tie.spec slice-write-levels slice-write-levels-2 same-length returns)
+    tie.close (tie.spec (λ c. search needs) (λ c. search needs) (λ c. search needs) returns)

@@ -12,53 +12,29 @@ returns : tie.Need-returns
 unfolding playGives
 returns c = beside-room _ _ _ _ _ (c .if1 .taken)
 
-play-requires : tie.Need-play-requires
-play-requires c κs = search needs
-
-enum-known-n : tie.Need-enum-known-n
-enum-known-n c = search needs
-
-enum-known-h : tie.Need-enum-known-h
-enum-known-h c = search needs
-
 store-heard-requires : tie.Need-store-heard-requires
 store-heard-requires c κs =
-    let k = c .before .before .before .before .before .before in
+    let k : tie.After-play = search in
     let s = said SmallHeard (k .play .ensures) (ap paper (c .before .before .h .given .1)) (heard-small _ _) in
     (k .before .before .if1 .left, s .0, s .1)
-
-same-length : tie.Need-same-length
-same-length c = search needs
 
 returns-2 : tie.Need-returns-2
 unfolding playGives
 returns-2 c =
-    let k = c .before .before .before .before .before in
+    let k : tie.After-play = search in
     beside-refused _ _ _ _ _ _ _ _ (k .before .before .if1 .left) (k .play .ensures) _ (ap paper (c .before .n .given .1))
-
-same-length-2 : tie.Need-same-length-2
-same-length-2 c = search needs
-
-same-length-3 : tie.Need-same-length-3
-same-length-3 c = search needs
 
 returns-3 : tie.Need-returns-3
 unfolding playGives
 returns-3 c =
-    let k = c .before .before .before .before .before .before .before .before .before in
-    beside-values _ _ _ _ _ _ _ _ (k .before .before .if1 .left) (k .play .ensures) _ _ (ap paper (c .before .before .before .before .before .h .given .1)) (c .before .before .store-heard .ensures)
+    let at-h : tie.After-h = search in
+    let k : tie.After-play = search in
+    beside-values _ _ _ _ _ _ _ _ (k .before .before .if1 .left) (k .play .ensures) _ _ (ap paper (at-h .h .given .1))
+    (c .before .before .store-heard .ensures)
 
 pub vrt49-play-spec : {M : Type 1} → statement M
 vrt49-play-spec =
     tie.close
     (tie.spec
-    returns
-    play-requires
-    enum-known-n
-    enum-known-h
-    store-heard-requires
-    same-length
-    returns-2
-    same-length-2
-    same-length-3
-    returns-3)
+    returns (λ c κs. search needs) (λ c. search needs) (λ c. search needs) store-heard-requires (λ c. search needs) returns-2 (λ c. search needs)
+    (λ c. search needs) returns-3)

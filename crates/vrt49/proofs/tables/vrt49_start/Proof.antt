@@ -15,56 +15,27 @@ returns : tie.Need-returns
 unfolding startGives
 returns c = beside-room _ _ _ _ _ (c .if1 .taken)
 
-start-requires : tie.Need-start-requires
-start-requires c κs = search needs
-
-enum-known-n : tie.Need-enum-known-n
-enum-known-n c = search needs
-
-enum-known-length : tie.Need-enum-known-length
-enum-known-length c = search needs
-
 cast-answer : tie.Need-cast-answer
 cast-answer c =
-    let k = c .before .before .before .before .before in
+    let k : tie.After-start = search in
     omega (arith, said (λ n. n ≤ 2817) (k .start .ensures) (ap paper (c .before .length .given .1)) (layout-small _ _))
-
-slice-write-answer : tie.Need-slice-write-answer
-slice-write-answer c = search needs
-
-same-length : tie.Need-same-length
-same-length c = search needs
 
 returns-2 : tie.Need-returns-2
 unfolding startGives
 returns-2 c =
-    let k = c .before .before .before .before .before in
+    let k : tie.After-start = search in
     beside-refused _ _ _ _ _ _ _ _ (k .before .before .if1 .left) (k .start .ensures) _ (ap paper (c .before .n .given .1))
-
-same-length-2 : tie.Need-same-length-2
-same-length-2 c = search needs
-
-same-length-3 : tie.Need-same-length-3
-same-length-3 c = search needs
 
 returns-3 : tie.Need-returns-3
 unfolding startGives
 returns-3 c =
-    let k = c .before .before .before .before .before in
-    beside-values _ _ _ _ _ _ _ _ (k .before .before .if1 .left) (k .start .ensures) _ _ (ap paper (c .before .length .given .1)) (stored-front (_ ∷ []) _ (k .before .before .if1 .left))
+    let k : tie.After-start = search in
+    beside-values _ _ _ _ _ _ _ _ (k .before .before .if1 .left) (k .start .ensures) _ _ (ap paper (c .before .length .given .1))
+    (stored-front (_ ∷ []) _ (k .before .before .if1 .left))
 
 pub vrt49-start-spec : {M : Type 1} → statement M
 vrt49-start-spec =
     tie.close
     (tie.spec
-    returns
-    start-requires
-    enum-known-n
-    enum-known-length
-    cast-answer
-    slice-write-answer
-    same-length
-    returns-2
-    same-length-2
-    same-length-3
-    returns-3)
+    returns (λ c κs. search needs) (λ c. search needs) (λ c. search needs) cast-answer (λ c. search needs) (λ c. search needs) returns-2
+    (λ c. search needs) (λ c. search needs) returns-3)

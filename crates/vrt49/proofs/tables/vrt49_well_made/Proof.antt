@@ -6,14 +6,9 @@ use borrow.Author.Needs.{needs}
 use Rattle.vrt49.proofs.tables.vrt49_well_made.Statement.{statement}
 use Rattle.vrt49.proofs.tables.vrt49_well_made.Tie as tie
 
-well-made-requires : tie.Need-well-made-requires
-well-made-requires c κs = search needs
-
-flag-requires : tie.Need-flag-requires
-flag-requires c κs = search needs
-
 returns : tie.Need-returns
 returns c = c .flag .ensures ∙ ap (λ (t : Bool). when t 1) (c .before .well-made .ensures)
 
 pub vrt49-well-made-spec : {M : Type 1} → statement M
-vrt49-well-made-spec = tie.close (tie.spec well-made-requires flag-requires returns)
+vrt49-well-made-spec =
+    tie.close (tie.spec (λ c κs. search needs) (λ c κs. search needs) returns)

@@ -15,27 +15,6 @@ Inv-loop dst₀ src i₀ dst i = (i ≤ length dst₀) × (length dst ≡ length
 abbrev μ-loop : tie.MeasureT-loop
 μ-loop dst₀ src i₀ dst i = length dst₀ - i
 
-loop-holds : tie.Need-loop-holds Inv-loop μ-loop
-loop-holds c = search needs
-
-mul-dst : tie.Need-mul-dst Inv-loop μ-loop
-mul-dst c = search needs
-
-shared-slice-read-dst : tie.Need-shared-slice-read-dst Inv-loop μ-loop
-shared-slice-read-dst c = search needs
-
-mul-dst-2 : tie.Need-mul-dst-2 Inv-loop μ-loop
-mul-dst-2 c = search needs
-
-slice-write-dst : tie.Need-slice-write-dst Inv-loop μ-loop
-slice-write-dst c = search needs
-
-add-i : tie.Need-add-i Inv-loop μ-loop
-add-i c = search needs
-
-loop-less : tie.Need-loop-less Inv-loop μ-loop
-loop-less c = search needs
-
 loop-again : tie.Need-loop-again Inv-loop μ-loop
 loop-again c =
     let b = c .before .before in
@@ -44,9 +23,6 @@ loop-again c =
     let h : b .loop .i < length dst = omega arith in
     let k : b .loop .i < length src = omega arith in
     (omega arith, simp length-set (omega arith), rw (b .loop .inv .2) (copy-more dst src (b .loop .i) h k))
-
-same-length : tie.Need-same-length Inv-loop μ-loop
-same-length c = search needs
 
 returns : tie.Need-returns Inv-loop μ-loop
 returns c =
@@ -58,15 +34,5 @@ pub copy-words-spec : {M : Type 1} → statement M
 copy-words-spec =
     tie.close
     (tie.spec
-    Inv-loop
-    μ-loop
-    loop-holds
-    mul-dst
-    shared-slice-read-dst
-    mul-dst-2
-    slice-write-dst
-    add-i
-    loop-less
-    loop-again
-    same-length
-    returns)
+    Inv-loop μ-loop (λ c. search needs) (λ c. search needs) (λ c. search needs) (λ c. search needs) (λ c. search needs) (λ c. search needs)
+    (λ c. search needs) loop-again (λ c. search needs) returns)

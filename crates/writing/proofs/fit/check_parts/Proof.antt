@@ -9,21 +9,6 @@ returns : tie.Need-returns
 unfolding partsChecks
 returns c = search cases
 
-codes-fit-requires : tie.Need-codes-fit-requires
-codes-fit-requires c κs = search needs
-
-flags-fit-requires : tie.Need-flags-fit-requires
-flags-fit-requires c κs = search needs
-
-class-fits-requires : tie.Need-class-fits-requires
-class-fits-requires c κs = search needs
-
-both-of-requires : tie.Need-both-of-requires
-both-of-requires c κs = search needs
-
-both-of-requires-2 : tie.Need-both-of-requires-2
-both-of-requires-2 c κs = search needs
-
 returns-2 : tie.Need-returns-2
 unfolding partsFit partsChecks
 returns-2 c =
@@ -40,11 +25,4 @@ pub check-parts-spec : {M : Type 1} → statement M
 check-parts-spec =
     tie.close
     (tie.spec
-    returns
-    codes-fit-requires
-    flags-fit-requires
-    class-fits-requires
-    both-of-requires
-    both-of-requires-2
-    returns-2
-    returns-3)
+    returns (λ c κs. search needs) (λ c κs. search needs) (λ c κs. search needs) (λ c κs. search needs) (λ c κs. search needs) returns-2 returns-3)

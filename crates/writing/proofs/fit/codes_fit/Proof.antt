@@ -4,15 +4,10 @@ use borrow.Author.Needs.{needs}
 use Rattle.writing.proofs.fit.codes_fit.Statement.{statement}
 use Rattle.writing.proofs.fit.codes_fit.Tie as tie
 
-both-of-requires : tie.Need-both-of-requires
-both-of-requires c κs = search needs
-
-both-of-requires-2 : tie.Need-both-of-requires-2
-both-of-requires-2 c κs = search needs
-
 returns : tie.Need-returns
 unfolding codesFit
 returns c = rw (c .both-of2 .ensures, c .before .both-of .ensures)
 
 pub codes-fit-spec : {M : Type 1} → statement M
-codes-fit-spec = tie.close (tie.spec both-of-requires both-of-requires-2 returns)
+codes-fit-spec =
+    tie.close (tie.spec (λ c κs. search needs) (λ c κs. search needs) returns)

@@ -6,17 +6,8 @@ use borrow.Author.Needs.{needs}
 use Rattle.writing.proofs.laying.lay_one.Statement.{statement}
 use Rattle.writing.proofs.laying.lay_one.Tie as tie
 
-mul-out : tie.Need-mul-out
-mul-out c = search needs
-
 slice-write-out : tie.Need-slice-write-out
 slice-write-out c = let h = rw (c .if1 .taken) at (c .before .pre) in omega arith
-
-add-result : tie.Need-add-result
-add-result c = search needs
-
-same-length : tie.Need-same-length
-same-length c = search needs
 
 returns : tie.Need-returns
 returns c = rw (c .if1 .taken) (record { past = refl; kept = refl })
@@ -26,4 +17,4 @@ returns-2 c = rw (c .if1 .left) (record { past = sym (add-zero _); kept = refl }
 
 pub lay-one-spec : {M : Type 1} → statement M
 lay-one-spec =
-    tie.close (tie.spec mul-out slice-write-out add-result same-length returns returns-2)
+    tie.close (tie.spec (λ c. search needs) slice-write-out (λ c. search needs) (λ c. search needs) returns returns-2)

@@ -7,26 +7,17 @@ use borrow.Author.Needs.{needs}
 use Rattle.bitstream.proofs.inner.accumulator.carried_at.Statement.{statement}
 use Rattle.bitstream.proofs.inner.accumulator.carried_at.Tie as tie
 
-mul-result : tie.Need-mul-result
-mul-result c = search needs
-
-shared-slice-read-result : tie.Need-shared-slice-read-result
-shared-slice-read-result c = search needs
-
 cast-result : tie.Need-cast-result
 cast-result c = omega (arith, c .shared-slice-known .given (c .before .args .at))
 
-sub-result : tie.Need-sub-result
-sub-result c = search needs
-
-shr-result : tie.Need-shr-result
-shr-result c = search needs
-
 returns : tie.Need-returns
 unfolding carried
-returns c = (refl, carried-below (c .before .args .c) (c .before .args .words .now) (c .before .args .at) (c .before .pre .1) (omega (arith, c .shared-slice-known .given (c .before .args .at))))
+returns c = (
+  refl,
+  carried-below (c .before .args .c) (c .before .args .words .now) (c .before .args .at) (c .before .pre .1)
+      (omega (arith, c .shared-slice-known .given (c .before .args .at))),
+)
 
 pub carried-at-spec : {M : Type 1} → statement M
 carried-at-spec =
-    tie.close
-    (tie.spec mul-result shared-slice-read-result cast-result sub-result shr-result returns)
+    tie.close (tie.spec (λ c. search needs) (λ c. search needs) cast-result (λ c. search needs) (λ c. search needs) returns)

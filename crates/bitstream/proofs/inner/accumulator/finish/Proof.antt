@@ -9,23 +9,11 @@ use borrow.Author.Needs.{needs}
 use Rattle.bitstream.proofs.inner.accumulator.finish.Statement.{statement}
 use Rattle.bitstream.proofs.inner.accumulator.finish.Tie as tie
 
-sub-out : tie.Need-sub-out
-sub-out c = search needs
-
-shl-out : tie.Need-shl-out
-shl-out c = search needs
-
-cast-out : tie.Need-cast-out
-cast-out c = search needs
-
 mul-out : tie.Need-mul-out
 mul-out c = let l = c .before .before .pre .1 (c .before .if1 .taken) in search needs
 
 slice-write-out : tie.Need-slice-write-out
 slice-write-out c = c .before .before .pre .1 (c .before .if1 .taken)
-
-same-length : tie.Need-same-length
-same-length c = search needs
 
 returns : tie.Need-returns
 returns c =
@@ -40,5 +28,4 @@ returns-2 c = record { none = λ e. refl; some = λ l. absurd (omega arith) }
 
 pub finish-spec : {M : Type 1} → statement M
 finish-spec =
-    tie.close
-    (tie.spec sub-out shl-out cast-out mul-out slice-write-out same-length returns returns-2)
+    tie.close (tie.spec (λ c. search needs) (λ c. search needs) (λ c. search needs) mul-out slice-write-out (λ c. search needs) returns returns-2)

@@ -11,16 +11,15 @@ use Rattle.bitstream.proofs.inner.accumulator.push_field.Tie as tie
 push-requires : tie.Need-push-requires
 push-requires c κs =
     let r = c .before .before .before .pre in
-    record { some = r .some; most = r .most; part = r .narrow (c .before .if1 .taken); few = r .few; fits = r .fits; room = λ l. room-for _ _ _ _ _ (r .some) l (r .room) }
-
-same-length : tie.Need-same-length
-same-length c = search needs
-
-returns : tie.Need-returns
-returns c = search needs
-
-sub-push : tie.Need-sub-push
-sub-push c = search needs
+    record {
+      some = r .some;
+      most = r .most;
+      part = r .narrow (c .before .if1 .taken);
+      few = r .few;
+      fits = r .fits;
+      room = λ l. room-for _ _ _ _ _
+          (r .some) l (r .room);
+    }
 
 push-requires-2 : tie.Need-push-requires-2
 push-requires-2 c κs =
@@ -37,14 +36,12 @@ push-requires-2 c κs =
       room = λ l. room-for _ _ _ _ _ (r .some) l (omega (arith, r .room));
     }
 
-low-requires : tie.Need-low-requires
-low-requires c κs = search needs
-
 push-requires-3 : tie.Need-push-requires-3
 push-requires-3 c κs =
-    let d = c .before .before .before .before in
-    let a = d .before .before .before .before .args in
-    let r = d .before .before .before .before .pre in
+    let start : tie.Start = search in
+    let d : tie.After-push2 = search in
+    let a = start .args in
+    let r = start .pre in
     let e : a .c ≡ 32 = r .wide (d .before .before .if1 .left) in
     let q = d .push2 .ensures in
     record {
@@ -56,27 +53,19 @@ push-requires-3 c κs =
       room = λ l. room-for _ _ _ _ _ (r .some) l (omega (arith, r .room, q .place, ap (λ (x : ℕ). x * a .c) (d .push2 .kept .1 .1 .1 .1 .0)));
     }
 
-same-length-2 : tie.Need-same-length-2
-same-length-2 c = search needs
-
 returns-2 : tie.Need-returns-2
 returns-2 c =
+    let start : tie.Start = search in
     let y = c .before .before in
-    let d = y .before .before .before .before .before in
-    let a = d .before .before .before .before .args in
+    let d : tie.After-push2 = search in
+    let a = start .args in
     let e : a .f ≡ a .f - 32 + 32 = omega arith in
-    pushed-twice (a .c) (a .s) _ _ (a .v) (a .f) (a .f - 32) 32 _ _ _ e (d .push2 .ensures) (rw (y .before .before .low .ensures .0) at (y .push3 .ensures))
+    pushed-twice (a .c) (a .s) _ _ (a .v) (a .f) (a .f - 32) 32 _ _ _ e (d .push2 .ensures)
+    (rw (y .before .before .low .ensures .0) at (y .push3 .ensures))
 
 pub push-field-spec : {M : Type 1} → statement M
 push-field-spec =
     tie.close
     (tie.spec
-    push-requires
-    same-length
-    returns
-    sub-push
-    push-requires-2
-    low-requires
-    push-requires-3
-    same-length-2
-    returns-2)
+    push-requires (λ c. search needs) (λ c. search needs) (λ c. search needs) push-requires-2 (λ c κs. search needs) push-requires-3
+    (λ c. search needs) returns-2)

@@ -7,9 +7,6 @@ use Rattle.fields.proofs.inner.carried.next_field.Tie as tie
 sub-bit : tie.Need-sub-bit
 sub-bit c = leading-small 31 (c .args .rest) (c .pre) (c .fits .rest .fits)
 
-shl-t3 : tie.Need-shl-t3
-shl-t3 c = search needs
-
 sub-t4 : tie.Need-sub-t4
 sub-t4 c = shift-le 31 (c .args .rest) (c .pre) (c .fits .rest .fits)
 
@@ -17,4 +14,5 @@ returns : tie.Need-returns
 returns c = bits-cleared 31 (c .args .rest) (c .pre) (c .fits .rest .fits)
 
 pub next-field-spec : {M : Type 1} → statement M
-next-field-spec = tie.close (tie.spec sub-bit shl-t3 sub-t4 returns)
+next-field-spec =
+    tie.close (tie.spec sub-bit (λ c. search needs) sub-t4 returns)

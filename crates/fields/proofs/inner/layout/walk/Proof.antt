@@ -18,30 +18,23 @@ abbrev μ-loop : tie.MeasureT-loop
 loop-holds : tie.Need-loop-holds Inv-loop μ-loop
 loop-holds c = walking-start _ _ (c .before .pre)
 
-next-field-requires : tie.Need-next-field-requires Inv-loop μ-loop
-next-field-requires c κs = search needs
-
 rule-at-requires : tie.Need-rule-at-requires Inv-loop μ-loop
 rule-at-requires c κs = walking-near (c .before .before .loop .inv)
 
-both-of-requires : tie.Need-both-of-requires Inv-loop μ-loop
-both-of-requires c κs = search needs
-
 words-in-requires : tie.Need-words-in-requires Inv-loop μ-loop
 unfolding all sizeOf
-words-in-requires c κs = (refl, search needs, walking-near (c .before .before .before .before .before .loop .inv))
-
-add-end : tie.Need-add-end Inv-loop μ-loop
-add-end c = search needs
-
-loop-less : tie.Need-loop-less Inv-loop μ-loop
-loop-less c = search needs
+words-in-requires c κs =
+    let at-loop : tie.At-loop Inv-loop μ-loop = search in
+    (refl, search needs, walking-near (at-loop .loop .inv))
 
 loop-again : tie.Need-loop-again Inv-loop μ-loop
 loop-again c =
-    let f = c .before .before .before .before .next-field in
-    walking-turn (c .before .before .before .before .before .before .loop .inv) (f .result .bit) (f .result .rest) (c .words-in .result) _ (c .before .before .before .rule-at .result)
-    (f .ensures .0) (f .ensures .2) (c .words-in .ensures .0) (c .words-in .ensures .1) (c .before .before .before .rule-at .ensures) (c .before .before .both-of .ensures)
+    let at-next-field : tie.After-next-field Inv-loop μ-loop = search in
+    let at-loop : tie.At-loop Inv-loop μ-loop = search in
+    let f = at-next-field .next-field in
+    walking-turn (at-loop .loop .inv) (f .result .bit) (f .result .rest) (c .words-in .result) _ (c .before .before .before .rule-at .result)
+    (f .ensures .0) (f .ensures .2) (c .words-in .ensures .0) (c .words-in .ensures .1) (c .before .before .before .rule-at .ensures)
+    (c .before .before .both-of .ensures)
 
 returns : tie.Need-returns Inv-loop μ-loop
 returns c = walking-end (c .before .loop .inv) (omega arith)
@@ -50,14 +43,5 @@ pub walk-spec : {M : Type 1} → statement M
 walk-spec =
     tie.close
     (tie.spec
-    Inv-loop
-    μ-loop
-    loop-holds
-    next-field-requires
-    rule-at-requires
-    both-of-requires
-    words-in-requires
-    add-end
-    loop-less
-    loop-again
-    returns)
+    Inv-loop μ-loop loop-holds (λ c κs. search needs) rule-at-requires (λ c κs. search needs) words-in-requires (λ c. search needs)
+    (λ c. search needs) loop-again returns)

@@ -8,18 +8,6 @@ use borrow.Author.Needs.{needs}
 use Rattle.fields.proofs.inner.sizes.list_words.Statement.{statement}
 use Rattle.fields.proofs.inner.sizes.list_words.Tie as tie
 
-add-result : tie.Need-add-result
-add-result c = search needs
-
-add-result-2 : tie.Need-add-result-2
-add-result-2 c = search needs
-
-add-result-3 : tie.Need-add-result-3
-add-result-3 c = search needs
-
-add-result-4 : tie.Need-add-result-4
-add-result-4 c = search needs
-
 mul-result : tie.Need-mul-result
 mul-result c = omega (arith, twice-at-most (c .args .b % 2 ^ 15) (c .args .b / 2 ^ 15 % 2) (omega arith))
 
@@ -32,5 +20,4 @@ returns c = (refl, omega (arith, twice-at-most (c .args .b % 2 ^ 15) (c .args .b
 
 pub list-words-spec : {M : Type 1} → statement M
 list-words-spec =
-    tie.close
-    (tie.spec add-result add-result-2 add-result-3 add-result-4 mul-result add-result-5 returns)
+    tie.close (tie.spec (λ c. search needs) (λ c. search needs) (λ c. search needs) (λ c. search needs) mul-result add-result-5 returns)

@@ -11,12 +11,10 @@ use borrow.Author.Needs.{needs}
 use Rattle.fields.proofs.inner.sizes.size_in.Statement.{statement}
 use Rattle.fields.proofs.inner.sizes.size_in.Tie as tie
 
-element-copy-out-result : tie.Need-element-copy-out-result
-element-copy-out-result c = search needs
-
 row : (c : tie.After-result) → (getD (c .before .args .sizes .now) (c .before .args .bit) 0 ≡ sizeOf (c .before .args .bit)) × (getD (c .before .args .sizes .now) (c .before .args .bit) 0 ≤ 13)
 row c =
-    let e : getD (c .before .args .sizes .now) (c .before .args .bit) 0 ≡ sizeOf (c .before .args .bit) = tabled-at 32 (c .before .args .sizes .now) sizeOf (c .before .args .bit) (c .before .pre .0) (search needs) in
+    let e : getD (c .before .args .sizes .now) (c .before .args .bit) 0 ≡ sizeOf (c .before .args .bit) = tabled-at 32 (c .before .args .sizes .now) sizeOf
+    (c .before .args .bit) (c .before .pre .0) (search needs) in
     (e, rw e (size-small (c .before .args .bit) (search needs)))
 
 cast-result : tie.Need-cast-result
@@ -26,4 +24,5 @@ returns : tie.Need-returns
 returns c = row c
 
 pub size-in-spec : {M : Type 1} → statement M
-size-in-spec = tie.close (tie.spec element-copy-out-result cast-result returns)
+size-in-spec =
+    tie.close (tie.spec (λ c. search needs) cast-result returns)

@@ -10,8 +10,6 @@ size-in-requires : tie.Need-size-in-requires
 unfolding all sizeOf
 size-in-requires c κs = (refl, search needs)
 
-returns : tie.Need-returns
-returns c = search needs
-
 pub size-of-spec : {M : Type 1} → statement M
-size-of-spec = tie.close (tie.spec size-in-requires returns)
+size-of-spec =
+    tie.close (tie.spec size-in-requires (λ c. search needs))

@@ -10,8 +10,6 @@ words-in-requires : tie.Need-words-in-requires
 unfolding all sizeOf
 words-in-requires c κs = (refl, search needs, search needs)
 
-returns : tie.Need-returns
-returns c = search needs
-
 pub words-at-spec : {M : Type 1} → statement M
-words-at-spec = tie.close (tie.spec words-in-requires returns)
+words-at-spec =
+    tie.close (tie.spec words-in-requires (λ c. search needs))

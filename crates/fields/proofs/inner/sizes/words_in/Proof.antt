@@ -10,44 +10,21 @@ use borrow.Author.Needs.{needs}
 use Rattle.fields.proofs.inner.sizes.words_in.Statement.{statement}
 use Rattle.fields.proofs.inner.sizes.words_in.Tie as tie
 
-size-in-requires : tie.Need-size-in-requires
-size-in-requires c κs = search needs
-
 returns : tie.Need-returns
 returns c = (c .size-in .ensures .0 ∙ sym (words-fixed _ _ (search needs)), search needs)
-
-ascii-words-requires : tie.Need-ascii-words-requires
-ascii-words-requires c κs = search needs
 
 returns-2 : tie.Need-returns-2
 unfolding wordsOf
 returns-2 c = (search (cases, c .ascii-words .ensures .0), search needs)
 
-word-at-requires : tie.Need-word-at-requires
-word-at-requires c κs = search needs
-
-add-word-at : tie.Need-add-word-at
-add-word-at c = search needs
-
-word-at-requires-2 : tie.Need-word-at-requires-2
-word-at-requires-2 c κs = search needs
-
-list-words-requires : tie.Need-list-words-requires
-list-words-requires c κs = search needs
-
-cast-result : tie.Need-cast-result
-cast-result c = search needs
-
 returns-3 : tie.Need-returns-3
 unfolding wordsOf
 returns-3 c =
-    let a = c .before .before .before .before .before .before .before .args in
+    let start : tie.Start = search in
+    let a = start .args in
     let e : c .list-words .result ≡ listWords (drop (a .at) (now (a .body))) =
     rw (list-words-two, first-word, second-word, ← c .before .before .word-at .ensures, ← c .before .word-at2 .ensures) (c .list-words .ensures .0) in
     (search (cases, e), search needs)
-
-size-in-requires-2 : tie.Need-size-in-requires-2
-size-in-requires-2 c κs = search needs
 
 returns-4 : tie.Need-returns-4
 unfolding wordsOf
@@ -57,15 +34,5 @@ pub words-in-spec : {M : Type 1} → statement M
 words-in-spec =
     tie.close
     (tie.spec
-    size-in-requires
-    returns
-    ascii-words-requires
-    returns-2
-    word-at-requires
-    add-word-at
-    word-at-requires-2
-    list-words-requires
-    cast-result
-    returns-3
-    size-in-requires-2
-    returns-4)
+    (λ c κs. search needs) returns (λ c κs. search needs) returns-2 (λ c κs. search needs) (λ c. search needs) (λ c κs. search needs)
+    (λ c κs. search needs) (λ c. search needs) returns-3 (λ c κs. search needs) returns-4)

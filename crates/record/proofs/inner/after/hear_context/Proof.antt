@@ -10,14 +10,11 @@ count-requires c κs =
     let b = c .before .before .before in
     (b .pre .0, omega arith, b .pre .2, last-most _ _ (b .pre .0) (omega arith) (b .pre .1))
 
-hold-requires : tie.Need-hold-requires
-hold-requires c κs = search needs
-
-same-length : tie.Need-same-length
-same-length c = search needs
-
 returns : tie.Need-returns
-returns c = heard-context _ _ _ _ _ _ (c .before .before .before .before .before .before .count .ensures .0) (c .before .before .before .before .before .before .count .ensures .1) (c .before .before .hold .ensures)
+returns c =
+    let at-count : tie.After-count = search in
+    heard-context _ _ _ _ _ _ (at-count .count .ensures .0) (at-count .count .ensures .1) (c .before .before .hold .ensures)
 
 pub hear-context-spec : {M : Type 1} → statement M
-hear-context-spec = tie.close (tie.spec count-requires hold-requires same-length returns)
+hear-context-spec =
+    tie.close (tie.spec count-requires (λ c κs. search needs) (λ c. search needs) returns)

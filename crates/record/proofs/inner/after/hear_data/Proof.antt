@@ -6,21 +6,18 @@ use borrow.Author.Needs.{needs}
 use Rattle.record.proofs.inner.after.hear_data.Statement.{statement}
 use Rattle.record.proofs.inner.after.hear_data.Tie as tie
 
-data-order-requires : tie.Need-data-order-requires
-data-order-requires c κs = search needs
-
 count-requires : tie.Need-count-requires
 count-requires c κs =
     let b = c .before .before .before in
     (b .pre .0, c .before .data-order .ensures .1, b .pre .2, last-most _ _ (b .pre .0) (c .before .data-order .ensures .1) (b .pre .1))
 
-same-length : tie.Need-same-length
-same-length c = search needs
-
 returns : tie.Need-returns
 returns c =
-    let b = c .before .before .before .before .before .before in
-    heard-data _ _ [] _ (b .pre .0) (λ k. absurd (data-not _ (b .pre .3) k)) _ _ _ (c .before .before .before .before .data-order .ensures .0) (data-not _ (b .pre .3)) (c .before .before .count .ensures .0) (c .before .before .count .ensures .1)
+    let at-data-order : tie.After-data-order = search in
+    let b : tie.Start = search in
+    heard-data _ _ [] _ (b .pre .0) (λ k. absurd (data-not _ (b .pre .3) k)) _ _ _ (at-data-order .data-order .ensures .0) (data-not _ (b .pre .3))
+    (c .before .before .count .ensures .0) (c .before .before .count .ensures .1)
 
 pub hear-data-spec : {M : Type 1} → statement M
-hear-data-spec = tie.close (tie.spec data-order-requires count-requires same-length returns)
+hear-data-spec =
+    tie.close (tie.spec (λ c κs. search needs) count-requires (λ c. search needs) returns)

@@ -9,53 +9,24 @@ use borrow.Author.Needs.{needs}
 use Rattle.record.proofs.inner.counts.count.Statement.{statement}
 use Rattle.record.proofs.inner.counts.count.Tie as tie
 
-mul-at : tie.Need-mul-at
-mul-at c = search needs
-
-add-at : tie.Need-add-at
-add-at c = search needs
-
-add-end : tie.Need-add-end
-add-end c = search needs
-
-mul-count-words : tie.Need-mul-count-words
-mul-count-words c = search needs
-
-sub-count-words : tie.Need-sub-count-words
-sub-count-words c = search needs
-
-part-count-words-start : tie.Need-part-count-words-start
-part-count-words-start c = search needs
-
-part-count-words-end : tie.Need-part-count-words-end
-part-count-words-end c = search needs
-
 count-words-requires : tie.Need-count-words-requires
 count-words-requires c κs =
     let b = c .before .before in
     (count-three _ (b .args .count) _ (b .pre .0) (b .pre .1), b .pre .2, rw (count-seen _ (b .args .count) _ (b .pre .0) (b .pre .1)) (b .pre .3))
 
-same-length : tie.Need-same-length
-same-length c = search needs
-
 returns : tie.Need-returns
 unfolding addedTo
 returns c =
-    let b = c .before .before .before .before .before in
-    let w = c .before .before .count-words in
-    (w .ensures .0 ∙ ap (λ (ws : List ℕ). addedOf (lastOf ws) (b .args .count)) (count-seen _ (b .args .count) _ (b .pre .0) (b .pre .1)), count-lent _ _ _ (b .pre .0) (b .pre .1) _ (w .ensures .1))
+    let b : tie.Start = search in
+    let w = c .before .before .count-words in (
+      w .ensures .0 ∙ ap (λ (ws : List ℕ). addedOf (lastOf ws) (b .args .count)) (count-seen _ (b .args .count) _ (b .pre .0) (b .pre .1)),
+      count-lent _ _ _
+          (b .pre .0) (b .pre .1) _ (w .ensures .1),
+    )
 
 pub count-spec : {M : Type 1} → statement M
 count-spec =
     tie.close
     (tie.spec
-    mul-at
-    add-at
-    add-end
-    mul-count-words
-    sub-count-words
-    part-count-words-start
-    part-count-words-end
-    count-words-requires
-    same-length
-    returns)
+    (λ c. search needs) (λ c. search needs) (λ c. search needs) (λ c. search needs) (λ c. search needs) (λ c. search needs) (λ c. search needs)
+    count-words-requires (λ c. search needs) returns)

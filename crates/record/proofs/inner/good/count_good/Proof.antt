@@ -9,12 +9,10 @@ returns : tie.Need-returns
 unfolding countGood
 returns c = search cases
 
-both-of-requires : tie.Need-both-of-requires
-both-of-requires c κs = search needs
-
 returns-2 : tie.Need-returns-2
 unfolding countGood
 returns-2 c = search (cases, c .both-of .ensures)
 
 pub count-good-spec : {M : Type 1} → statement M
-count-good-spec = tie.close (tie.spec returns both-of-requires returns-2)
+count-good-spec =
+    tie.close (tie.spec returns (λ c κs. search needs) returns-2)

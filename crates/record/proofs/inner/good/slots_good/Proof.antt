@@ -25,33 +25,24 @@ loop-holds c = (search needs, search needs, slots-skipped _)
 
 slot-good-requires : tie.Need-slot-good-requires Inv-loop μ-loop
 unfolding sizeOf all
-slot-good-requires c κs = (c .before .before .before .before .before .pre, held-all _ (c .before .before .before .loop .inv .0) (c .before .before .loop-test .taken), refl, places-tabled)
+slot-good-requires c κs =
+    let start : tie.Start Inv-loop μ-loop = search in
+    (start .pre, held-all _ (c .before .before .before .loop .inv .0) (c .before .before .loop-test .taken), refl, places-tabled)
 
 returns : tie.Need-returns Inv-loop μ-loop
-returns c = sym (all-fails _ _ (c .before .before .before .before .before .loop .bit) (c .before .before .before .before .loop-test .taken) (sym (c .before .slot-good .ensures) ∙ not-true _ (c .if1 .taken)))
-
-add-bit : tie.Need-add-bit Inv-loop μ-loop
-add-bit c = search needs
-
-loop-less : tie.Need-loop-less Inv-loop μ-loop
-loop-less c = search needs
+returns c =
+    let at-loop : tie.At-loop Inv-loop μ-loop = search in
+    let at-loop-test : tie.In-loop Inv-loop μ-loop = search in
+    sym (all-fails _ _ (at-loop .loop .bit) (at-loop-test .loop-test .taken) (sym (c .before .slot-good .ensures) ∙ not-true _ (c .if1 .taken)))
 
 loop-again : tie.Need-loop-again Inv-loop μ-loop
-loop-again c = (search needs, search needs, all-more _ _ (c .before .before .before .before .before .loop .inv .2) (sym (c .before .slot-good .ensures) ∙ not-false _ (c .if1 .left)))
+loop-again c =
+    let at-loop : tie.At-loop Inv-loop μ-loop = search in
+    (search needs, search needs, all-more _ _ (at-loop .loop .inv .2) (sym (c .before .slot-good .ensures) ∙ not-false _ (c .if1 .left)))
 
 returns-2 : tie.Need-returns-2 Inv-loop μ-loop
 returns-2 c = sym (all-end _ _ _ (omega arith) (c .before .loop .inv .2))
 
 pub slots-good-spec : {M : Type 1} → statement M
 slots-good-spec =
-    tie.close
-    (tie.spec
-    Inv-loop
-    μ-loop
-    loop-holds
-    slot-good-requires
-    returns
-    add-bit
-    loop-less
-    loop-again
-    returns-2)
+    tie.close (tie.spec Inv-loop μ-loop loop-holds slot-good-requires returns (λ c. search needs) (λ c. search needs) loop-again returns-2)

@@ -9,46 +9,21 @@ use Rattle.record.proofs.inner.held.hold.Tie as tie
 shared-slice-read-bits : tie.Need-shared-slice-read-bits
 shared-slice-read-bits c = body-some _ (c .before .before .before .pre .1)
 
-slice-read-held : tie.Need-slice-read-held
-slice-read-held c = search needs
-
-sub-refill : tie.Need-sub-refill
-sub-refill c = search needs
-
-part-refill-start : tie.Need-part-refill-start
-part-refill-start c = search needs
-
-part-refill-end : tie.Need-part-refill-end
-part-refill-end c = search needs
-
 refill-requires : tie.Need-refill-requires
 unfolding heldMask
 refill-requires c κs =
-    let b = c .before .before .before .before .before in
+    let b : tie.Start = search in
     slots-asked _ (b .args .body .now) (b .args .rec .now) refl (b .pre .0) (b .pre .1)
-
-slice-write-rec : tie.Need-slice-write-rec
-slice-write-rec c = search needs
-
-same-length : tie.Need-same-length
-same-length c = search needs
 
 returns : tie.Need-returns
 unfolding heldMask
 returns c =
-    let b = c .before .before .before .before .before .before .before .before in
+    let b : tie.Start = search in
     slots-lent _ (b .args .body .now) (b .args .rec .now) refl (b .pre .0) (b .pre .1) _ (c .before .before .refill .ensures)
 
 pub hold-spec : {M : Type 1} → statement M
 hold-spec =
     tie.close
     (tie.spec
-    shared-slice-read-bits
-    slice-read-held
-    sub-refill
-    part-refill-start
-    part-refill-end
-    refill-requires
-    slice-write-rec
-    same-length
-    returns)
+    shared-slice-read-bits (λ c. search needs) (λ c. search needs) (λ c. search needs) (λ c. search needs) refill-requires (λ c. search needs)
+    (λ c. search needs) returns)

@@ -34,33 +34,41 @@ slot-in-requires c κs = (places-tabled, search needs)
 
 copy-field-requires : tie.Need-copy-field-requires Inv-loop μ-loop
 copy-field-requires c κs =
-    let h = c .before .before .before .before .before .before .before in
+    let at-next-field : tie.After-next-field Inv-loop μ-loop = search in
+    let h : tie.At-loop Inv-loop μ-loop = search in
     let b = h .before .before .before in
-    let f = c .before .before .before .before .before .next-field in
+    let f = at-next-field .next-field in
     let held = holding-holds (h .loop .inv) (b .pre .1) (b .pre .2) _ _ (f .ensures .0) in
-    let n = c .before .before .before .size-in .ensures .0 in
-    (omega (arith, h .loop .inv .same, c .slot-in .ensures .0, n, slot-inside _ held), omega (arith, n, holding-field (h .loop .inv) (b .pre .1) (b .pre .2) _ _ (f .ensures .0)), size-held _ _ held n)
+    let n = c .before .before .before .size-in .ensures .0 in (
+      omega (arith, h .loop .inv .same, c .slot-in .ensures .0, n, slot-inside _ held),
+      omega
+          (arith, n, holding-field (h .loop .inv) (b .pre .1) (b .pre .2) _ _ (f .ensures .0)),
+      size-held _ _ held n,
+    )
 
 add-from : tie.Need-add-from Inv-loop μ-loop
 add-from c =
-    let h = c .before .before .before .before .before .before .before .before .before .before in
+    let at-next-field : tie.After-next-field Inv-loop μ-loop = search in
+    let at-size-in : tie.After-size-in Inv-loop μ-loop = search in
+    let h : tie.At-loop Inv-loop μ-loop = search in
     let b = h .before .before .before in
-    let f = c .before .before .before .before .before .before .before .before .next-field in
-    omega (arith, c .before .before .before .before .before .before .size-in .ensures .0, holding-field (h .loop .inv) (b .pre .1) (b .pre .2) _ _ (f .ensures .0))
-
-loop-less : tie.Need-loop-less Inv-loop μ-loop
-loop-less c = search needs
+    let f = at-next-field .next-field in
+    omega (arith, at-size-in .size-in .ensures .0, holding-field (h .loop .inv) (b .pre .1) (b .pre .2) _ _ (f .ensures .0))
 
 loop-again : tie.Need-loop-again Inv-loop μ-loop
 loop-again c =
-    let h = c .before .before .before .before .before .before .before .before .before .before in
+    let at-next-field : tie.After-next-field Inv-loop μ-loop = search in
+    let at-size-in : tie.After-size-in Inv-loop μ-loop = search in
+    let h : tie.At-loop Inv-loop μ-loop = search in
     let b = h .before .before .before in
-    let f = c .before .before .before .before .before .before .before .before .next-field in
+    let f = at-next-field .next-field in
     holding-turn (h .loop .inv) (b .pre .1) (b .pre .2) _ _ (f .ensures .0) _ _ _
-    (c .before .before .before .slot-in .ensures .0) (c .before .before .before .before .before .before .size-in .ensures .0) (c .before .before .copy-field .ensures)
+    (c .before .before .before .slot-in .ensures .0) (at-size-in .size-in .ensures .0) (c .before .before .copy-field .ensures)
 
 same-length : tie.Need-same-length Inv-loop μ-loop
-same-length c = c .before .loop .inv .same ∙ sym (c .before .before .before .before .pre .0)
+same-length c =
+    let start : tie.Start Inv-loop μ-loop = search in
+    c .before .loop .inv .same ∙ sym (start .pre .0)
 
 returns : tie.Need-returns Inv-loop μ-loop
 returns c = holding-end (c .before .loop .inv) (c .loop-test .left)
@@ -69,15 +77,5 @@ pub refill-spec : {M : Type 1} → statement M
 refill-spec =
     tie.close
     (tie.spec
-    Inv-loop
-    μ-loop
-    loop-holds
-    next-field-requires
-    size-in-requires
-    slot-in-requires
-    copy-field-requires
-    add-from
-    loop-less
-    loop-again
-    same-length
-    returns)
+    Inv-loop μ-loop loop-holds next-field-requires size-in-requires slot-in-requires copy-field-requires add-from (λ c. search needs) loop-again
+    same-length returns)

@@ -7,8 +7,6 @@ use Rattle.record.proofs.inner.held.slot_at.Tie as tie
 slot-in-requires : tie.Need-slot-in-requires
 slot-in-requires c κs = (places-tabled, search needs)
 
-returns : tie.Need-returns
-returns c = search needs
-
 pub slot-at-spec : {M : Type 1} → statement M
-slot-at-spec = tie.close (tie.spec slot-in-requires returns)
+slot-at-spec =
+    tie.close (tie.spec slot-in-requires (λ c. search needs))

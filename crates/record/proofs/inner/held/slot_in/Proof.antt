@@ -15,13 +15,11 @@ use borrow.Author.Needs.{needs}
 use Rattle.record.proofs.inner.held.slot_in.Statement.{statement}
 use Rattle.record.proofs.inner.held.slot_in.Tie as tie
 
-element-copy-out-result : tie.Need-element-copy-out-result
-element-copy-out-result c = search needs
-
 row : (c : tie.After-result) → (getD (c .before .args .places .now) (c .before .args .bit) 0 ≡ slotAt (c .before .args .bit)) × (getD (c .before .args .places .now) (c .before .args .bit) 0 ≤ slotWords)
 unfolding slotAt heldBits heldMask bitsOf above sizesOf sizeOf all
 row c =
-    let e : getD (c .before .args .places .now) (c .before .args .bit) 0 ≡ slotAt (c .before .args .bit) = tabled-at 32 (c .before .args .places .now) slotAt (c .before .args .bit) (c .before .pre .0) (search needs) in
+    let e : getD (c .before .args .places .now) (c .before .args .bit) 0 ≡ slotAt (c .before .args .bit) = tabled-at 32
+    (c .before .args .places .now) slotAt (c .before .args .bit) (c .before .pre .0) (search needs) in
     (e, rw e (leb-true (slotAt (c .before .args .bit)) slotWords (all-at (λ b. leb (slotAt b) slotWords) 32 (c .before .args .bit) (search needs) refl)))
 
 cast-result : tie.Need-cast-result
@@ -31,4 +29,5 @@ returns : tie.Need-returns
 returns c = row c
 
 pub slot-in-spec : {M : Type 1} → statement M
-slot-in-spec = tie.close (tie.spec element-copy-out-result cast-result returns)
+slot-in-spec =
+    tie.close (tie.spec (λ c. search needs) cast-result returns)

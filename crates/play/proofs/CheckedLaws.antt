@@ -1,0 +1,43 @@
+-- What the checks of a packet's front and body found, as a caller has it: the answer, what it ensures, and the case that it is.
+use mathlib.Core.Path.{_≡_, refl}
+use mathlib.Core.List.{List}
+use Prim.Native.Nat.{ℕ, _≤_, _<_}
+use lib.ListN.{length, getD}
+use Rattle.words.specs.declared.Check.{Check}
+use Rattle.words.specs.declared.Check.the-variants.{Fine, Refused}
+use Rattle.words.specs.Outcome.{refused, accepted, checked}
+use Rattle.packet.specs.Header.{typeOf, sizeOf}
+use Rattle.packet.specs.Parts.{requiredOf, bodyOf}
+use Rattle.packet.specs.Read.{bodyChecks, readOf}
+use Rattle.packet.specs.Front.{frontChecks}
+use Rattle.packet.proofs.FrontLaws.{front-refuses, front-some, front-sized, front-data, body-refuses}
+use Rattle.play.specs.Entered.{Headed}
+use Rattle.play.proofs.StreamLaws.{body-headed}
+
+module _ (ws : List ℕ) (front : Check) (e : checked front ≡ frontChecks ws) where
+  pub unread-front : (n : ℕ) → front ≡ Refused n → readOf ws ≡ refused n
+  unread-front n r = front-refuses ws n (cc)
+
+  module _ (fine : front ≡ Fine) where
+    accepts : frontChecks ws ≡ accepted tt
+    accepts = cc
+
+    pub has-header : 0 < length ws
+    has-header = front-some ws accepts
+
+    pub has-body : requiredOf (getD ws 0 0) ≤ sizeOf (getD ws 0 0)
+    has-body = front-sized ws accepts .0
+
+    pub is-whole : sizeOf (getD ws 0 0) ≤ length ws
+    is-whole = front-sized ws accepts .1
+
+    -- a packet of a type other than 4 has no body to check
+    pub headed-data : (kind : ℕ) → kind ≡ typeOf (getD ws 0 0) → (kind ≡ 4 → ⊥) → Headed (getD ws 0 0) ws
+    headed-data kind k other = record { header = refl; reads = front-data ws accepts (λ four. other (cc)) }
+
+    module _ (body : Check) (b : checked body ≡ bodyChecks (typeOf (getD ws 0 0)) (bodyOf (getD ws 0 0) ws)) where
+      pub unread-body : (n : ℕ) → body ≡ Refused n → readOf ws ≡ refused n
+      unread-body n r = body-refuses ws accepts n (cc)
+
+      pub headed : body ≡ Fine → Headed (getD ws 0 0) ws
+      headed f = body-headed ws accepts (cc)
