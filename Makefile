@@ -1,5 +1,15 @@
-# make play, make test; for C: make lib, make example; make compare, make speed; make vectors.
-.PHONY: play test lib example compare speed vectors
+# make play, make test; for C: make lib, make example; make compare, make speed; make wrong, make count; make vectors.
+
+# tries the wrong programs of wrong/, of all crates or of those named behind it: make wrong play page
+ifeq (wrong,$(firstword $(MAKECMDGOALS)))
+CRATES := $(wordlist 2,$(words $(MAKECMDGOALS)),$(MAKECMDGOALS))
+.PHONY: wrong $(CRATES)
+wrong:
+	@tools/wrong $(CRATES)
+$(CRATES):
+	@:
+else
+.PHONY: play test lib example compare speed count vectors
 
 # plays the sample survey and prints a line for each packet
 play:
@@ -28,6 +38,10 @@ compare:
 speed: lib
 	@bench/measure.sh
 
+# what the proofs weigh, and whether they keep to their rules
+count:
+	@tools/count
+
 # makes the vectors and what they should give again, from the reference
 vectors:
 	python3 -B tools/reference/read_vectors.py crates/read_vectors/stdin crates/read_vectors/stdout
@@ -38,3 +52,4 @@ vectors:
 	python3 -B tools/reference/panel_vectors.py crates/panel_vectors/stdin crates/panel_vectors/stdout
 	python3 -B tools/reference/sample_packets.py samples/packets
 	python3 -B tools/reference/recordings.py samples/recordings
+endif

@@ -33,27 +33,30 @@ static size_t data(u32 *w, u32 identifier, size_t n) {
     w[at++] = word();
     return at;
 }
-// A context packet that carries fields 29, 27, 24, 23, 21 and 18.
-static size_t context(u32 *w, u32 identifier) {
-    u32 fields[] = {1u << 29 | 1 << 27 | 1 << 24 | 1 << 23 | 1 << 21 | 1 << 18, 1, 2, 3, 4, 0xff80, 6, 7, 8, 0xffe0};
-    w[0] = 0x4060000f;
+// A context packet of a size in words, with a body given.
+static size_t context(u32 *w, u32 identifier, size_t size, const u32 *body) {
+    w[0] = 0x40600000 | size;
     w[1] = identifier;
     w[2] = word();
     w[3] = 7;
     w[4] = word();
-    memcpy(w + 5, fields, sizeof fields);
-    return 15;
+    memcpy(w + 5, body, (size - 5) * sizeof *body);
+    return size;
 }
+// Fields 29, 27, 24, 23, 21 and 18, whose first words are small.
+static const u32 small[] = {1u << 29 | 1 << 27 | 1 << 24 | 1 << 23 | 1 << 21 | 1 << 18, 1, 2, 3, 4, 0xff80, 6, 7, 8, 0xffe0};
+// Fields 29, 27, 23, 21, 20 and 19, whose first words are all 2^16 or more.
+static const u32 large[] = {1u << 29 | 1 << 27 | 1 << 23 | 1 << 21 | 1 << 20 | 1 << 19, 0x10001, 2, 0xfff20003, 4, 0x7fff0001, 0x01000007, 8, 0x00010009, 10, 0xff80ff80};
 static u64 sum(u64 x, const u32 *w, size_t n) {
     for (size_t i = 0; i < n; i++)
         x = x * 31 + w[i];
     return x;
 }
 int main(int argc, char **argv) {
-    // CALL(read write play save put_back) KIND(data context) SIZE TIMES: SIZE is body words of a data packet, or streams of a table
+    // CALL(read write play save put_back) KIND(data context large) SIZE TIMES: SIZE is body words of a data packet, or streams of a table
     if (argc != 5)
         return 2;
-    int kind = !strcmp(argv[2], "context");
+    const char *kind = argv[2];
     size_t size = atol(argv[3]), times = atol(argv[4]);
     int packet_alone = !strcmp(argv[1], "read") || !strcmp(argv[1], "write");
     size_t streams = packet_alone ? 1 : size, words = packet_alone ? size : 64;
@@ -64,12 +67,13 @@ int main(int argc, char **argv) {
     for (size_t s = 0; s < streams; s++)
         t[1 + RECORD * s] = 0x1000 + s;
     for (size_t s = 0; s < streams; s++) {
-        n = context(w, 0x1000 + s);
+        n = context(w, 0x1000 + s, 15, small);
         r |= CALL(play)(t, tn, w, n, a, 4);
     }
     r |= CALL(save)(t, tn, page, LONGEST, a, 1);
     pn = a[0];
-    n = kind ? context(w, 0x1000 + streams - 1) : data(w, 0x1000 + streams - 1, words);
+    u32 last = 0x1000 + streams - 1;
+    n = !strcmp(kind, "data") ? data(w, last, words) : !strcmp(kind, "context") ? context(w, last, 15, small) : context(w, last, 16, large);
     r |= CALL(read)(w, n, a, 18);
     for (int i = 0; i < 7; i++)
         parts[i] = a[i];

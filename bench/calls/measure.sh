@@ -24,9 +24,11 @@ row() { # CALL KIND SIZE WHAT
 }
 echo 'call      of                                  C by hand    proved  ratio  results'
 for call in read write; do
+    row $call data 1 'data packet, 1 body word'
     row $call data 64 'data packet, 64 body words'
     row $call data 6400 'data packet, 6,400 body words'
     row $call context 1 'context packet of 6 fields'
+    row $call large 1 'context packet, large first words'
 done
 for s in 1 32; do
     row play data $s "data packet, S $s"
