@@ -58,8 +58,10 @@ pub record PackCounted (first second : ℕ) (is es cs : List ℕ) (p : Packing) 
 -- the lines of `packCheck` that are then left, by the tests' own answers
 pub pack-counted : {first second : ℕ} {is es cs : List ℕ} {p : Packing} → PackCounted first second is es cs p
     → (room : ℕ) (i e c : Bool) (w : ℕ)
-    → i ≡ fitting (p .item) (length is) is → e ≡ fitting (p .event) (length es) es → c ≡ fitting (p .channel) (length cs) cs → w ≡ needed (p .carry) (p .field) (length is)
-    → packCheck first second is es cs room ≡ pick (not i) (refused VALUE) (pick (not e) (refused VALUE) (pick (not c) (refused VALUE) (pick (ltb room w) (refused ROOM) (accepted tt))))
+    → i ≡ fitting (p .item) (length is) is → e ≡ fitting (p .event) (length es) es → c ≡ fitting (p .channel) (length cs) cs
+    → w ≡ needed (p .carry) (p .field) (length is)
+    → packCheck first second is es cs room ≡ pick (not i) (refused VALUE)
+    (pick (not e) (refused VALUE) (pick (not c) (refused VALUE) (pick (ltb room w) (refused ROOM) (accepted tt))))
 unfolding packCheck packingOf wordsFor
 pack-counted {first} {second} {is} {es} {cs} {p} k room i e c w qi qe qc qw =
     rw (qi, qe, qc, qw, k .sizes, k .events, k .channels) (simp (k .format, k .count, eq-eqb (length is) (length is) refl))
@@ -91,14 +93,26 @@ module _ (first second : ℕ) (is es cs : List ℕ) (room : ℕ) where
         count = e₂ .0;
         places = ltb-false room (wordsFor first n) (e₈ .0);
         items = record { many = refl; each = fitting-each (itemSize first) n is (not-false (fitting (itemSize first) n is) (e₅ .0)) };
-        events = record { many = eqb-true (length es) n (not-false (eqb (length es) n) (e₃ .0)); each = fitting-each (eventSize first) n es (not-false (fitting (eventSize first) n es) (e₆ .0)) };
-        channels = record { many = eqb-true (length cs) n (not-false (eqb (length cs) n) (e₄ .0)); each = fitting-each (channelSize first) n cs (not-false (fitting (channelSize first) n cs) (e₇ .0)) };
+        events = record {
+          many = eqb-true (length es) n (not-false (eqb (length es) n) (e₃ .0));
+          each = fitting-each (eventSize first) n es (not-false (fitting (eventSize first) n es) (e₆ .0));
+        };
+        channels = record {
+          many = eqb-true (length cs) n (not-false (eqb (length cs) n) (e₄ .0));
+          each = fitting-each (channelSize first) n cs (not-false (fitting (channelSize first) n cs) (e₇ .0));
+        };
       }
 
   pub packable : PackPassed first second is es cs room
-      → Packable (packingOf first) (length is) room × Fitting (packingOf first .item) (length is) is × Fitting (packingOf first .event) (length is) es × Fitting (packingOf first .channel) (length is) cs
+      → Packable (packingOf first) (length is) room × Fitting (packingOf first .item) (length is) is × Fitting (packingOf first .event) (length is) es
+      × Fitting (packingOf first .channel) (length is) cs
   unfolding packingOf wordsFor
-  packable k = (record { legal = legal first second (k .format); few = count-few first second (length is) (k .count); room = k .places }, k .items, k .events, k .channels)
+  packable k = (
+    record { legal = legal first second (k .format); few = count-few first second (length is) (k .count); room = k .places },
+    k .items,
+    k .events,
+    k .channels,
+  )
 
 module _ (first second : ℕ) (is es cs out : List ℕ) where
   abbrev check : Outcome Unit
@@ -109,7 +123,8 @@ module _ (first second : ℕ) (is es cs out : List ℕ) where
   unfolding packOf
   pack-refused k e = rw (← e) (record { answer = refl; buffer = refl })
 
-  pub pack-accepted : (m : ℕ) (after : List ℕ) → accepted tt ≡ check → m ≡ wordsFor first (length is) → after ≡ packed (packingOf first) (length is) is es cs out
+  pub pack-accepted : (m : ℕ) (after : List ℕ) → accepted tt ≡ check → m ≡ wordsFor first (length is)
+      → after ≡ packed (packingOf first) (length is) is es cs out
       → Meets packedPaper (packOf first second is es cs out) out (Accepted m) after
   unfolding packOf
   pack-accepted m after e w q = rw (← e) (record { answer = ap accepted w; buffer = q })

@@ -31,7 +31,8 @@ writing-start c f g out h = record { place = omega arith; few = h; behind = behi
 pub writing-length : {c f : ℕ} {g : ℕ → ℕ} {first out : List ℕ} {s : Held} {k : ℕ} → Writing c f g first out s k → length out ≡ length first
 writing-length {first = first} {out = out} w = filled-long _ _ first out (w .behind .written)
 
-module _ (p : Packing) (n : ℕ) (g : ℕ → ℕ) (first out : List ℕ) (s : Held) (k : ℕ) (u : Packable p n (length first)) (w : Writing (p .carry) (p .field) g first out s k) where
+module _ (p : Packing) (n : ℕ) (g : ℕ → ℕ) (first out : List ℕ) (s : Held) (k : ℕ) (u : Packable p n (length first))
+    (w : Writing (p .carry) (p .field) g first out s k) where
   -- the bits of all fields have room
   all-room : p .field * n ≤ length out * p .carry
   all-room =
@@ -61,7 +62,8 @@ module _ (p : Packing) (n : ℕ) (g : ℕ → ℕ) (first out : List ℕ) (s : H
         λ h. lt-of-mul-lt-mul-right (p .carry) (omega (arith, q, w .place, all-room, mul-comm (p .carry) (s .at))),
       )
 
-  pub writing-done : (out′ : List ℕ) → k ≡ n → ((j : ℕ) → n ≤ j → g j ≡ 0) → Finished s out out′ → out′ ≡ filled (needed (p .carry) (p .field) n) (wordOf (p .carry) (p .field) g) first
+  pub writing-done : (out′ : List ℕ) → k ≡ n → ((j : ℕ) → n ≤ j → g j ≡ 0) → Finished s out out′
+      → out′ ≡ filled (needed (p .carry) (p .field) n) (wordOf (p .carry) (p .field) g) first
   writing-done out′ e z h =
       finished (p .carry) (p .field) n g first out out′ s (u .legal .some) (u .legal .most) (omega (arith, u .legal .item, u .legal .parts)) z
       (w .few) (w .place ∙ ap (λ (x : ℕ). p .field * x) e) (w .behind) h

@@ -61,7 +61,8 @@ module _ (p : Packing) (l : Legal p) (i e c : ℕ) (he : e < 2 ^ p .event) (hc :
       let q : p .field - p .item ≡ r + p .event + p .channel = omega arith in
       ap (λ (x : ℕ). i * 2 ^ x + (e * 2 ^ p .channel + c)) q
       ∙ ap (λ (x : ℕ). i * x + (e * 2 ^ p .channel + c)) (pow-add 2 (r + p .event) (p .channel) ∙ ap (λ (x : ℕ). x * 2 ^ p .channel) (pow-add 2 r (p .event)))
-      ∙ ap (λ (x : ℕ). x + (e * 2 ^ p .channel + c)) (sym (mul-assoc i (2 ^ r * 2 ^ p .event) (2 ^ p .channel)) ∙ ap (λ (x : ℕ). x * 2 ^ p .channel) (sym (mul-assoc i (2 ^ r) (2 ^ p .event))))
+      ∙ ap (λ (x : ℕ). x + (e * 2 ^ p .channel + c))
+      (sym (mul-assoc i (2 ^ r * 2 ^ p .event) (2 ^ p .channel)) ∙ ap (λ (x : ℕ). x * 2 ^ p .channel) (sym (mul-assoc i (2 ^ r) (2 ^ p .event))))
       ∙ sym (add-assoc (i * 2 ^ r * 2 ^ p .event * 2 ^ p .channel) (e * 2 ^ p .channel) c)
       ∙ ap (λ (x : ℕ). x + c) (sym (add-mul (i * 2 ^ r * 2 ^ p .event) e (2 ^ p .channel)))
 

@@ -31,4 +31,5 @@ module _ (w x : ℕ) (lo : 1 ≤ w) (hi : w ≤ 64) where
       let t : 2 ^ (w - 1) ≤ 2 ^ 63 = half-most in
       let a : 2 ^ 63 ≤ 2 ^ 64 - 1 - c = omega (arith, halves w lo) in
       let q : 2 ^ 64 - suc (2 ^ 64 - 1 - c) ≡ 2 ^ w - suc x = omega (arith, halves w lo) in
-      simp (le-ltb (2 ^ 64 - 1 - c) (2 ^ 63) a, le-ltb w 1 lo, le-ltb 64 w hi, lt-leb (2 ^ w) x b, le-ltb x (2 ^ (w - 1)) l, lt-ltb x (2 ^ w) b) (ap (λ (n : ℕ). accepted (negsuc n)) q)
+      simp (le-ltb (2 ^ 64 - 1 - c) (2 ^ 63) a, le-ltb w 1 lo, le-ltb 64 w hi, lt-leb (2 ^ w) x b, le-ltb x (2 ^ (w - 1)) l, lt-ltb x (2 ^ w) b)
+      (ap (λ (n : ℕ). accepted (negsuc n)) q)

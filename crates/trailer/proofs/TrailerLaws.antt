@@ -21,7 +21,12 @@ trailer-again w h =
     let widths : List ℕ = 7 ∷ 1 ∷ 12 ∷ 12 ∷ [] in
     let low : bits 6 0 w ≡ w / 2 ^ 0 % 2 ^ 7 = rw (div-one w) in
     let same : bits 6 0 w ∷ bits 7 7 w ∷ bits 19 8 w ∷ bits 31 20 w ∷ [] ≡ fieldsFrom 0 widths w = cc (low) in
-    rw (lt-ltb (bits 31 20 w) (2 ^ 12) (mod-lt _ (lit< tt)), lt-ltb (bits 19 8 w) (2 ^ 12) (mod-lt _ (lit< tt)), lt-ltb (bits 7 7 w) 2 (mod-lt _ (lit< tt)), lt-ltb (bits 6 0 w) (2 ^ 7) (mod-lt _ (lit< tt)))
+    rw (
+      lt-ltb (bits 31 20 w) (2 ^ 12) (mod-lt _ (lit< tt)),
+      lt-ltb (bits 19 8 w) (2 ^ 12) (mod-lt _ (lit< tt)),
+      lt-ltb (bits 7 7 w) 2 (mod-lt _ (lit< tt)),
+      lt-ltb (bits 6 0 w) (2 ^ 7) (mod-lt _ (lit< tt)),
+    )
     (ap accepted (ap (join widths) (same ∙ sym (split-from widths w)) ∙ join-split widths w h))
 
 -- a word that was made says its parts

@@ -1,5 +1,5 @@
--- Why a walk ends. The idea: reading refuses with a number of 1 to 10, so a step that goes on behind a refusal goes on behind STREAM, of a packet that was read;
--- and a packet that was read has at least its header.
+-- Why a walk ends. The idea: reading refuses with a number of 1 to 10, so a step that goes on behind a refusal goes on behind STREAM, of a packet that was
+-- read; and a packet that was read has at least its header.
 use mathlib.Core.Path.{_≡_, refl, sym, ap, _∙_}
 use mathlib.Core.Bool.{Bool, true, false}
 use mathlib.Core.List.{List}

@@ -7,7 +7,8 @@ use Rattle.page_vectors.proofs.resuming.all_cuts.Statement.{statement}
 use Rattle.page_vectors.proofs.resuming.all_cuts.Tie as tie
 
 abbrev Inv-loop : tie.InvT-loop
-Inv-loop ids first₀ page₀ second₀ words packets cuts c₀ first page second c = (c ≤ cuts) × (length first ≡ length first₀) × (length page ≡ length page₀) × (length second ≡ length second₀)
+Inv-loop ids first₀ page₀ second₀ words packets cuts c₀ first page second c = (c ≤ cuts) × (length first ≡ length first₀)
+    × (length page ≡ length page₀) × (length second ≡ length second₀)
 
 abbrev μ-loop : tie.MeasureT-loop
 μ-loop ids first₀ page₀ second₀ words packets cuts c₀ first page second c = cuts - c

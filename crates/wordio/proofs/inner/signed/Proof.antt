@@ -6,10 +6,12 @@ use Rattle.wordio.proofs.inner.signed.Statement.{statement}
 use Rattle.wordio.proofs.inner.signed.Tie as tie
 
 cast-number : tie.Need-cast-number
-cast-number c = let m = flipped (c .before .before .before .args .v) (c .before .before .before .fits .v) (c .before .before .if1 .taken) in (m .0, record { fits = omega (arith, m .1) })
+cast-number c = let m = flipped (c .before .before .before .args .v) (c .before .before .before .fits .v) (c .before .before .if1 .taken) in
+    (m .0, record { fits = omega (arith, m .1) })
 
 add-number : tie.Need-add-number
-add-number c = let m = flipped (c .before .before .before .args .v) (c .before .before .before .fits .v) (c .before .before .if1 .taken) in record { fits = omega (arith, m .1) }
+add-number c = let m = flipped (c .before .before .before .args .v) (c .before .before .before .fits .v) (c .before .before .if1 .taken) in
+    record { fits = omega (arith, m .1) }
 
 cast-number-2 : tie.Need-cast-number-2
 cast-number-2 c = let m = kept (c .before .args .v) (c .before .fits .v) (c .if1 .left) in (m .0, record { fits = omega (arith, m .1) })
