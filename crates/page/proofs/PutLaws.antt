@@ -9,13 +9,15 @@ use borrow.Author.Tests.{lt-ltb, le-ltb}
 use lib.Bits.{bitAnd}
 use lib.ListN.{length, take, drop, set, replicate, length-replicate}
 use Rattle.words.specs.Numbers.{PAGE, ROOM}
-use Rattle.words.specs.Outcome.{Meets}
+use Rattle.words.specs.declared.Length.the-variants.{Accepted, Refused}
+use Rattle.words.specs.Outcome.{measured, Meets}
 use Rattle.words.specs.Tests.{pick}
 use Rattle.words.specs.Word.{has}
 use Rattle.words.specs.SetBits.{bitsOf}
 use Rattle.words.specs.Part.{part, put}
 use Rattle.words.specs.Laid.{Laid}
 use Rattle.words.proofs.LaidLaws.{then, laid-length}
+use Rattle.words.proofs.RefusalLaws.{gives-refused, gives-length}
 use Rattle.words.proofs.PartLaws.{seen, lent-to, put-at, part-length, part-past, part-whole}
 use Rattle.fields.specs.Sizes.{sizeOf, sizesOf}
 use Rattle.record.specs.Held.{heldMask, holds, heldBits}
@@ -29,8 +31,7 @@ use Rattle.page.specs.Joined.{joined}
 use Rattle.page.specs.Body.{bodyWords, recordOf}
 use Rattle.page.specs.Layout.{bodiesIn, offsetAt, lengthAt, bodyAt, savedRecord, tableFrom, tableOf}
 use Rattle.page.specs.Good.{contentsGood, pageOk}
-use Rattle.page.specs.PutBack.{putBackOf, backPaper}
-use Rattle.page.specs.declared.PutBack.the-variants.{Accepted, Refused}
+use Rattle.page.specs.PutBack.{putBackOf}
 use Rattle.page.proofs.BodyLaws.{body-some, record-length}
 use Rattle.page.proofs.ContentsLaws.{contents-of, body-words}
 use Rattle.page.proofs.Exact.{ok-tested, back-length}
@@ -156,15 +157,15 @@ table-laid p t after n s w e l q h =
 -- ---- the answers
 
 module _ (p t : List ℕ) where
-  pub back-ill : pageOk p ≡ false → Meets backPaper (putBackOf p t) t (Refused PAGE) t
+  pub back-ill : pageOk p ≡ false → Meets measured (putBackOf p t) t (Refused PAGE) t
   unfolding putBackOf
-  back-ill w = record { answer = rw w; buffer = rw w }
+  back-ill w = gives-refused (rw w)
 
   module _ (w : pageOk p ≡ true) (n : ℕ) (e : n ≡ bodiesIn p) where
-    pub back-short : length t < base n → Meets backPaper (putBackOf p t) t (Refused ROOM) t
+    pub back-short : length t < base n → Meets measured (putBackOf p t) t (Refused ROOM) t
     unfolding putBackOf
-    back-short h = record { answer = rw (w, ← e, lt-ltb (length t) (base n) h); buffer = rw (w, ← e, lt-ltb (length t) (base n) h) }
+    back-short h = gives-refused (rw (w, ← e, lt-ltb (length t) (base n) h))
 
-    pub back-made : (after : List ℕ) → base n ≤ length t → after ≡ tableOf p ++ drop (base (bodiesIn p)) t → Meets backPaper (putBackOf p t) t (Accepted (base n)) after
+    pub back-made : (after : List ℕ) → base n ≤ length t → after ≡ tableOf p ++ drop (base (bodiesIn p)) t → Meets measured (putBackOf p t) t (Accepted (base n)) after
     unfolding putBackOf
-    back-made after h f = record { answer = rw (w, ← e, le-ltb (length t) (base n) h); buffer = rw (w, ← e, le-ltb (length t) (base n) h) (f ∙ rw e) }
+    back-made after h f = gives-length (rw (w, ← e, le-ltb (length t) (base n) h)) f

@@ -2,7 +2,7 @@
 -- the pairs and the bodies are pieces laid one after the other (`Pairing`, `Laying`), in one pass: a pair stands before the bodies, so writing it leaves them
 -- (`Writing`).
 use mathlib.Core.Path.{_≡_, refl, sym, ap, ap₂, _∙_}
-use mathlib.Core.Bool.{Bool, true, false, not}
+use mathlib.Core.Bool.{true, false}
 use mathlib.Core.List.{List, [], _∷_, _++_}
 use Prim.Native.Nat.{ℕ, _+_, _-_, _*_, _≤_, _<_}
 use native.Mathlib.Numerals.{add-one}
@@ -12,12 +12,14 @@ use lib.Bits.{bitAnd}
 use lib.Dec.{ltb}
 use lib.ListN.{length, getD, take, drop, set}
 use Rattle.words.specs.Numbers.{TABLE, SIZE, ROOM}
-use Rattle.words.specs.Tests.{pick}
-use Rattle.words.specs.Outcome.{Outcome, refused, accepted, numberOf, Done, saidOf, leftOf, Meets}
+use Rattle.words.specs.declared.Length.{Length}
+use Rattle.words.specs.declared.Length.the-variants.{Accepted, Refused}
+use Rattle.words.specs.Outcome.{refused, accepted, measured, Meets}
 use Rattle.words.specs.Part.{part, put}
 use Rattle.words.specs.SetBits.{bitsOf}
 use Rattle.words.specs.Laid.{Laid}
-use Rattle.words.proofs.Cases.{passed, accepted-same}
+use Rattle.words.proofs.Cases.{accepted-same}
+use Rattle.words.proofs.RefusalLaws.{first-passed, first-refused, gives-refused, gives-length}
 use Rattle.words.proofs.LaidLaws.{then, laid-length}
 use Rattle.words.proofs.PartLaws.{seen, getD-part, part-length}
 use Rattle.fields.specs.Sizes.{sizesOf}
@@ -32,9 +34,7 @@ use Rattle.table.proofs.WellLaws.{layout-has, well-whole, well-record}
 use Rattle.page.specs.Joined.{joined}
 use Rattle.page.specs.Body.{bodyOf, bodyWords}
 use Rattle.page.specs.Layout.{offsetOf, pairOf, pageFrom, savedBody, pairsOf, bodiesOf, bodiesFrom, pageOf, pageLength}
-use Rattle.page.specs.Save.{lengthOf, saveOf, paper}
-use Rattle.page.specs.declared.Saved.{Saved}
-use Rattle.page.specs.declared.Saved.the-variants.{Accepted, Refused}
+use Rattle.page.specs.Save.{lengthList, lengthOf, saveOf}
 use Rattle.page.proofs.BodyLaws.{good-within, body-length}
 use Rattle.page.proofs.LayoutLaws.{offset-first, offset-next, offset-inside}
 use Rattle.page.proofs.Bounds.{page-between, page-small, page-whole}
@@ -262,38 +262,29 @@ length-fine t n w e h = rw (w, ← e, le-ltb 65535 n h)
 pub length-well : (t : List ℕ) (n : ℕ) → lengthOf t ≡ accepted n → (wellMade t ≡ true) × (n ≡ pageLength t)
 unfolding lengthOf
 length-well t n e =
-    let a = passed (not (wellMade t)) _ _ n e in
-    let b = passed (ltb 65535 (pageLength t)) _ _ n (a .1) in
-    (not-false _ (a .0), sym (accepted-same (b .1)))
+    let a = first-passed (lengthList t) _ n e in
+    (not-false _ (a .0 .0), sym (accepted-same (a .1)))
 
 -- ---- the answers of saving
 
 -- what the length refuses, saving refuses
-refused-alike : (ill over : Bool) (x n : ℕ) (rest : Outcome (Done ℕ (List ℕ))) → refused n ≡ pick ill (refused TABLE) (pick over (refused SIZE) (accepted x))
-    → refused n ≡ pick ill (refused TABLE) (pick over (refused SIZE) rest)
-refused-alike true over x n rest e = ap (λ (o : Outcome ℕ). refused (numberOf o)) e
-refused-alike false true x n rest e = ap (λ (o : Outcome ℕ). refused (numberOf o)) e
-refused-alike false false x n rest e = let z : _≡_ {A = ℕ} 0 1 = cc in absurd (omega arith)
-
-pub save-refused : (t page : List ℕ) (r : Saved) (n : ℕ) → r ≡ Refused n → paper r ≡ lengthOf t → Meets paper (saveOf t page) page r page
+pub save-refused : (t page : List ℕ) (r : Length) (n : ℕ) → r ≡ Refused n → measured r ≡ lengthOf t → Meets measured (saveOf t page) page r page
 unfolding lengthOf saveOf
-save-refused t page r n k e =
-    let f : refused n ≡ saveOf t page = refused-alike (not (wellMade t)) (ltb 65535 (pageLength t)) (pageLength t) n _ (sym (ap paper k) ∙ e) in
-    record { answer = ap paper k ∙ ap saidOf f; buffer = ap (λ (o : Outcome (Done ℕ (List ℕ))). leftOf o page) f }
+save-refused t page r n k e = rw k (gives-refused (first-refused (lengthList t) (pageLength t) n _ (sym e ∙ ap measured k)))
 
 module _ (t page : List ℕ) (n : ℕ) (e : accepted n ≡ lengthOf t) where
-  pub save-short : length page < n → Meets paper (saveOf t page) page (Refused ROOM) page
+  pub save-short : length page < n → Meets measured (saveOf t page) page (Refused ROOM) page
   unfolding saveOf
   save-short h =
       let a = length-well t n (sym e) in
       let l : length page < pageLength t = omega (arith, a .1) in
       let o : ltb 65535 (pageLength t) ≡ false = le-ltb 65535 (pageLength t) (omega (arith, page-small t (a .0))) in
-      record { answer = rw (a .0, o, lt-ltb (length page) (pageLength t) l); buffer = rw (a .0, o, lt-ltb (length page) (pageLength t) l) }
+      gives-refused (rw (a .0, o, lt-ltb (length page) (pageLength t) l))
 
-  pub save-made : (after : List ℕ) → n ≤ length page → after ≡ pageOf t ++ drop (pageLength t) page → Meets paper (saveOf t page) page (Accepted n) after
+  pub save-made : (after : List ℕ) → n ≤ length page → after ≡ pageOf t ++ drop (pageLength t) page → Meets measured (saveOf t page) page (Accepted n) after
   unfolding saveOf
   save-made after h l =
       let a = length-well t n (sym e) in
       let o : ltb 65535 (pageLength t) ≡ false = le-ltb 65535 (pageLength t) (omega (arith, page-small t (a .0))) in
       let r : ltb (length page) (pageLength t) ≡ false = le-ltb (length page) (pageLength t) (omega (arith, a .1)) in
-      record { answer = rw (a .0, o, r, a .1); buffer = rw (a .0, o, r) l }
+      gives-length (rw (a .0, o, r, a .1)) l

@@ -11,8 +11,9 @@ use lib.ListN.{length, take, drop}
 use Rattle.words.specs.Numbers.{TABLE, STREAM, VALUE, ROOM}
 use Rattle.words.specs.Tests.{pick, when}
 use Rattle.words.specs.Part.{part, put}
-use Rattle.words.specs.Outcome.{refused, accepted, Meets}
+use Rattle.words.specs.Outcome.{refused, accepted, measured, Meets}
 use Rattle.words.proofs.Cases.{passed, when-most}
+use Rattle.words.proofs.RefusalLaws.{gives-refused}
 use Rattle.words.proofs.PartLaws.{seen, part-part, part-length}
 use Rattle.fields.specs.Sizes.{sizeOf}
 use Rattle.record.specs.Held.{holds, slotAt}
@@ -23,11 +24,11 @@ use Rattle.table.specs.Layout.{streamsOf, base, Has, recordAt}
 use Rattle.table.specs.Well.{wellMade}
 use Rattle.table.proofs.WellLaws.{layout-has, well-whole, well-few}
 use Rattle.panel.specs.Readings.{absent, shownOf, isHeld, recordShows, askedOf, readingOf, readingPaper}
-use Rattle.panel.specs.HeldWords.{heldIn, copyOf, heldWordsOf, copiedPaper}
+use Rattle.panel.specs.HeldWords.{heldIn, copyOf, heldWordsOf}
 use Rattle.panel.specs.declared.Dial.{Dial}
 use Rattle.panel.specs.declared.Dial.the-variants as dial
-use Rattle.panel.specs.declared.Copied.{Copied}
-use Rattle.panel.specs.declared.Copied.the-variants as copied
+use Rattle.words.specs.declared.Length.{Length}
+use Rattle.words.specs.declared.Length.the-variants as given
 
 -- ---- what may be asked for, in facts
 pub asked-facts : (t : List ℕ) (s b : ℕ) → askedOf t s b ≡ accepted tt → (s < 32) × Has s t × (10 ≤ b) × (b ≤ 30)
@@ -51,12 +52,12 @@ module _ (t : List ℕ) (s b : ℕ) where
   unfolding readingOf
   reading-shown r e h = rw (sym e) h
 
-  pub words-refused : (out : List ℕ) (n : ℕ) → refused n ≡ askedOf t s b → Meets copiedPaper (heldWordsOf t s b out) out (copied.Refused n) out
+  pub words-refused : (out : List ℕ) (n : ℕ) → refused n ≡ askedOf t s b → Meets measured (heldWordsOf t s b out) out (given.Refused n) out
   unfolding heldWordsOf
-  words-refused out n e = record { answer = rw (sym e); buffer = rw (sym e) }
+  words-refused out n e = gives-refused (rw (sym e))
 
-  pub words-copied : (out last : List ℕ) (r : Copied) → accepted tt ≡ askedOf t s b → Meets copiedPaper (copyOf (heldIn b (recordAt s t)) out) out r last
-      → Meets copiedPaper (heldWordsOf t s b out) out r last
+  pub words-copied : (out last : List ℕ) (r : Length) → accepted tt ≡ askedOf t s b → Meets measured (copyOf (heldIn b (recordAt s t)) out) out r last
+      → Meets measured (heldWordsOf t s b out) out r last
   unfolding heldWordsOf
   words-copied out last r e h = rw (sym e) h
 
@@ -99,20 +100,20 @@ module _ (r : List ℕ) (b at : ℕ) (l : length r ≡ recordWords) (lo : 10 ≤
     held-length : length (heldIn b r) ≡ n
     held-length = ap length held-part ∙ part-length (headWords + at) n r held-most
 
-    pub copy-room : (out : List ℕ) → length out < n → Meets copiedPaper (copyOf (heldIn b r) out) out (copied.Refused ROOM) out
+    pub copy-room : (out : List ℕ) → length out < n → Meets measured (copyOf (heldIn b r) out) out (given.Refused ROOM) out
     unfolding copyOf
-    copy-room out h = let e = lt-ltb (length out) n h in record { answer = rw (held-length, e); buffer = rw (held-length, e) }
+    copy-room out h = gives-refused (rw (held-length, lt-ltb (length out) n h))
 
     pub copy-made : (out last : List ℕ) → n ≤ length out → last ≡ put 0 n (part (headWords + at) n r) out
-        → Meets copiedPaper (copyOf (heldIn b r) out) out (copied.Accepted n) last
+        → Meets measured (copyOf (heldIn b r) out) out (given.Accepted n) last
     unfolding copyOf put
     copy-made out last h p =
         let e = le-ltb (length out) n h in
         record { answer = rw (held-length, e); buffer = rw (held-length, e) (p ∙ ap (λ (ws : List ℕ). ws ++ drop n out) (sym held-part)) }
 
 -- ---- a record that is lent
-pub copy-lent : (t out last : List ℕ) (s b : ℕ) (r : Copied)
-    → Meets copiedPaper (copyOf (heldIn b (take (base s + recordWords - base s) (drop (base s) t))) out) out r last
-    → Meets copiedPaper (copyOf (heldIn b (recordAt s t)) out) out r last
+pub copy-lent : (t out last : List ℕ) (s b : ℕ) (r : Length)
+    → Meets measured (copyOf (heldIn b (take (base s + recordWords - base s) (drop (base s) t))) out) out r last
+    → Meets measured (copyOf (heldIn b (recordAt s t)) out) out r last
 unfolding recordAt
-copy-lent t out last s b r h = subst (λ (l : List ℕ). Meets copiedPaper (copyOf (heldIn b l) out) out r last) (seen (base s) (base s + recordWords) recordWords t refl) h
+copy-lent t out last s b r h = subst (λ (l : List ℕ). Meets measured (copyOf (heldIn b l) out) out r last) (seen (base s) (base s + recordWords) recordWords t refl) h

@@ -10,8 +10,6 @@ use Rattle.words.specs.Outcome.{Outcome, refused, accepted, after, Done}
 use Rattle.record.specs.Layout.{slotOf}
 use Rattle.table.specs.Layout.{recordAt}
 use Rattle.panel.specs.Readings.{isHeld, askedOf}
-use Rattle.panel.specs.declared.Copied.{Copied}
-use Rattle.panel.specs.declared.Copied.the-variants.{Accepted, Refused}
 
 -- the words of the field of a bit in a record: none where it is absent
 unfoldable pub heldIn : ℕ → List ℕ → List ℕ
@@ -26,8 +24,3 @@ copyOf ws out =
 -- what `held_words` answers, and what it leaves in the buffer
 unfoldable pub heldWordsOf : List ℕ → ℕ → ℕ → List ℕ → Outcome (Done ℕ (List ℕ))
 heldWordsOf t stream bit out = after (askedOf t stream bit) (copyOf (heldIn bit (recordAt stream t)) out)
-
--- the number or the value of its answer
-abbrev pub copiedPaper : Copied → Outcome ℕ
-copiedPaper (Accepted n) = accepted n
-copiedPaper (Refused n) = refused n

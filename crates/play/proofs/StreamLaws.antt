@@ -17,7 +17,7 @@ use Rattle.words.proofs.AllLaws.{all-at}
 use Rattle.packet.specs.Header.{typeOf, sizeOf}
 use Rattle.packet.specs.Parts.{streamed, wordIf, requiredOf, bodyOf, partsOf, packetOf}
 use Rattle.packet.specs.Read.{headerChecks, bodyChecks}
-use Rattle.packet.specs.Front.{frontChecks}
+use Rattle.packet.specs.Read.{frontChecks}
 use Rattle.packet.proofs.ReadLaws.{sized, Passed, read-accepts}
 use Rattle.packet.proofs.FrontLaws.{body-accepted}
 use Rattle.table.specs.Layout.{streamsOf}

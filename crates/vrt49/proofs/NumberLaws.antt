@@ -11,7 +11,7 @@ use Rattle.words.specs.Tests.{pick}
 use Rattle.words.specs.Outcome.{Outcome, refused, accepted, after, onward, numberOf, Done}
 use Rattle.fields.specs.Layout.{contextOf}
 use Rattle.packet.specs.declared.Parts.{Parts}
-use Rattle.packet.specs.Read.{headerChecks, sizeChecks, prologueChecks, bodyChecks, checksOf, readOf}
+use Rattle.packet.specs.Read.{bodyChecks, readOf}
 use Rattle.writing.specs.Write.{partsChecks, measureChecks, roomChecks, writeChecks, writeOf}
 use Rattle.trailer.specs.Trailer.{trailerWordOf}
 use Rattle.payload.specs.Unpack.{Buffers, unpackCheck, unpackOf}
@@ -63,29 +63,13 @@ context-of : (body : List ℕ) → Numbered (contextOf body)
 unfolding contextOf
 context-of body = search numbered
 
-header-checks : (w : ℕ) → Numbered (headerChecks w)
-unfolding headerChecks
-header-checks w = search numbered
-
-size-checks : (w given : ℕ) → Numbered (sizeChecks w given)
-unfolding sizeChecks
-size-checks w given = search numbered
-
-prologue-checks : (w : ℕ) (ws : List ℕ) → Numbered (prologueChecks w ws)
-unfolding prologueChecks
-prologue-checks w ws = search numbered
-
 body-checks : (kind : ℕ) (ws : List ℕ) → Numbered (bodyChecks kind ws)
 unfolding bodyChecks
-body-checks kind ws = search (numbered, context-of)
-
-checks-of : (w : ℕ) (ws : List ℕ) → Numbered (checksOf w ws)
-unfolding checksOf
-checks-of w ws = search (numbered, header-checks, size-checks, prologue-checks, body-checks)
+body-checks kind ws = search numbered
 
 read-of : (ws : List ℕ) → Numbered (readOf ws)
 unfolding readOf
-read-of ws = search (numbered, checks-of)
+read-of ws = search numbered depth 24
 
 parts-checks : (p : Parts) → Numbered (partsChecks p)
 unfolding partsChecks

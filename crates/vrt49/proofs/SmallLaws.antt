@@ -1,6 +1,6 @@
 -- The numbers of an accepted answer fit the words that they are stored in. The idea: each follows from a bound that the call's own definition has.
 use mathlib.Core.Path.{_≡_, sym, _∙_}
-use mathlib.Core.Bool.{Bool, true, false, not}
+use mathlib.Core.Bool.{Bool, true, false}
 use mathlib.Core.List.{List, []}
 use Prim.Native.Nat.{ℕ, _+_, _-_, _*_, _%_, _≤_, _<_}
 use native.Mathlib.Nat.{le-trans, mod-lt, mul-le-mul, div-le-self}
@@ -12,6 +12,7 @@ use Rattle.words.specs.Tests.{pick}
 use Rattle.words.specs.Part.{part}
 use Rattle.words.specs.Outcome.{Outcome, accepted, Done, Meets}
 use Rattle.words.proofs.Cases.{both-left, passed, after-passed, accepted-same}
+use Rattle.words.proofs.RefusalLaws.{first-passed}
 use Rattle.fields.specs.Format.{packingSize}
 use Rattle.bitstream.specs.Carried.{needed}
 use Rattle.packet.specs.declared.Packet.{Packet}
@@ -29,7 +30,6 @@ use Rattle.fields.specs.Sizes.{sizeOf}
 use Rattle.record.specs.Held.{slotAt}
 use Rattle.record.specs.Layout.{headWords, slotWords, slotIn, slotsOf, slotOf}
 use Rattle.table.specs.Layout.{streamsOf, base, recordAt}
-use Rattle.table.specs.Well.{wellMade}
 use Rattle.table.specs.Start.{startOf}
 use Rattle.table.proofs.WellLaws.{well-few}
 use Rattle.table.proofs.StartLaws.{start-well-made}
@@ -40,8 +40,8 @@ use Rattle.play.proofs.PlayLaws.{made-well, play-step}
 use Rattle.play.proofs.KeepLaws.{step-taken}
 use Rattle.page.specs.Layout.{bodiesIn, pageLength}
 use Rattle.page.specs.Good.{pageOk}
-use Rattle.page.specs.Save.{lengthOf, saveOf}
-use Rattle.page.specs.PutBack.{putBackOf}
+use Rattle.page.specs.Save.{lengthList, saveList, lengthOf, saveOf}
+use Rattle.page.specs.PutBack.{putBackList, putBackOf}
 use Rattle.page.proofs.ContentsLaws.{contents-of}
 use Rattle.panel.specs.Readings.{isHeld, askedOf}
 use Rattle.panel.specs.HeldWords.{heldIn, copyOf, heldWordsOf}
@@ -122,25 +122,21 @@ packed-small first second is es cs out d e =
 pub length-small : (t : List ℕ) (n : ℕ) → lengthOf t ≡ accepted n → n ≤ 65535
 unfolding lengthOf
 length-small t n e =
-    let a = passed (not (wellMade t)) _ _ n e in
-    let b = passed (ltb 65535 (pageLength t)) _ _ n (a .1) in
-    rw (← accepted-same (b .1)) (ltb-false 65535 (pageLength t) (b .0))
+    let a = first-passed (lengthList t) _ n e in
+    rw (← accepted-same (a .1)) (ltb-false 65535 (pageLength t) (a .0 .1 .0))
 
 pub saved-small : (t page : List ℕ) (d : Done ℕ (List ℕ)) → saveOf t page ≡ accepted d → d .says ≤ 65535
 unfolding saveOf
 saved-small t page d e =
-    let a = passed (not (wellMade t)) _ _ d e in
-    let b = passed (ltb 65535 (pageLength t)) _ _ d (a .1) in
-    let c = passed (ltb (length page) (pageLength t)) _ _ d (b .1) in
-    rw (← accepted-same (c .1)) (ltb-false 65535 (pageLength t) (b .0))
+    let a = first-passed (saveList t page) _ d e in
+    rw (← accepted-same (a .1)) (ltb-false 65535 (pageLength t) (a .0 .1 .0))
 
 pub back-small : (p t : List ℕ) (d : Done ℕ (List ℕ)) → putBackOf p t ≡ accepted d → d .says ≤ 2817
 unfolding putBackOf pageOk
 back-small p t d e =
-    let a = passed (not (pageOk p)) _ _ d e in
-    let b = passed (ltb (length t) (base (bodiesIn p))) _ _ d (a .1) in
-    let h : bodiesIn p ≤ 32 = contents-of p (both-left _ _ (not-false _ (a .0))) .few in
-    rw (← accepted-same (b .1)) (omega arith)
+    let a = first-passed (putBackList p t) _ d e in
+    let h : bodiesIn p ≤ 32 = contents-of p (both-left _ _ (not-false _ (a .0 .0))) .few in
+    rw (← accepted-same (a .1)) (omega arith)
 
 -- ---- held words
 
