@@ -7,10 +7,10 @@ use mathlib.Core.List.{List, [], _∷_, _++_}
 use lib.Dec.{eqb, ltb, leb}
 use lib.ListN.{length, getD, take, drop}
 use Rattle.words.specs.Numbers.{TYPE, SHORT, TIME, INDICATOR, LAYOUT, FIELD, STREAM, ROOM, VALUE, SIZE, FORMAT, COUNT, TABLE}
-use Rattle.words.specs.Tests.{both, among}
+use Rattle.words.specs.Tests.{both, either}
 use Rattle.words.specs.Word.{join}
 use Rattle.words.specs.Outcome.{accepted}
-use Rattle.words.specs.Refusals.{Refusals, firstGiven, either}
+use Rattle.words.specs.Refusals.{Refusals, firstGiven}
 use Rattle.fields.specs.Format.{eventSize, channelSize, itemSize}
 use Rattle.fields.specs.Layout.{lowBitsSet, otherLength, ruleBroken, contextOf}
 use Rattle.packet.specs.declared.Packet.{Packet}
@@ -30,13 +30,13 @@ use Rattle.table.specs.Identifiers.{streamOf}
 use Rattle.table.specs.Well.{wellMade}
 use Rattle.table.specs.Start.{freshTable, startList, startOf}
 use Rattle.play.specs.Play as Play
-use Rattle.play.specs.Play.{tableAfter, playOf}
+use Rattle.play.specs.Play.{tableAfter, tableList, playList, playOf}
 use Rattle.play.specs.Run.{wholeWalk, reachedOf, answersOf, runOf}
 use Rattle.page.specs.Layout.{pageOf, pageLength, bodiesIn, tableOf}
 use Rattle.page.specs.Save.{lengthList, saveList, lengthOf, saveOf}
 use Rattle.page.specs.PutBack.{putBackList, putBackOf}
-use Rattle.panel.specs.HeldWords.{heldIn, heldWordsOf}
-use Rattle.panel.specs.Readings.{recordShows, readingOf}
+use Rattle.panel.specs.HeldWords.{heldIn, heldWordsList, heldWordsOf}
+use Rattle.panel.specs.Readings.{recordShows, readingList, readingOf}
 
 -- INDICATOR, LAYOUT and FIELD of a type 4 body that is handed in alone
 abbrev pub contextList : List ℕ → Refusals
@@ -57,32 +57,6 @@ writeList p body out at =
     ∷ bodyList (p .kind) body
     -- (a buffer to be written is too short)
     ++ ((ROOM, ltb (length out) (at + sizeFor p (length body))) ∷ [])
-
--- ---- "Start: LIST, ROOM. Play: TABLE, read order, STREAM. Save: TABLE, SIZE, ROOM. Put back: PAGE, ROOM. Reading: TABLE, STREAM, VALUE."
-
--- p is the packet that the words say
-abbrev pub playList : (table words : List ℕ) → Packet → Refusals
-playList t ws p =
-    -- (table not well made)
-    ((TABLE, not (wellMade t)) ∷ [])
-    ++ readList (getD ws 0 0) ws
-    -- (no identifier (types 0, 2), one not declared)
-    ++ ((STREAM, either (among (p .parts .kind) (0 ∷ 2 ∷ [])) (leb (streamsOf t) (streamOf (p .parts .identifier) t))) ∷ [])
-
-abbrev pub readingList : List ℕ → (stream bit : ℕ) → Refusals
-readingList t stream bit =
-    (TABLE, not (wellMade t))
-    -- (a stream number not in the table)
-    ∷ (STREAM, leb (streamsOf t) stream)
-    -- (a field bit is not 30 to 10)
-    ∷ (VALUE, either (ltb bit 10) (ltb 30 bit))
-    ∷ []
-
--- the held words themselves: as a reading, and then ROOM
-abbrev pub heldWordsList : List ℕ → (stream bit : ℕ) → List ℕ → Refusals
-heldWordsList t stream bit out =
-    readingList t stream bit
-    ++ ((ROOM, ltb (length out) (length (heldIn bit (recordAt stream t)))) ∷ [])
 
 -- ---- "Pack: FORMAT, COUNT, VALUE, ROOM. Unpack: FORMAT, COUNT, ROOM. Signed value: FORMAT, VALUE."
 
@@ -137,7 +111,7 @@ pub record InOrder : Type 0 where
   pub start : (ids t : List ℕ) → startOf ids t ≡ firstGiven (startList ids t) (accepted (record { says = base (length ids); leaves = freshTable ids t }))
   pub play : (t ws : List ℕ) → let p = packetOf (getD ws 0 0) ws in
       let s = streamOf (p .parts .identifier) t in
-      playOf t ws ≡ firstGiven (playList t ws p) (accepted (record { says = Play.heardOf p s t; leaves = tableAfter p s ws t }))
+      playOf t ws ≡ firstGiven (playList t ws) (accepted (record { says = Play.heardOf p s t; leaves = tableAfter p s ws t }))
   pub save : (t page : List ℕ) → saveOf t page ≡ firstGiven (saveList t page) (accepted (record { says = pageLength t; leaves = pageOf t ++ drop (pageLength t) page }))
   pub putBack : (p t : List ℕ) → putBackOf p t ≡ firstGiven (putBackList p t) (accepted (record { says = base (bodiesIn p); leaves = tableOf p ++ drop (base (bodiesIn p)) t }))
   pub reading : (t : List ℕ) (stream bit : ℕ) → readingOf t stream bit ≡ firstGiven (readingList t stream bit) (accepted (recordShows bit (recordAt stream t)))
@@ -151,7 +125,7 @@ pub record InOrder : Type 0 where
   pub trailerWord : (enables indicators e associated : ℕ) → trailerWordOf enables indicators e associated
       ≡ firstGiven (trailerList enables indicators e associated) (accepted (join (7 ∷ 1 ∷ 12 ∷ 12 ∷ []) (associated ∷ e ∷ indicators ∷ enables ∷ [])))
   pub playRun : (t ws : List ℕ) (from : ℕ) (out : List ℕ) → let w = wholeWalk t ws from out in
-      runOf t ws from out ≡ firstGiven ((TABLE, not (wellMade t)) ∷ []) (accepted (record { says = reachedOf w; leaves = (w .table, answersOf w out) }))
+      runOf t ws from out ≡ firstGiven (tableList t) (accepted (record { says = reachedOf w; leaves = (w .table, answersOf w out) }))
   pub length-of-page : (t : List ℕ) → lengthOf t ≡ firstGiven (lengthList t) (accepted (pageLength t))
   pub heldWords : (t : List ℕ) (stream bit : ℕ) (out : List ℕ) → let ws = heldIn bit (recordAt stream t) in
       heldWordsOf t stream bit out ≡ firstGiven (heldWordsList t stream bit out) (accepted (record { says = length ws; leaves = ws ++ drop (length ws) out }))

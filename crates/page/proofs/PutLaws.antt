@@ -17,7 +17,7 @@ use Rattle.words.specs.SetBits.{bitsOf}
 use Rattle.words.specs.Part.{part, put}
 use Rattle.words.specs.Laid.{Laid}
 use Rattle.words.proofs.LaidLaws.{then, laid-length}
-use Rattle.words.proofs.RefusalLaws.{gives-refused, gives-length}
+use Rattle.words.proofs.RefusalLaws.{meets-refused, meets-length}
 use Rattle.words.proofs.PartLaws.{seen, lent-to, put-at, part-length, part-past, part-whole}
 use Rattle.fields.specs.Sizes.{sizeOf, sizesOf}
 use Rattle.record.specs.Held.{heldMask, holds, heldBits}
@@ -159,13 +159,13 @@ table-laid p t after n s w e l q h =
 module _ (p t : List ℕ) where
   pub back-ill : pageOk p ≡ false → Meets measured (putBackOf p t) t (Refused PAGE) t
   unfolding putBackOf
-  back-ill w = gives-refused (rw w)
+  back-ill w = meets-refused (rw w)
 
   module _ (w : pageOk p ≡ true) (n : ℕ) (e : n ≡ bodiesIn p) where
     pub back-short : length t < base n → Meets measured (putBackOf p t) t (Refused ROOM) t
     unfolding putBackOf
-    back-short h = gives-refused (rw (w, ← e, lt-ltb (length t) (base n) h))
+    back-short h = meets-refused (rw (w, ← e, lt-ltb (length t) (base n) h))
 
     pub back-made : (after : List ℕ) → base n ≤ length t → after ≡ tableOf p ++ drop (base (bodiesIn p)) t → Meets measured (putBackOf p t) t (Accepted (base n)) after
     unfolding putBackOf
-    back-made after h f = gives-length (rw (w, ← e, le-ltb (length t) (base n) h)) f
+    back-made after h f = meets-length (rw (w, ← e, le-ltb (length t) (base n) h)) f

@@ -19,7 +19,7 @@ use Rattle.words.specs.Part.{part, put}
 use Rattle.words.specs.SetBits.{bitsOf}
 use Rattle.words.specs.Laid.{Laid}
 use Rattle.words.proofs.Cases.{accepted-same}
-use Rattle.words.proofs.RefusalLaws.{first-passed, first-refused, gives-refused, gives-length}
+use Rattle.words.proofs.RefusalLaws.{first-passed, first-refused, meets-refused, meets-length}
 use Rattle.words.proofs.LaidLaws.{then, laid-length}
 use Rattle.words.proofs.PartLaws.{seen, getD-part, part-length}
 use Rattle.fields.specs.Sizes.{sizesOf}
@@ -270,7 +270,7 @@ length-well t n e =
 -- what the length refuses, saving refuses
 pub save-refused : (t page : List ℕ) (r : Length) (n : ℕ) → r ≡ Refused n → measured r ≡ lengthOf t → Meets measured (saveOf t page) page r page
 unfolding lengthOf saveOf
-save-refused t page r n k e = rw k (gives-refused (first-refused (lengthList t) (pageLength t) n _ (sym e ∙ ap measured k)))
+save-refused t page r n k e = rw k (meets-refused (first-refused (lengthList t) (pageLength t) n _ (sym e ∙ ap measured k)))
 
 module _ (t page : List ℕ) (n : ℕ) (e : accepted n ≡ lengthOf t) where
   pub save-short : length page < n → Meets measured (saveOf t page) page (Refused ROOM) page
@@ -279,7 +279,7 @@ module _ (t page : List ℕ) (n : ℕ) (e : accepted n ≡ lengthOf t) where
       let a = length-well t n (sym e) in
       let l : length page < pageLength t = omega (arith, a .1) in
       let o : ltb 65535 (pageLength t) ≡ false = le-ltb 65535 (pageLength t) (omega (arith, page-small t (a .0))) in
-      gives-refused (rw (a .0, o, lt-ltb (length page) (pageLength t) l))
+      meets-refused (rw (a .0, o, lt-ltb (length page) (pageLength t) l))
 
   pub save-made : (after : List ℕ) → n ≤ length page → after ≡ pageOf t ++ drop (pageLength t) page → Meets measured (saveOf t page) page (Accepted n) after
   unfolding saveOf
@@ -287,4 +287,4 @@ module _ (t page : List ℕ) (n : ℕ) (e : accepted n ≡ lengthOf t) where
       let a = length-well t n (sym e) in
       let o : ltb 65535 (pageLength t) ≡ false = le-ltb 65535 (pageLength t) (omega (arith, page-small t (a .0))) in
       let r : ltb (length page) (pageLength t) ≡ false = le-ltb (length page) (pageLength t) (omega (arith, a .1)) in
-      gives-length (rw (a .0, o, r, a .1)) l
+      meets-length (rw (a .0, o, r, a .1)) l

@@ -15,7 +15,7 @@ use Rattle.words.specs.Part.{part}
 use Rattle.words.specs.declared.Length.the-variants.{Accepted, Refused}
 use Rattle.words.specs.Outcome.{Done, accepted, measured, Meets}
 use Rattle.words.proofs.Cases.{accepted-same}
-use Rattle.words.proofs.RefusalLaws.{first-passed, gives-refused, gives-length}
+use Rattle.words.proofs.RefusalLaws.{first-passed, meets-refused, meets-length}
 use Rattle.words.proofs.PartLaws.{put-at, part-front, part-past, part-within}
 use Rattle.record.specs.Layout.{recordWords, identifierOf}
 use Rattle.record.specs.Good.{recordGood}
@@ -101,11 +101,11 @@ writing-end ids t₀ t s e w =
 module _ (ids t : List ℕ) where
   pub start-list : listGood (length ids) (spaced 0 1 ids) ≡ false → Meets measured (startOf ids t) t (Refused LIST) t
   unfolding startOf
-  start-list e = gives-refused (rw (← list-next ids, e))
+  start-list e = meets-refused (rw (← list-next ids, e))
 
   pub start-room : listGood (length ids) (spaced 0 1 ids) ≡ true → length t < base (length ids) → Meets measured (startOf ids t) t (Refused ROOM) t
   unfolding startOf
-  start-room e h = gives-refused (rw (← list-next ids, e, lt-ltb _ _ h))
+  start-room e h = meets-refused (rw (← list-next ids, e, lt-ltb _ _ h))
 
   pub start-made : (last : List ℕ) → listGood (length ids) (spaced 0 1 ids) ≡ true → base (length ids) ≤ length t
       → last ≡ take 1 (set t 0 (length ids)) ++ (freshRecords ids ++ drop (base (length ids)) (set t 0 (length ids)))
@@ -114,7 +114,7 @@ module _ (ids t : List ℕ) where
   start-made last e h l =
       let o : 0 < length t = omega arith in
       let b : 0 < base (length ids) = omega arith in
-      gives-length {left = freshTable ids t} (rw (← list-next ids, e, le-ltb _ _ h)) (l ∙ rw (take-suc-set t 0 (length ids) o, drop-set-lt (base (length ids)) t 0 (length ids) b))
+      meets-length {left = freshTable ids t} (rw (← list-next ids, e, le-ltb _ _ h)) (l ∙ rw (take-suc-set t 0 (length ids) o, drop-set-lt (base (length ids)) t 0 (length ids) b))
 
   -- the list is short
   pub start-few : listGood (length ids) (spaced 0 1 ids) ≡ true → length ids ≤ 32

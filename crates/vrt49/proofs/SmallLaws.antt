@@ -6,7 +6,6 @@ use Prim.Native.Nat.{ℕ, _+_, _-_, _*_, _%_, _≤_, _<_}
 use native.Mathlib.Nat.{le-trans, mod-lt, mul-le-mul, div-le-self}
 use native.Mathlib.Omega.{arith}
 use borrow.Author.Tests.{ltb-false}
-use lib.Dec.{ltb}
 use lib.ListN.{length, getD, length-take, length-drop}
 use Rattle.words.specs.Tests.{pick}
 use Rattle.words.specs.Part.{part}
@@ -34,17 +33,16 @@ use Rattle.table.specs.Start.{startOf}
 use Rattle.table.proofs.WellLaws.{well-few}
 use Rattle.table.proofs.StartLaws.{start-well-made}
 use Rattle.play.specs.declared.Heard.{Heard}
-use Rattle.play.specs.Play.{heardOf, madeOf, playOf}
+use Rattle.play.specs.Play.{heardOf, playOf}
 use Rattle.play.proofs.StreamLaws.{sought-below}
-use Rattle.play.proofs.PlayLaws.{made-well, play-step}
-use Rattle.play.proofs.KeepLaws.{step-taken}
+use Rattle.play.proofs.KeepLaws.{play-taken}
 use Rattle.page.specs.Layout.{bodiesIn, pageLength}
 use Rattle.page.specs.Good.{pageOk}
 use Rattle.page.specs.Save.{lengthList, saveList, lengthOf, saveOf}
 use Rattle.page.specs.PutBack.{putBackList, putBackOf}
 use Rattle.page.proofs.ContentsLaws.{contents-of}
-use Rattle.panel.specs.Readings.{isHeld, askedOf}
-use Rattle.panel.specs.HeldWords.{heldIn, copyOf, heldWordsOf}
+use Rattle.panel.specs.Readings.{isHeld}
+use Rattle.panel.specs.HeldWords.{heldIn, heldWordsList, heldWordsOf}
 use Rattle.vrt49.specs.Packets.{partsOf, wordsChecks, writeWordsOf}
 use Rattle.vrt49.proofs.AnswerLaws.{said-accepted}
 
@@ -86,11 +84,11 @@ abbrev pub SmallHeard : Heard → Type 0
 SmallHeard h = (h .size ≤ 65535) × (h .stream ≤ 31)
 
 pub heard-small : (t ws : List ℕ) (d : Done Heard (List ℕ)) → playOf t ws ≡ accepted d → SmallHeard (d .says)
-unfolding heardOf playOf
+unfolding heardOf
 heard-small t ws d e =
-    let w = made-well t (after-passed (madeOf t) _ d e .1) in
-    let k = step-taken t ws d (sym (play-step t ws w) ∙ e) in
-    rw (← k .says) (size-small ws (k .packet) (k .reads), omega (arith, sought-below _ _ t (k .stream) (k .seeks), well-few t w))
+    let k = play-taken t ws d e in
+    let p = k .1 in
+    rw (← p .says) (size-small ws (p .packet) (p .reads), omega (arith, sought-below _ _ t (p .stream) (p .seeks), well-few t (k .0)))
 
 -- ---- packed samples
 
@@ -155,9 +153,6 @@ held-few bit r false = omega arith
 
 -- a field lies inside the slots
 pub held-small : (t : List ℕ) (stream bit : ℕ) (out : List ℕ) (d : Done ℕ (List ℕ)) → heldWordsOf t stream bit out ≡ accepted d → d .says ≤ 74
-unfolding heldWordsOf copyOf heldIn
+unfolding heldWordsOf heldIn
 held-small t stream bit out d e =
-    let ws : List ℕ = heldIn bit (recordAt stream t) in
-    let k = after-passed (askedOf t stream bit) _ d e in
-    let r = passed (ltb (length out) (length ws)) _ _ d (k .2) in
-    rw (← accepted-same (r .1)) (held-few bit (recordAt stream t) (isHeld bit (recordAt stream t)))
+    rw (← accepted-same (first-passed (heldWordsList t stream bit out) _ d e .1)) (held-few bit (recordAt stream t) (isHeld bit (recordAt stream t)))

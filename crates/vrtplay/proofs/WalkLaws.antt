@@ -24,16 +24,15 @@ use Rattle.table.proofs.StartLaws.{start-well-made}
 use Rattle.play.specs.declared.inner.Happened.{Happened}
 use Rattle.play.specs.Play.{stepOf}
 use Rattle.play.specs.Run.{goesOn, saidAt, leftAt, nextOf, Stepped}
-use Rattle.play.proofs.PlayLaws.{play-step}
+use Rattle.play.proofs.PlayLaws.{step-read, play-step}
 use Rattle.play.proofs.KeepLaws.{play-keeps}
 
 -- ---- a step that goes on
 
 said-on : (o : Outcome Packet) (t ws : List ℕ) → readOf ws ≡ o → goesOn (saidOf (stepOf t ws)) ≡ true → (p : Packet) × (readOf ws ≡ accepted p)
-unfolding stepOf
 said-on (accepted p) t ws e g = (p, e)
 said-on (refused n) t ws e g =
-    let i : n ≡ STREAM = eqb-true n STREAM (rw e at g) in
+    let i : n ≡ STREAM = eqb-true n STREAM (rw (step-read, e) at g) in
     absurd (omega (arith, read-number ws n e, i))
 
 read-size : (ws : List ℕ) (p : Packet) → readOf ws ≡ accepted p → 1 ≤ sizeOf (getD ws 0 0)

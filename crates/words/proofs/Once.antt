@@ -4,7 +4,7 @@ use Prim.Native.Nat.{ℕ}
 use Rattle.words.specs.declared.Check.{Check}
 use Rattle.words.specs.declared.Check.the-variants.{Fine, Refused}
 use Rattle.words.specs.declared.Length.{Length}
-use Rattle.words.specs.declared.Length.the-variants as given
+use Rattle.words.specs.declared.Length.the-variants as lengths
 use Rattle.words.specs.Outcome.{Outcome, refused, accepted, checked, measured, Done, Meets}
 
 pub once {ℓ ℓ′} : {A : Type ℓ} {B : Type ℓ′} (paper : A → B) (back : B → A) → ((a : A) → back (paper a) ≡ a)
@@ -34,13 +34,13 @@ checked-once = once checked checkedBack checked-back
 -- ---- lengths
 
 measuredBack : Outcome ℕ → Length
-measuredBack (refused n) = given.Refused n
-measuredBack (accepted n) = given.Accepted n
+measuredBack (refused n) = lengths.Refused n
+measuredBack (accepted n) = lengths.Accepted n
 
 measured-back : (r : Length) → measuredBack (measured r) ≡ r
 unfolding measuredBack
-measured-back (given.Refused n) = refl
-measured-back (given.Accepted n) = refl
+measured-back (lengths.Refused n) = refl
+measured-back (lengths.Accepted n) = refl
 
 pub measured-once : {want : Outcome ℕ} {r s : Length} → measured r ≡ want → measured s ≡ want → r ≡ s
 measured-once = once measured measuredBack measured-back

@@ -4,7 +4,7 @@ use Prim.Native.Nat.{ℕ}
 use Rattle.words.specs.declared.Check.{Check}
 use Rattle.words.specs.declared.Check.the-variants.{Fine, Refused}
 use Rattle.words.specs.declared.Length.{Length}
-use Rattle.words.specs.declared.Length.the-variants as given
+use Rattle.words.specs.declared.Length.the-variants as lengths
 
 -- an answer: refused with a number of the list, or accepted with its values
 pub data Outcome (A : Type 0) : Type 0 where
@@ -33,8 +33,8 @@ checked (Refused n) = refused n
 
 -- a length, as an answer
 abbrev pub measured : Length → Outcome ℕ
-measured (given.Accepted n) = accepted n
-measured (given.Refused n) = refused n
+measured (lengths.Accepted n) = accepted n
+measured (lengths.Refused n) = refused n
 
 -- an accepted call that was lent a buffer: what it says, and what it leaves in the buffer
 pub record Done (A L : Type 0) : Type 0 where

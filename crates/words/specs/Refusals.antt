@@ -1,6 +1,6 @@
 -- Document 01, 'Numbers given back': "The first that applies is given, in these orders."
 use Prim.Native.Nat.{ℕ}
-use mathlib.Core.Bool.{Bool, true}
+use mathlib.Core.Bool.{Bool}
 use mathlib.Core.List.{List, [], _∷_}
 use Rattle.words.specs.Tests.{pick}
 use Rattle.words.specs.Outcome.{Outcome, refused}
@@ -14,6 +14,7 @@ abbrev pub firstGiven : {A : Type 0} → Refusals → Outcome A → Outcome A
 firstGiven [] answer = answer
 firstGiven (r ∷ rest) answer = pick (r .1) (refused (r .0)) (firstGiven rest answer)
 
--- one test or the other holds
-abbrev pub either : Bool → Bool → Bool
-either a b = pick a true b
+-- the numbers, in their order
+abbrev pub numbersIn : Refusals → List ℕ
+numbersIn [] = []
+numbersIn (r ∷ rest) = r .0 ∷ numbersIn rest

@@ -18,6 +18,10 @@ abbrev pub both : Bool → Bool → Bool
 both true b = b
 both false b = false
 
+-- one test holds or the other
+abbrev pub either : Bool → Bool → Bool
+either a b = pick a true b
+
 -- n is one of the list
 abbrev pub among : ℕ → List ℕ → Bool
 among n [] = false
