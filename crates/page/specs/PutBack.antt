@@ -1,4 +1,5 @@
--- Document 01: "Put back: PAGE, ROOM." "Put back takes exactly one page." "A lent table may be longer than its layout: words past it are neither read nor changed."
+-- Document 01: "Put back: PAGE, ROOM." "Put back takes exactly one page." "A lent table may be longer than its layout: words past it are neither read nor
+-- changed."
 use Prim.Native.Nat.{ℕ}
 use mathlib.Core.Bool.{not}
 use mathlib.Core.List.{List, [], _∷_, _++_}
@@ -9,10 +10,10 @@ use Rattle.words.specs.Outcome.{Outcome, accepted, Done}
 use Rattle.words.specs.Refusals.{Refusals, firstGiven}
 use Rattle.table.specs.Layout.{base}
 use Rattle.page.specs.Layout.{bodiesIn, tableOf}
-use Rattle.page.specs.Good.{pageOk}
+use Rattle.page.specs.Good.{pageGood}
 
 abbrev pub putBackList : List ℕ → List ℕ → Refusals
-putBackList p t = (PAGE, not (pageOk p)) ∷ (ROOM, ltb (length t) (base (bodiesIn p))) ∷ []
+putBackList p t = (PAGE, not (pageGood p)) ∷ (ROOM, ltb (length t) (base (bodiesIn p))) ∷ []
 
 -- what putting back answers, the layout's length, and what it leaves in the table: the layout, and then the words past it as they were
 unfoldable pub putBackOf : List ℕ → List ℕ → Outcome (Done ℕ (List ℕ))

@@ -37,10 +37,9 @@ use Rattle.play.specs.Play.{heardOf, playOf}
 use Rattle.play.proofs.StreamLaws.{sought-below}
 use Rattle.play.proofs.KeepLaws.{play-taken}
 use Rattle.page.specs.Layout.{bodiesIn, pageLength}
-use Rattle.page.specs.Good.{pageOk}
 use Rattle.page.specs.Save.{lengthList, saveList, lengthOf, saveOf}
 use Rattle.page.specs.PutBack.{putBackList, putBackOf}
-use Rattle.page.proofs.ContentsLaws.{contents-of}
+use Rattle.page.proofs.Exact.{ok-contents, page-tested}
 use Rattle.panel.specs.Readings.{isHeld}
 use Rattle.panel.specs.HeldWords.{heldIn, heldWordsList, heldWordsOf}
 use Rattle.vrt49.specs.Packets.{partsOf, wordsChecks, writeWordsOf}
@@ -130,10 +129,10 @@ saved-small t page d e =
     rw (← accepted-same (a .1)) (ltb-false 65535 (pageLength t) (a .0 .1 .0))
 
 pub back-small : (p t : List ℕ) (d : Done ℕ (List ℕ)) → putBackOf p t ≡ accepted d → d .says ≤ 2817
-unfolding putBackOf pageOk
+unfolding putBackOf
 back-small p t d e =
     let a = first-passed (putBackList p t) _ d e in
-    let h : bodiesIn p ≤ 32 = contents-of p (both-left _ _ (not-false _ (a .0 .0))) .few in
+    let h : bodiesIn p ≤ 32 = ok-contents p (page-tested p ∙ not-false _ (a .0 .0)) .few in
     rw (← accepted-same (a .1)) (omega arith)
 
 -- ---- held words
