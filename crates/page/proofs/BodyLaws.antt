@@ -69,7 +69,7 @@ unfolding slotIn
 zero-slot b o =
     let l : length (replicate {A = ℕ} slotWords 0) ≡ slotWords = length-replicate {A = ℕ} slotWords 0 in
     let m : length (part (slotAt b) (sizeOf b) (replicate slotWords 0)) ≡ sizeOf b = part-length (slotAt b) (sizeOf b) (replicate slotWords 0)
-        (omega (arith, slot-inside b o)) in
+    (omega (arith, slot-inside b o)) in
     ext-getD 0 _ (replicate (sizeOf b) 0) (m ∙ sym (length-replicate (sizeOf b) 0))
     (λ i h.
     getD-part (slotAt b) (sizeOf b) i (replicate slotWords 0) (omega arith)
@@ -116,7 +116,7 @@ sizes-within zero n m w = omega (arith, ap sizesOf (bits-zero n), ap sizesOf (bi
 sizes-within (suc k) n m w =
     let rest = sizes-within k n m (λ b h. w b (omega arith)) in
     let more : (x : ℕ) → has x k ≡ true → sizesOf (bitsOf (suc k) x) ≡ sizeOf k + sizesOf (bitsOf k x) = λ x y. ap sizesOf (bits-yes k x y)
-        ∙ sizes-more k (bitsOf k x) in
+    ∙ sizes-more k (bitsOf k x) in
     ⊎-elim (λ (y : has n k ≡ true). omega (arith, rest, more n y, more m (w k (omega arith) y)))
     (λ (y : has n k ≡ false).
     ⊎-elim (λ (z : has m k ≡ true). omega (arith, rest, ap sizesOf (bits-no k n y), more m z))

@@ -98,7 +98,7 @@ page-contents n f few l =
       lengths = λ s h.
           let w : getD p (offsetOf n f s + 1) 0 ≡ heldOf (f s) =
           sym (getD-part (offsetOf n f s) (length (f s)) 1 p (omega (arith, l s h, words-some (heldOf (f s)))))
-              ∙ ap (λ (b : List ℕ). getD b 1 0) (body-part n f s h) in
+          ∙ ap (λ (b : List ℕ). getD b 1 0) (body-part n f s h) in
           length-at n f s h ∙ l s h ∙ ap bodyWords (sym (ap (λ (k : ℕ). getD p (k + 1) 0) (begins-at n f s (le-of-lt h)) ∙ w));
       ends = begins-at n f n (le-refl n) ∙ sym (page-length n f);
     }

@@ -180,7 +180,7 @@ module _ (b : List ℕ) (l : length b ≡ bodyWords (heldOf b)) where
   count-same : (k : ℕ) → k < 4 → countGoodAt b k ≡ countGoodAt (recordOf b) k
   count-same k h =
       let word : (i : ℕ) → i < 3 → getD b (countAt k + i) 0 ≡ getD (recordOf b) (countAt k + i) 0 = λ i g. sym
-          (record-word b (countAt k + i) (omega arith) (body-some b l)) in
+      (record-word b (countAt k + i) (omega arith) (body-some b l)) in
       let first : getD b (countAt k) 0 ≡ getD (recordOf b) (countAt k) 0 = sym (record-word b (countAt k) (omega arith) (body-some b l)) in
       counts-at b k ∙ rw (first, word 1 (omega arith), word 2 (omega arith)) (sym (counts-at (recordOf b) k))
 
@@ -190,7 +190,7 @@ module _ (b : List ℕ) (l : length b ≡ bodyWords (heldOf b)) where
     head-same =
         let h : heldOf b ≡ heldOf (recordOf b) = sym (record-word b 1 (omega arith) (body-some b l)) in
         let last : lastOf (countOf 2 b) ≡ lastOf (countOf 2 (recordOf b)) = last-at b ∙ sym (record-word b 10 (omega arith) (body-some b l))
-            ∙ sym (last-at (recordOf b)) in
+        ∙ sym (last-at (recordOf b)) in
         e ∙ ap₂ both (ap₂ heldGood h last) (all-same (countGoodAt b) (countGoodAt (recordOf b)) 4 count-same)
 
     pub body-ill : head ≡ false → false ≡ recordGood (recordOf b)
@@ -208,7 +208,7 @@ module _ (b : List ℕ) (l : length b ≡ bodyWords (heldOf b)) where
           → kept ≡ recordGood (recordOf b)
       body-rules kept g =
           let d : drop 1 (take (length b - (headWords - 1)) (drop (headWords - 1) b)) ≡ drop headWords b = ap (drop 1) (rest-whole (headWords - 1) b)
-              ∙ drop-drop 1 (headWords - 1) b in
+          ∙ drop-drop 1 (headWords - 1) b in
           good-slots (recordOf b) head head-same kept h (g ∙ rw d (rules-below 31 0 held-within (omega arith) (zero-add _)))
 
 -- ---- the page, n being S

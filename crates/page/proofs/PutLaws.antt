@@ -59,8 +59,13 @@ module _ (n : ℕ) (b : List ℕ) (e : n ≡ heldOf b) (l : length b ≡ bodyWor
   fields-inside x y =
       let o : holds x ≡ true = within-holds (bitAnd n heldMask) (masked-within n) x y in
       let h : has n x ≡ true = sym (masked-has n x o) ∙ y in
-      omega (arith, l, ap (λ (k : ℕ). sizesOf (bitsOf 31 k)) e, placed-inside 31 n x (held-high x o) h,
-          ap sizesOf (masked-place n x (omega (arith, held-low x o))))
+      omega (
+        arith,
+        l,
+        ap (λ (k : ℕ). sizesOf (bitsOf 31 k)) e,
+        placed-inside 31 n x (held-high x o) h,
+        ap sizesOf (masked-place n x (omega (arith, held-low x o))),
+      )
 
   -- zeroed words with the body's first words
   begun-is : put 0 headWords (part 0 headWords b) (replicate recordWords 0) ≡ part 0 headWords b ++ replicate slotWords 0
@@ -94,7 +99,7 @@ module _ (n : ℕ) (b : List ℕ) (e : n ≡ heldOf b) (l : length b ≡ bodyWor
     filled-record last g =
         lent-to headWords recordWords slotWords (refilled (bitAnd n heldMask) headWords b) last rec refl g
         ∙ ap₂ (λ (s r : List ℕ). put headWords slotWords (refilled (bitAnd n heldMask) headWords b s) r)
-            (ap (part headWords slotWords) first-put ∙ slots-blank) (first-put ∙ begun-is)
+        (ap (part headWords slotWords) first-put ∙ slots-blank) (first-put ∙ begun-is)
         ∙ put-at headWords slotWords (part 0 headWords b) (replicate slotWords 0)
         (refilled (bitAnd n heldMask) headWords b (replicate slotWords 0)) front-length
         ∙ ap (λ (s : List ℕ). part 0 headWords b ++ s)

@@ -227,8 +227,11 @@ module _ (t before : List ℕ) (w : wellMade t ≡ true) (h : pageLength t ≤ l
           rw f (record {
             mid = set (set (p .mid) (2 + 2 * s) at) (3 + 2 * s) (to - at);
             pairs = rw sum at (pairing-turn t before w h (p .mid) n s at e (p .pairs) g (to - at) length-is);
-            bodies = record { most = next .most; laid = laid-before (3 + 2 * s) (to - at) (laid-before (2 + 2 * s) at (next .laid) (omega arith))
-                (omega arith) };
+            bodies = record {
+              most = next .most;
+              laid = laid-before (3 + 2 * s) (to - at) (laid-before (2 + 2 * s) at (next .laid) (omega arith))
+                  (omega arith);
+            };
           })
 
   pub writing-length : {after : List ℕ} {n s at : ℕ} → Writing t before after n s at → length after ≡ length before
@@ -247,7 +250,7 @@ module _ (t before : List ℕ) (w : wellMade t ≡ true) (h : pageLength t ≤ l
   page-laid n size after e f p =
       let l = page-whole t w in
       let first : Laid before 0 (streamsOf t ∷ pageLength t ∷ []) 2 (set (set before 0 n) 1 size) = rw (e, f)
-          (laid-two before 0 (streamsOf t) (pageLength t)) in
+      (laid-two before 0 (streamsOf t) (pageLength t)) in
       rw l at (laid-front (then first p) (omega (arith, h, l)))
 
 -- ---- the answers of the length

@@ -35,7 +35,7 @@ all-held : (k held : ℕ) → ((b : ℕ) → has held b ≡ true → holds b ≡
 all-held zero held w = rw (bits-zero held) tt
 all-held (suc k) held w =
     ⊎-elim (λ (y : has held k ≡ true). rw (bits-yes k held y) (w k y, all-held k held w))
-        (λ (n : has held k ≡ false). rw (bits-no k held n) (all-held k held w)) (true-or-false (has held k))
+    (λ (n : has held k ≡ false). rw (bits-no k held n) (all-held k held w)) (true-or-false (has held k))
 
 pub record Squeezing (held at : ℕ) (slots before after : List ℕ) (rest to : ℕ) : Type 0 where
   pub done : List ℕ
@@ -88,5 +88,5 @@ squeezing-end {held} {at} {rest} {to} {slots} {before} {page} p z =
     let f : ℕ → List ℕ = λ x. slotIn x slots in
     let e : p .done ≡ heldWords held slots =
     sym (append-nil (p .done)) ∙ ap (λ (y : List ℕ). p .done ++ y)
-        (sym (ap (λ (y : List ℕ). inOrder y f) (bits-none 32 rest (omega arith)) ∙ in-order-none f)) ∙ p .left in
+    (sym (ap (λ (y : List ℕ). inOrder y f) (bits-none 32 rest (omega arith)) ∙ in-order-none f)) ∙ p .left in
     rw e at (p .laid)
