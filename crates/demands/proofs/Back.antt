@@ -17,11 +17,11 @@ use Rattle.words.proofs.Cases.{true-is-false, both-left, both-right, both-no, a
 use Rattle.packet.specs.declared.Parts.{Parts}
 use Rattle.packet.specs.Header.{classed, trailed, sizeOf}
 use Rattle.packet.specs.Parts.{streamed, hasSeconds, hasFraction, classAt, secondsAt, fractionAt, bodyAt, requiredOf, bodyLength, wordIf, classHigh, classLow, fractionOf, partsOf, bodyOf, packetOf}
-use Rattle.packet.specs.Read.{headerChecks, sizeChecks, timeOver, prologueChecks, checksOf, readOf}
+use Rattle.packet.specs.Read.{headerChecks, sizeChecks, timeOver, prologueChecks, readOf}
 use Rattle.writing.specs.Write.{headerWord, sizeFor, given, classWord, headWords, classWords, timeWords, prologueWords, trailerWords, packetWords, plainParts, classFits, writeChecks, writeOf}
 use Rattle.writing.proofs.FitLaws.{Fits, parts-fit, Writable, writable}
 use Rattle.packet.proofs.RoomLaws.{body-past}
-use Rattle.packet.proofs.ReadLaws.{accepts-read}
+use Rattle.packet.proofs.ReadLaws.{Passed, accepts-read}
 use Rattle.writing.proofs.HeaderLaws.{type-is, classed-is, trailed-is, tsm-is, tsi-is, tsf-is, count-is, size-is, reserved-is, size-for-is}
 use Rattle.writing.proofs.LayLaws.{length-given, head-length, class-length, prologue-length, packet-length}
 
@@ -192,9 +192,13 @@ module _ (p : Parts) (body more : List ℕ) (room at : ℕ) (may : Writable p bo
   unfolding bodyOf
   body-is = rw length-back body-back
 
-  pub checks-back : checksOf W Ws ≡ accepted tt
-  unfolding checksOf
-  checks-back = rw (header-passes, size-passes, prologue-passes, body-is, type-is p size (may .kind) fits (may .small)) (may .context)
+  pub checks-back : Passed W Ws
+  checks-back = record {
+    header = header-passes;
+    size = size-passes;
+    prologue = prologue-passes;
+    body = rw (body-is, type-is p size (may .kind) fits (may .small)) (may .context);
+  }
 
   -- it is read back, absent parts zero
   pub read-back : readOf Ws ≡ accepted (record { parts = plainParts W p; size = size; body = bodyAt W; length = length body })

@@ -5,14 +5,14 @@ use mathlib.Core.List.{List, [], _++_, map, map-append}
 use Prim.Native.Nat.{ℕ, _≤_}
 use native.Mathlib.Omega.{arith}
 use lib.ListN.{length, take}
-use Rattle.words.specs.Outcome.{Outcome, refused, accepted, Done, saidOf, leftOf, Meets}
+use Rattle.words.specs.declared.Length.{Length}
+use Rattle.words.specs.Outcome.{Outcome, refused, accepted, measured, Done, saidOf, leftOf, Meets}
 use Rattle.table.specs.Layout.{base}
 use Rattle.table.specs.Start.{startOf}
 use Rattle.play.specs.declared.Played.{Played}
 use Rattle.play.specs.Play.{paper}
-use Rattle.page.specs.declared.PutBack.{PutBack}
 use Rattle.page.specs.Save.{saveOf}
-use Rattle.page.specs.PutBack.{putBackOf, backPaper}
+use Rattle.page.specs.PutBack.{putBackOf}
 use Rattle.demands.specs.Demands.{ours, Right, layoutOf, playAll, saidAll, Resumes}
 use Rattle.demands.specs.CallsMade.{StartMade, PlaysMade, none, next, SaveMade, Ruled, Demand3Made}
 use Rattle.demands.proofs.RightLaws.{right-start, right-on, answers-on}
@@ -49,9 +49,9 @@ ruled ids t last before packets answers r p =
 
 -- ---- a page between
 
-module _ (ids lent t middle page room back : List ℕ) (first rest : List (List ℕ)) (heard : List Played) (r : PutBack)
+module _ (ids lent t middle page room back : List ℕ) (first rest : List (List ℕ)) (heard : List Played) (r : Length)
     (a : StartMade ids lent t) (b : PlaysMade t first heard middle) (c : SaveMade middle page) (h : base (length ids) ≤ length room)
-    (m : Meets backPaper (putBackOf page room) room r back) where
+    (m : Meets measured (putBackOf page room) room r back) where
   again : Resumes ours ids t first rest page room
   again =
       let k = said-done (saveOf middle (c .lent)) (c .says) (sym (c .meets .answer) ∙ c .accepts) in
@@ -63,7 +63,7 @@ module _ (ids lent t middle page room back : List ℕ) (first rest : List (List 
   put-back : back ≡ again .done .leaves
   put-back = m .buffer ∙ left-done (putBackOf page room) (again .done) room (again .accepts)
 
-  pub accepted-back : backPaper r ≡ accepted (base (length ids))
+  pub accepted-back : measured r ≡ accepted (base (length ids))
   accepted-back = m .answer ∙ ap saidOf (again .accepts) ∙ ap accepted (again .says)
 
   module _ (last : List ℕ) (answers : List Played) (p : PlaysMade back rest answers last) where

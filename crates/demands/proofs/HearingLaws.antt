@@ -1,23 +1,23 @@
 -- Playing on a table of a list, as the trace tells it. The idea: a table of the list looks an identifier up as the list does (`place-same`), so play is reading
 -- and the list, and then one record replaced (`play-is`); what reading accepts is fine to replace a record by (`heard-fine`).
 use mathlib.Core.Path.{_≡_, refl, sym, ap, _∙_}
-use mathlib.Core.Bool.{Bool, true, false}
+use mathlib.Core.Bool.{true, false}
 use mathlib.Core.List.{List, [], _∷_}
 use Prim.Native.Nat.{ℕ, zero, suc, _≤_, _<_}
 use native.Mathlib.Omega.{arith}
 use borrow.Author.Tests.{leb-false, ltb-false}
-use lib.Dec.{eqb, ltb, leb}
+use lib.Dec.{eqb, leb}
 use lib.ListN.{length, getD}
-use Rattle.words.specs.Numbers.{STREAM}
-use Rattle.words.specs.Tests.{pick, among}
+use Rattle.words.specs.Tests.{among}
 use Rattle.words.specs.Outcome.{Outcome, refused, accepted, onward, Done, leftOf}
-use Rattle.words.proofs.Cases.{passed, onward-passed, accepted-same}
+use Rattle.words.proofs.Cases.{onward-passed, accepted-same}
+use Rattle.words.proofs.RefusalLaws.{first-passed, either-passed, onward-first}
 use Rattle.words.proofs.AllLaws.{first-one}
 use Rattle.fields.specs.Layout.{contextOf}
 use Rattle.packet.specs.declared.Packet.{Packet}
 use Rattle.packet.specs.Header.{typeOf}
 use Rattle.packet.specs.Parts.{partsOf, packetOf}
-use Rattle.packet.specs.Read.{headerChecks, readOf}
+use Rattle.packet.specs.Read.{headerList, headerChecks, readOf}
 use Rattle.packet.proofs.ReadLaws.{read-accepts, count-small, body-context}
 use Rattle.record.specs.Layout.{recordWords}
 use Rattle.record.specs.After.{recordAfter, addedBy}
@@ -31,9 +31,9 @@ use Rattle.table.proofs.WellLaws.{well-whole, layout-has}
 use Rattle.play.specs.declared.Heard.{Heard}
 use Rattle.play.specs.Play as Play
 use Rattle.play.specs.Play.{soughtOf, tableAfter, stepOf, playOf}
-use Rattle.play.proofs.PlayLaws.{play-step}
+use Rattle.play.proofs.PlayLaws.{step-read, play-step}
 use Rattle.play.proofs.KeepLaws.{play-keeps}
-use Rattle.demands.specs.Trace.{Arrival, placeIn, arrivalOf, heardBy, countedTypes}
+use Rattle.demands.specs.Trace.{Arrival, placeIn, arrivalList, arrivalOf, heardBy, countedTypes}
 
 -- ---- what a heard packet is
 
@@ -57,20 +57,20 @@ read-type : (ws : List ℕ) (p : Packet) → readOf ws ≡ accepted p → p .par
 unfolding headerChecks packetOf partsOf
 read-type ws p e =
     let k = read-accepts ws p e in
-    rw (← k .says) (ltb-false 5 (typeOf (getD ws 0 0)) (passed (ltb 5 (typeOf (getD ws 0 0))) _ _ tt (k .passes .header) .0))
+    rw (← k .says) (ltb-false 5 (typeOf (getD ws 0 0)) (first-passed (headerList (getD ws 0 0)) _ tt (k .passes .header) .0 .0))
 
 pub heard-fine : (ids ws : List ℕ) (a : Arrival) → heardBy ids ws ≡ accepted a → Fine ids a
 unfolding heardBy arrivalOf
 heard-fine ids ws a e =
     let k = onward-passed (readOf ws) (arrivalOf ids ws) a e in
     let p = k .0 in
-    let x = passed (among (p .parts .kind) (0 ∷ 2 ∷ [])) _ _ a (k .2) in
-    let y = passed (leb (length ids) (placeIn ids (p .parts .identifier))) _ _ a (x .1) in
-    rw (← accepted-same (y .1))
+    let x = first-passed (arrivalList ids p) _ a (k .2) in
+    let y = either-passed (among (p .parts .kind) (0 ∷ 2 ∷ [])) (leb (length ids) (placeIn ids (p .parts .identifier))) (x .0 .0) in
+    rw (← accepted-same (x .1))
     (record {
-      stream = leb-false (length ids) (placeIn ids (p .parts .identifier)) (y .0);
+      stream = leb-false (length ids) (placeIn ids (p .parts .identifier)) (y .1);
       count = count-small ws p (k .1);
-      kind = types (p .parts .kind) (read-type ws p (k .1)) (x .0);
+      kind = types (p .parts .kind) (read-type ws p (k .1)) (y .0);
       body = body-context ws p (k .1);
     })
 
@@ -91,12 +91,6 @@ recordOn t a = recordAfter (a .kind) (a .count) (a .body) (recordAt (a .stream) 
 abbrev pub doneOn : List ℕ → Arrival → Outcome (Done Heard (List ℕ))
 doneOn t a = accepted (record { says = heardOn t a; leaves = withRecord (a .stream) (recordOn t a) t })
 
-two-tests : {A B C : Type 0} (x y : Bool) (n : ℕ) (a : A) (b : B) (f : A → Outcome C) (g : B → Outcome C) → f a ≡ g b
-    → onward (pick x (refused n) (pick y (refused n) (accepted a))) f ≡ onward (pick x (refused n) (pick y (refused n) (accepted b))) g
-two-tests true y n a b f g e = refl
-two-tests false true n a b f g e = refl
-two-tests false false n a b f g e = e
-
 module _ (ids t : List ℕ) (l : Listed ids t) where
   pub place-same : (identifier : ℕ) → streamOf identifier t ≡ placeIn ids identifier
   unfolding placeIn
@@ -110,11 +104,10 @@ module _ (ids t : List ℕ) (l : Listed ids t) where
       })
 
   heard-read : (ws : List ℕ) (o : Outcome Packet) → readOf ws ≡ o → stepOf t ws ≡ onward (onward o (arrivalOf ids ws)) (doneOn t)
-  unfolding stepOf arrivalOf soughtOf Play.heardOf tableAfter
-  heard-read ws (refused n) e = rw e
+  unfolding arrivalOf soughtOf Play.heardOf tableAfter
+  heard-read ws (refused n) e = rw (step-read, e)
   heard-read ws (accepted p) e =
-      rw (e, place-same (p .parts .identifier), l .streams)
-      (two-tests (among (p .parts .kind) (0 ∷ 2 ∷ [])) (leb (length ids) (placeIn ids (p .parts .identifier))) STREAM _ _ _ _ refl)
+      rw (step-read, e, place-same (p .parts .identifier), l .streams) (onward-first (arrivalList ids p) _ _ ∙ sym (onward-first (arrivalList ids p) _ _))
 
   -- play is reading and the list, and then one record replaced
   pub play-is : (ws : List ℕ) → playOf t ws ≡ onward (heardBy ids ws) (doneOn t)

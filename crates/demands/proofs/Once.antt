@@ -5,15 +5,14 @@ use mathlib.Core.List.{List, [], _∷_}
 use Prim.Native.Nat.{ℕ}
 use native.Mathlib.Omega.{arith}
 use Rattle.words.specs.Outcome.{Outcome, refused, accepted, Done, saidOf, leftOf}
+use Rattle.words.proofs.Once.{measured-once, lent-once}
 use Rattle.fields.proofs.Uniqueness.{field-count-once, check-body-once, find-once}
 use Rattle.trailer.proofs.Uniqueness.{trailer-parts-once, trailer-word-once}
 use Rattle.packet.proofs.Uniqueness.{read-once}
 use Rattle.writing.proofs.Uniqueness.{write-once}
 use Rattle.payload.proofs.Uniqueness.{words-needed-once, unpack-once, pack-once, signed-once}
-use Rattle.table.proofs.Uniqueness.{start-once, well-made-once}
 use Rattle.play.proofs.Uniqueness.{play-once, play-run-once}
-use Rattle.page.proofs.Uniqueness.{page-length-once, save-once, put-back-once}
-use Rattle.panel.proofs.Uniqueness.{reading-once, held-words-once}
+use Rattle.panel.proofs.Uniqueness.{reading-once}
 use Rattle.demands.specs.Calls.{Call, answers, lends, OneOutcome, RefusalLeaves, Each, calls}
 use Rattle.demands.proofs.Listing.{_and_}
 
@@ -33,15 +32,15 @@ one-outcome =
     and (λ h r s after after′. unpack-once (h .0) (h .1) (h .2) (h .3) (h .4) after after′ r s)
     and (λ h r s after after′. pack-once (h .0) (h .1) (h .2) (h .3) (h .4) (h .5) after after′ r s)
     and (λ h. signed-once (h .0) (h .1))
-    and (λ h r s after after′. start-once (h .0) (h .1))
-    and (λ t r s. well-made-once t)
+    and (λ h r s after after′. lent-once)
+    and (λ t r s p q. p ∙ sym q)
     and (λ h r s after after′. play-once (h .0) (h .1))
     and (λ h r s after after′. play-run-once (h .0) (h .1) (h .2) (h .3))
-    and (λ t r s. page-length-once t)
-    and (λ h r s after after′. save-once (h .0) (h .1))
-    and (λ h r s after after′. put-back-once (h .0) (h .1))
+    and (λ t r s. measured-once)
+    and (λ h r s after after′. lent-once)
+    and (λ h r s after after′. lent-once)
     and (λ h. reading-once (h .0) (h .1) (h .2))
-    and (λ h r s after after′. held-words-once (h .0) (h .1) (h .2) (h .3) after after′ r s)
+    and (λ h r s after after′. lent-once)
     and tt
 
 -- ---- a refusal

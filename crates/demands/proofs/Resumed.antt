@@ -1,15 +1,15 @@
 -- A play that is broken off and resumed. The idea: a page that was saved holds the table's layout, so the table that it is put back into is right for the packets
 -- before (`right-layout`), and goes on as any right table does; by the rules, and since they leave nothing open, as the unbroken play.
 use mathlib.Core.Path.{_≡_, refl, sym, ap, _∙_}
-use mathlib.Core.Bool.{true, not}
+use mathlib.Core.Bool.{true}
 use mathlib.Core.List.{List, [], _∷_, _++_}
 use Prim.Native.Nat.{ℕ, _+_, _*_, _≤_, _<_}
 use native.Mathlib.Omega.{arith}
-use lib.Dec.{ltb}
 use lib.ListN.{length, take, drop}
 use lib.Seq.{take-at, drop-at, length-take-le}
 use Rattle.words.specs.Outcome.{Outcome, accepted, Done, saidOf, leftOf}
-use Rattle.words.proofs.Cases.{passed, accepted-same}
+use Rattle.words.proofs.Cases.{accepted-same}
+use Rattle.words.proofs.RefusalLaws.{first-passed}
 use Rattle.record.specs.Layout.{identifierOf, orderOf, countOf}
 use Rattle.table.specs.Layout.{streamsOf, base, recordAt}
 use Rattle.table.specs.Well.{wellMade}
@@ -18,7 +18,7 @@ use Rattle.table.proofs.WellLaws.{well-whole}
 use Rattle.play.specs.declared.Heard.{Heard}
 use Rattle.play.specs.Play.{playOf}
 use Rattle.page.specs.Layout.{pageOf, pageLength}
-use Rattle.page.specs.Save.{saveOf}
+use Rattle.page.specs.Save.{saveList, saveOf}
 use Rattle.page.specs.PutBack.{putBackOf}
 use Rattle.page.proofs.LayoutLaws.{record-in, table-streams}
 use Rattle.page.proofs.Bounds.{page-between, page-whole}
@@ -58,10 +58,7 @@ module _ (ids : List ℕ) (packets : List (List ℕ)) (t rest : List ℕ) (r : R
 page-words : (t page : List ℕ) (w : wellMade t ≡ true) (e : Done ℕ (List ℕ)) → saveOf t page ≡ accepted e → take (e .says) (e .leaves) ≡ pageOf t
 unfolding saveOf
 page-words t page w e s =
-    let a = passed (not (wellMade t)) _ _ e s in
-    let b = passed (ltb 65535 (pageLength t)) _ _ e (a .1) in
-    let c = passed (ltb (length page) (pageLength t)) _ _ e (b .1) in
-    rw (← accepted-same (c .1)) (take-at (pageOf t) (drop (pageLength t) page) (pageLength t) (page-whole t w))
+    rw (← accepted-same (first-passed (saveList t page) _ e s .1)) (take-at (pageOf t) (drop (pageLength t) page) (pageLength t) (page-whole t w))
 
 pub saves : (ids : List ℕ) (packets : List (List ℕ)) (t page : List ℕ) → Right ids packets t → 2 + 90 * length ids ≤ length page → Accepts (saveOf t page)
 saves ids packets t page r h = (_, save-accepted t page (r .made) (omega (arith, page-between t (r .made) .1, r .streams)))

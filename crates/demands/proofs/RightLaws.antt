@@ -2,22 +2,23 @@
 -- played, for these and that one (`right-more`): a refusal changes neither the table nor a stream's own packets, and an accepted packet takes its stream's
 -- record one packet on. The answers follow, since the counts before each packet are those of the rules.
 use mathlib.Core.Path.{_≡_, refl, sym, ap, _∙_}
-use mathlib.Core.Bool.{Bool, true, false, not}
+use mathlib.Core.Bool.{Bool, true, false}
 use mathlib.Core.Logic.{⊎-elim}
 use mathlib.Core.List.{List, [], _∷_, _++_, append-nil, append-assoc}
 use Prim.Native.Nat.{ℕ, _≤_, _<_}
 use borrow.Author.Tests.{eq-eqb, ne-eqb, le-ltb}
-use lib.Dec.{eqb, ltb}
+use lib.Dec.{eqb}
 use lib.ListN.{length, getD}
 use Rattle.words.specs.Tests.{pick, among}
 use Rattle.words.specs.Outcome.{Outcome, refused, accepted, onward, Done, saidOf, leftOf}
-use Rattle.words.proofs.Cases.{passed, accepted-same, same-or-not}
+use Rattle.words.proofs.Cases.{accepted-same, same-or-not}
+use Rattle.words.proofs.RefusalLaws.{first-passed}
 use Rattle.record.specs.Layout.{orderOf, countOf, lastOf}
 use Rattle.record.specs.Counts.{addedOf, countedOf, addedTo}
 use Rattle.record.specs.After.{addedBy}
 use Rattle.table.specs.Layout.{streamsOf, base, recordAt}
 use Rattle.table.specs.Identifiers.{listed, listGood}
-use Rattle.table.specs.Start.{freshRecord, freshTable, startOf}
+use Rattle.table.specs.Start.{freshRecord, freshTable, startList, startOf}
 use Rattle.table.proofs.WellLaws.{well-record}
 use Rattle.table.proofs.StartLaws.{fresh-record, start-well-made}
 use Rattle.play.specs.declared.Heard.{Heard}
@@ -34,9 +35,7 @@ use Rattle.demands.proofs.RecordLaws.{held-after, count-after, fresh-he
 start-leaves : (ids t : List ℕ) (d : Done ℕ (List ℕ)) → startOf ids t ≡ accepted d → d .leaves ≡ freshTable ids t
 unfolding startOf
 start-leaves ids t d e =
-    let a = passed (not (listGood (length ids) (listed ids))) _ _ d e in
-    let b = passed (ltb (length t) (base (length ids))) _ _ d (a .1) in
-    ap (λ (x : Done ℕ (List ℕ)). x .leaves) (sym (accepted-same (b .1)))
+    ap (λ (x : Done ℕ (List ℕ)). x .leaves) (sym (accepted-same (first-passed (startList ids t) _ d e .1)))
 
 pub start-accepts : (ids t : List ℕ) → listGood (length ids) (listed ids) ≡ true → base (length ids) ≤ length t → (d : Done ℕ (List ℕ)) × (startOf ids t ≡ accepted d)
 unfolding startOf

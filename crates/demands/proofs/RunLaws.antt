@@ -12,7 +12,7 @@ use lib.Seq.{getD-drop}
 use Rattle.words.specs.Outcome.{Outcome, refused, accepted, saidOf, leftOf}
 use Rattle.words.proofs.Cases.{le-or-lt, true-or-false}
 use Rattle.packet.specs.Header.{sizeOf}
-use Rattle.play.specs.Play.{madeOf, playOf}
+use Rattle.play.specs.Play.{playOf}
 use Rattle.play.specs.Run.{goesOn, saidAt, leftAt, nextOf, entryWords, entryOf, entryAt, Walk, walkOf, wholeWalk, reachedOf, answersOf, runOf}
 use Rattle.demands.specs.Trace.{Arrival, Trace, heardBy, traceOf, answerTo}
 use Rattle.demands.specs.Demands.{ours, Right, playAll, saidAll}
@@ -50,7 +50,7 @@ walked ids (suc n) ws at before t r =
     (le-or-lt (length ws) at)
 
 pub runs : Runs
-unfolding runOf madeOf wholeWalk
+unfolding runOf wholeWalk
 runs ids before t r ws from out =
     let n : ℕ = length out / entryWords in
     let k = walked ids n ws from before t r in

@@ -10,7 +10,7 @@ use Rattle.fields.specs.Rules.{notNegative, upperHalfZero, deviceRule, stateRul
 use Rattle.fields.specs.Layout.{spanOf, obeyed, bodyWords, lowBitsSet, otherLength, ruleBroken, contextOf}
 use Rattle.packet.specs.Header.{trailed, tsmOf, reservedOf}
 use Rattle.packet.specs.Parts.{streamed, hasSeconds, hasFraction, classAt, secondsAt, fractionAt, bodyAt, requiredOf, bodyLength, wordIf, classHigh, classLow, fractionOf, partsOf, bodyOf, packetOf}
-use Rattle.packet.specs.Read.{headerChecks, sizeChecks, timeOver, prologueChecks, bodyChecks, checksOf, readOf}
+use Rattle.packet.specs.Read.{headerChecks, sizeChecks, timeOver, prologueChecks, bodyChecks, readOf}
 use Rattle.bitstream.specs.Stream.{bit, span}
 use Rattle.bitstream.specs.Carried.{carried, fieldOf, wordOf, needed}
 use Rattle.bitstream.specs.Filled.{filled}
@@ -27,5 +27,5 @@ use Rattle.demands.specs.Samples.{Hold, bench}
 use Rattle.demands.proofs.Listing.{_and_}
 
 pub samples : Hold bench
-unfolding bench part bitsOf above all sizeOf asciiWords listWords wordsOf codeKnown codeFits formatOk notNegative upperHalfZero deviceRule stateRule formatRule asciiRule listsRule ruleOf spanOf obeyed bodyWords lowBitsSet otherLength ruleBroken contextOf trailed tsmOf reservedOf streamed hasSeconds hasFraction classAt secondsAt fractionAt bodyAt requiredOf bodyLength wordIf classHigh classLow fractionOf partsOf bodyOf packetOf headerChecks sizeChecks timeOver prologueChecks bodyChecks checksOf readOf bit span carried fieldOf wordOf needed filled wideProcessing formatBad carriedBits packingOf unitOf countBad wordsFor fitting packCheck packOf unpackCheck unpackOf twosComplement signedOf missedOf unitsOf lowerHalf share over isFrequency shownOf trailingZeros
+unfolding bench part bitsOf above all sizeOf asciiWords listWords wordsOf codeKnown codeFits formatOk notNegative upperHalfZero deviceRule stateRule formatRule asciiRule listsRule ruleOf spanOf obeyed bodyWords lowBitsSet otherLength ruleBroken contextOf trailed tsmOf reservedOf streamed hasSeconds hasFraction classAt secondsAt fractionAt bodyAt requiredOf bodyLength wordIf classHigh classLow fractionOf partsOf bodyOf packetOf headerChecks sizeChecks timeOver prologueChecks bodyChecks readOf bit span carried fieldOf wordOf needed filled wideProcessing formatBad carriedBits packingOf unitOf countBad wordsFor fitting packCheck packOf unpackCheck unpackOf twosComplement signedOf missedOf unitsOf lowerHalf share over isFrequency shownOf trailingZeros
 samples = refl and refl and refl and refl and refl and refl and refl and refl and refl and refl and refl and refl and refl and refl and refl and refl and refl and refl and refl and refl and refl and tt

@@ -17,7 +17,7 @@ use Rattle.fields.specs.Layout.{spanOf, obeyed, bodyWords, placeOf, fieldOf, lo
 use Rattle.packet.specs.declared.Packet.{Packet}
 use Rattle.packet.specs.Header.{trailed, tsmOf, reservedOf}
 use Rattle.packet.specs.Parts.{streamed, hasSeconds, hasFraction, classAt, secondsAt, fractionAt, bodyAt, requiredOf, bodyLength, wordIf, classHigh, classLow, fractionOf, partsOf, bodyOf, packetOf}
-use Rattle.packet.specs.Read.{headerChecks, sizeChecks, timeOver, prologueChecks, bodyChecks, checksOf, readOf}
+use Rattle.packet.specs.Read.{headerChecks, sizeChecks, timeOver, prologueChecks, bodyChecks, readOf}
 use Rattle.record.specs.Layout.{orderOf, countOf, seenOf}
 use Rattle.record.specs.Counts.{missedOf}
 use Rattle.table.specs.Layout.{recordAt}
@@ -58,7 +58,7 @@ record Computed : Type 0 where
   field-second : fieldOf 30 (0x40000000 ∷ 2 ∷ []) ≡ 2 ∷ []
 
 computed : Computed
-unfolding heardBy arrivalOf placeIn firstOf trailed tsmOf reservedOf streamed hasSeconds hasFraction classAt secondsAt fractionAt bodyAt requiredOf bodyLength wordIf classHigh classLow fractionOf partsOf bodyOf packetOf part headerChecks sizeChecks timeOver prologueChecks bodyChecks checksOf readOf contextOf lowBitsSet otherLength ruleBroken bodyWords spanOf obeyed ruleOf wordsOf sizeOf bitsOf above placeOf fieldOf
+unfolding heardBy arrivalOf placeIn firstOf trailed tsmOf reservedOf streamed hasSeconds hasFraction classAt secondsAt fractionAt bodyAt requiredOf bodyLength wordIf classHigh classLow fractionOf partsOf bodyOf packetOf part headerChecks sizeChecks timeOver prologueChecks bodyChecks readOf contextOf lowBitsSet otherLength ruleBroken bodyWords spanOf obeyed ruleOf wordsOf sizeOf bitsOf above placeOf fieldOf
 computed = record {
   read3 = (_, refl, refl);
   read4 = (_, refl, refl);

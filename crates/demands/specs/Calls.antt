@@ -4,7 +4,7 @@
 use mathlib.Core.Path.{_≡_}
 use Prim.Native.Nat.{ℕ}
 use mathlib.Core.List.{List, [], _∷_}
-use Rattle.words.specs.Outcome.{Outcome, refused, checked, Done, Meets}
+use Rattle.words.specs.Outcome.{Outcome, refused, checked, measured, Done, Meets}
 use Rattle.fields.specs.Answers.{foundPaper}
 use Rattle.fields.specs.Layout.{fieldCount, foundOf, contextOf}
 use Rattle.packet.specs.declared.Parts.{Parts}
@@ -16,13 +16,13 @@ use Rattle.payload.specs.Count.{neededOf}
 use Rattle.payload.specs.Pack.{packOf}
 use Rattle.payload.specs.Signs.{signedOf}
 use Rattle.payload.specs.Unpack.{Buffers, unpackOf}
-use Rattle.table.specs.Start as Start
+use Rattle.table.specs.Start.{startOf}
 use Rattle.table.specs.Well.{wellMade}
 use Rattle.play.specs.Play as Play
 use Rattle.play.specs.Run.{runOf, runPaper}
-use Rattle.page.specs.PutBack.{putBackOf, backPaper}
-use Rattle.page.specs.Save as Save
-use Rattle.panel.specs.HeldWords.{heldWordsOf, copiedPaper}
+use Rattle.page.specs.PutBack.{putBackOf}
+use Rattle.page.specs.Save.{lengthOf, saveOf}
+use Rattle.panel.specs.HeldWords.{heldWordsOf}
 use Rattle.panel.specs.Readings.{readingOf, readingPaper}
 
 -- a call that answers alone, and one that is lent words: how its answers read on paper, what is wanted by what it is handed, and which words are lent
@@ -68,16 +68,16 @@ calls =
     ∷ lends packedPaper (λ (h : ℕ × ℕ × List ℕ × List ℕ × List ℕ × List ℕ). packOf (h .0) (h .1) (h .2) (h .3) (h .4) (h .5)) (λ h. h .5)
     ∷ answers shownPaper (λ (h : ℕ × ℕ). signedOf (h .0) (h .1))
     -- table::start, well_made
-    ∷ lends Start.paper (λ (h : List ℕ × List ℕ). Start.startOf (h .0) (h .1)) (λ h. h .1)
+    ∷ lends measured (λ (h : List ℕ × List ℕ). startOf (h .0) (h .1)) (λ h. h .1)
     ∷ answers plain wellMade
     -- play::play, play_run
     ∷ lends Play.paper (λ (h : List ℕ × List ℕ). Play.playOf (h .0) (h .1)) (λ h. h .0)
     ∷ lends runPaper (λ (h : List ℕ × List ℕ × ℕ × List ℕ). runOf (h .0) (h .1) (h .2) (h .3)) (λ h. (h .0, h .3))
     -- page::page_length, save, put_back
-    ∷ answers Save.paper Save.lengthOf
-    ∷ lends Save.paper (λ (h : List ℕ × List ℕ). Save.saveOf (h .0) (h .1)) (λ h. h .1)
-    ∷ lends backPaper (λ (h : List ℕ × List ℕ). putBackOf (h .0) (h .1)) (λ h. h .1)
+    ∷ answers measured lengthOf
+    ∷ lends measured (λ (h : List ℕ × List ℕ). saveOf (h .0) (h .1)) (λ h. h .1)
+    ∷ lends measured (λ (h : List ℕ × List ℕ). putBackOf (h .0) (h .1)) (λ h. h .1)
     -- panel::reading, held_words
     ∷ answers readingPaper (λ (h : List ℕ × ℕ × ℕ). readingOf (h .0) (h .1) (h .2))
-    ∷ lends copiedPaper (λ (h : List ℕ × ℕ × ℕ × List ℕ). heldWordsOf (h .0) (h .1) (h .2) (h .3)) (λ h. h .3)
+    ∷ lends measured (λ (h : List ℕ × ℕ × ℕ × List ℕ). heldWordsOf (h .0) (h .1) (h .2) (h .3)) (λ h. h .3)
     ∷ []

@@ -4,25 +4,23 @@ use mathlib.Core.Path.{_≡_}
 use Prim.Native.Nat.{ℕ, _≤_, _<_}
 use mathlib.Core.List.{List, [], _∷_, _++_, map}
 use lib.ListN.{length, take}
-use Rattle.words.specs.Outcome.{accepted, Meets}
-use Rattle.table.specs.declared.Started.{Started}
+use Rattle.words.specs.declared.Length.{Length}
+use Rattle.words.specs.Outcome.{accepted, measured, Meets}
 use Rattle.table.specs.Layout.{base, recordAt}
-use Rattle.table.specs.Start as Start
+use Rattle.table.specs.Start.{startOf}
 use Rattle.play.specs.declared.Played.{Played}
 use Rattle.play.specs.Play as Play
-use Rattle.page.specs.declared.Saved.{Saved}
-use Rattle.page.specs.declared.PutBack.{PutBack}
-use Rattle.page.specs.Save as Save
-use Rattle.page.specs.PutBack.{putBackOf, backPaper}
+use Rattle.page.specs.Save.{saveOf}
+use Rattle.page.specs.PutBack.{putBackOf}
 use Rattle.demands.specs.Trace.{traceOf, answersAfter}
 use Rattle.demands.specs.Demands.{Right, layoutOf, Altered, ownAnswers}
 
 -- `start` was called with a list and a lent table, was accepted, and left the table t
 pub record StartMade (ids lent t : List ℕ) : Type 0 where
-  pub answer : Started
+  pub answer : Length
   pub says : ℕ
-  pub meets : Meets Start.paper (Start.startOf ids lent) lent answer t
-  pub accepts : Start.paper answer ≡ accepted says
+  pub meets : Meets measured (startOf ids lent) lent answer t
+  pub accepts : measured answer ≡ accepted says
 
 -- `play` was called with each of the packets, one after the other, on a table that was t at first; its answers, and the table at last
 pub data PlaysMade : List ℕ → List (List ℕ) → List Played → List ℕ → Type 0 where
@@ -32,12 +30,12 @@ pub data PlaysMade : List ℕ → List (List ℕ) → List Played → List ℕ �
 
 -- `save` was called with a table and a lent buffer, was accepted, and wrote the page
 pub record SaveMade (t page : List ℕ) : Type 0 where
-  pub answer : Saved
+  pub answer : Length
   pub says : ℕ
   pub lent : List ℕ
   pub left : List ℕ
-  pub meets : Meets Save.paper (Save.saveOf t lent) lent answer left
-  pub accepts : Save.paper answer ≡ accepted says
+  pub meets : Meets measured (saveOf t lent) lent answer left
+  pub accepts : measured answer ≡ accepted says
   pub wrote : page ≡ take says left
 
 -- what the rules say of played packets: the table, and the answers
@@ -50,14 +48,14 @@ pub record Demand3Made : Type 0 where
   pub plays : (ids lent t last : List ℕ) (packets : List (List ℕ)) (answers : List Played) → StartMade ids lent t → PlaysMade t packets answers last
       → Ruled ids [] packets answers last
   -- "Save a page after any packet, put it back where there is room, play the rest"
-  pub resumes : (ids lent t middle page room back last : List ℕ) (first rest : List (List ℕ)) (heard answers : List Played) (r : PutBack)
+  pub resumes : (ids lent t middle page room back last : List ℕ) (first rest : List (List ℕ)) (heard answers : List Played) (r : Length)
       → StartMade ids lent t → PlaysMade t first heard middle → SaveMade middle page
-      → base (length ids) ≤ length room → Meets backPaper (putBackOf page room) room r back → PlaysMade back rest answers last
-      → (backPaper r ≡ accepted (base (length ids))) × Ruled ids first rest answers last
+      → base (length ids) ≤ length room → Meets measured (putBackOf page room) room r back → PlaysMade back rest answers last
+      → (measured r ≡ accepted (base (length ids))) × Ruled ids first rest answers last
   -- "every answer and the final table equal those of the unbroken play"
-  pub unbroken : (ids lent t middle page room back last whole : List ℕ) (first rest : List (List ℕ)) (heard answers all : List Played) (r : PutBack)
+  pub unbroken : (ids lent t middle page room back last whole : List ℕ) (first rest : List (List ℕ)) (heard answers all : List Played) (r : Length)
       → StartMade ids lent t → PlaysMade t first heard middle → SaveMade middle page
-      → base (length ids) ≤ length room → Meets backPaper (putBackOf page room) room r back → PlaysMade back rest answers last
+      → base (length ids) ≤ length room → Meets measured (putBackOf page room) room r back → PlaysMade back rest answers last
       → PlaysMade t (first ++ rest) all whole
       → (layoutOf ids last ≡ layoutOf ids whole) × (map Play.paper all ≡ map Play.paper (heard ++ answers))
   -- "other streams' packets may be altered at will, none becoming this stream's, without altering this stream's answers or record"

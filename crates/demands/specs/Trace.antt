@@ -8,11 +8,12 @@ use mathlib.Core.Option.{Option, none, some}
 use lib.Dec.{eqb, leb}
 use lib.ListN.{length}
 use Rattle.words.specs.Numbers.{STREAM}
-use Rattle.words.specs.Tests.{pick, both, among}
+use Rattle.words.specs.Tests.{pick, both, among, either}
 use Rattle.words.specs.Word.{has}
 use Rattle.words.specs.Part.{part}
 use Rattle.words.specs.All.{firstOf}
 use Rattle.words.specs.Outcome.{Outcome, refused, accepted, onward}
+use Rattle.words.specs.Refusals.{Refusals, firstGiven}
 use Rattle.fields.specs.Layout.{indicatorOf, fieldOf}
 use Rattle.packet.specs.declared.Packet.{Packet}
 use Rattle.packet.specs.Read.{readOf}
@@ -34,12 +35,22 @@ pub record Arrival : Type 0 where
 unfoldable pub placeIn : List ℕ → ℕ → ℕ
 placeIn ids identifier = firstOf (length ids) (λ s. eqb (listed ids s) identifier)
 
--- a packet that was read, to a list. STREAM: "no identifier (types 0, 2), one not declared"; else it is its stream's
+-- STREAM of a packet that was read, to a list: "no identifier (types 0, 2), one not declared"
+abbrev pub arrivalList : List ℕ → Packet → Refusals
+arrivalList ids p = (STREAM, either (among (p .parts .kind) (0 ∷ 2 ∷ [])) (leb (length ids) (placeIn ids (p .parts .identifier)))) ∷ []
+
+-- what that packet is to the list: its stream's, where it has one
 unfoldable pub arrivalOf : List ℕ → List ℕ → Packet → Outcome Arrival
 arrivalOf ids ws p =
-    pick (among (p .parts .kind) (0 ∷ 2 ∷ [])) (refused STREAM)
-    (pick (leb (length ids) (placeIn ids (p .parts .identifier))) (refused STREAM)
-    (accepted (record { stream = placeIn ids (p .parts .identifier); kind = p .parts .kind; count = p .parts .count; size = p .size; body = part (p .body) (p .length) ws })))
+    firstGiven (arrivalList ids p)
+    (accepted
+    (record {
+      stream = placeIn ids (p .parts .identifier);
+      kind = p .parts .kind;
+      count = p .parts .count;
+      size = p .size;
+      body = part (p .body) (p .length) ws;
+    }))
 
 -- what some words are to a list: refused, by reading or with STREAM; or an accepted packet of a stream
 unfoldable pub heardBy : List ℕ → List ℕ → Outcome Arrival

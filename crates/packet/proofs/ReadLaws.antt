@@ -1,33 +1,30 @@
--- What an accepted packet is: the tests of each check were passed (`passed`, one for each line of its chain), and so its parts lie inside the words,
--- its body is as document 01 says, and nothing past its size is looked at. Callers of `read` use these laws and not the definitions' text.
-use mathlib.Core.Path.{_≡_, refl, subst}
-use mathlib.Core.Bool.{Bool, true, false, not}
+-- What an accepted packet is: it passed every test of its list (`first-passed`), and so its parts lie inside the words, its body is as document 01 says, and
+-- nothing past its size is looked at. Callers of `read` use these laws and not the definitions' text.
+use mathlib.Core.Path.{_≡_, refl, ap, subst, _∙_}
 use mathlib.Core.List.{List}
 use Prim.Native.Nat.{ℕ, zero, suc, _+_, _^_, _≤_, _<_}
 use native.Mathlib.Nat.{le-refl, mod-lt}
 use native.Mathlib.Omega.{arith}
+use borrow.Author.Needs.{needs}
 use borrow.Author.Tests.{eq-eqb, ne-eqb, eqb-false, ltb-false}
-use lib.Dec.{eqb, ltb}
+use lib.Dec.{eqb}
 use lib.ListN.{length, getD}
-use Rattle.words.specs.Numbers.{EMPTY, TYPE, BITS, SHORT, CUT, CLASS, TIME, INDICATOR, LAYOUT, FIELD, STREAM}
-use Rattle.words.specs.Tests.{pick}
-use Rattle.words.specs.Outcome.{Outcome, refused, accepted, after}
+use mathlib.Core.Bool.{false}
+use Rattle.words.specs.Numbers.{STREAM}
+use Rattle.words.specs.Outcome.{refused, accepted}
 use Rattle.words.specs.Part.{part}
-use Rattle.words.proofs.Cases.{passed, after-passed, accepted-same}
-use Rattle.words.specs.Word.{bits}
-use Rattle.fields.specs.Layout.{lowBitsSet, otherLength, ruleBroken, contextOf}
+use Rattle.words.proofs.Cases.{accepted-same}
+use Rattle.words.proofs.RefusalLaws.{Numbered, first-passed, none-given, number-among}
+use Rattle.fields.specs.Layout.{contextOf}
 use Rattle.packet.specs.declared.Packet.{Packet}
-use Rattle.packet.specs.Header.{typeOf, reservedOf, tsfOf, sizeOf}
-use Rattle.packet.specs.Parts.{requiredOf, classHigh, fractionOf, partsOf, bodyOf, packetOf}
-use Rattle.packet.specs.Read.{headerChecks, sizeChecks, timeOver, prologueChecks, bodyChecks, checksOf, readOf}
+use Rattle.packet.specs.Header.{typeOf, sizeOf}
+use Rattle.packet.specs.Parts.{requiredOf, partsOf, bodyOf, packetOf}
+use Rattle.packet.specs.Read.{headerList, sizeList, prologueList, bodyList, readList, headerChecks, sizeChecks, prologueChecks, bodyChecks, readOf}
 use Rattle.packet.proofs.RoomLaws.{Room, room}
 
 pub sized : (w n : ℕ) → sizeChecks w n ≡ accepted tt → (requiredOf w ≤ sizeOf w) × (sizeOf w ≤ n)
 unfolding sizeChecks
-sized w n e =
-    let s = passed (ltb (sizeOf w) (requiredOf w)) _ _ tt e in
-    let c = passed (ltb n (sizeOf w)) _ _ tt (s .1) in
-    (ltb-false _ _ (s .0), ltb-false _ _ (c .0))
+sized w n e = let s = first-passed (sizeList w n) _ tt e .0 in (ltb-false _ _ (s .0), ltb-false _ _ (s .1 .0))
 
 -- each group of checks found nothing
 pub record Passed (w : ℕ) (ws : List ℕ) : Type 0 where
@@ -35,14 +32,6 @@ pub record Passed (w : ℕ) (ws : List ℕ) : Type 0 where
   pub size : sizeChecks w (length ws) ≡ accepted tt
   pub prologue : prologueChecks w ws ≡ accepted tt
   pub body : bodyChecks (typeOf w) (bodyOf w ws) ≡ accepted tt
-
-pub checks-passed : (w : ℕ) (ws : List ℕ) → checksOf w ws ≡ accepted tt → Passed w ws
-unfolding checksOf
-checks-passed w ws e =
-    let h = after-passed (headerChecks w) _ tt e in
-    let s = after-passed (sizeChecks w (length ws)) _ tt (h .2) in
-    let p = after-passed (prologueChecks w ws) _ tt (s .2) in
-    record { header = h .1; size = s .1; prologue = p .1; body = p .2 }
 
 -- ---- an accepted packet
 
@@ -53,20 +42,39 @@ pub record Accepts (ws : List ℕ) (p : Packet) : Type 0 where
   pub says : packetOf (getD ws 0 0) ws ≡ p
 
 pub read-accepts : (ws : List ℕ) (p : Packet) → readOf ws ≡ accepted p → Accepts ws p
-unfolding readOf
+unfolding readOf headerChecks sizeChecks prologueChecks bodyChecks
 read-accepts ws p e =
-    let n = passed (eqb (length ws) 0) _ _ p e in
-    let k = after-passed (checksOf (getD ws 0 0) ws) _ p (n .1) in
-    record { some = nonzero (length ws) (n .0); passes = checks-passed (getD ws 0 0) ws (k .1); says = accepted-same (k .2) }
+    let w = getD ws 0 0 in
+    let a = first-passed (readList w ws) _ p e in
+    let t = a .0 .1 in
+    let s = t .1 .1 in
+    let c = s .1 .1 in
+    record {
+      some = nonzero (length ws) (a .0 .0);
+      passes = record {
+        header = none-given (headerList w) _ (t .0, (t .1 .0, tt));
+        size = none-given (sizeList w (length ws)) _ (s .0, (s .1 .0, tt));
+        prologue = none-given (prologueList w ws) _ (c .0, (c .1 .0, tt));
+        body = none-given (bodyList (typeOf w) (bodyOf w ws)) _ (c .1 .1);
+      };
+      says = accepted-same (a .1);
+    }
   where
     nonzero : (n : ℕ) → eqb n 0 ≡ false → 0 < n
     nonzero zero e = absurd (eqb-false 0 0 e refl)
     nonzero (suc n) e = omega arith
 
 -- and the other way round: words that pass are accepted
-pub accepts-read : (ws : List ℕ) (p : Packet) → 0 < length ws → checksOf (getD ws 0 0) ws ≡ accepted tt → packetOf (getD ws 0 0) ws ≡ p → readOf ws ≡ accepted p
-unfolding readOf
-accepts-read ws p h c e = rw (ne-eqb (length ws) 0 (omega arith), c, e)
+pub accepts-read : (ws : List ℕ) (p : Packet) → 0 < length ws → Passed (getD ws 0 0) ws → packetOf (getD ws 0 0) ws ≡ p → readOf ws ≡ accepted p
+unfolding readOf headerChecks sizeChecks prologueChecks bodyChecks
+accepts-read ws p h c e =
+    let w = getD ws 0 0 in
+    rw (ne-eqb (length ws) 0 (omega arith))
+    (none-given (headerList w) _ (first-passed (headerList w) _ tt (c .header) .0)
+    ∙ none-given (sizeList w (length ws)) _ (first-passed (sizeList w (length ws)) _ tt (c .size) .0)
+    ∙ none-given (prologueList w ws) _ (first-passed (prologueList w ws) _ tt (c .prologue) .0)
+    ∙ none-given (bodyList (typeOf w) (bodyOf w ws)) _ (first-passed (bodyList (typeOf w) (bodyOf w ws)) _ tt (c .body) .0)
+    ∙ ap accepted e)
 
 module _ (ws : List ℕ) (p : Packet) (e : readOf ws ≡ accepted p) where
   read-room : Room (getD ws 0 0) (sizeOf (getD ws 0 0))
@@ -94,7 +102,7 @@ module _ (ws : List ℕ) (p : Packet) (e : readOf ws ≡ accepted p) where
 
   -- a type 4 body is as document 01 says: its layout and its rules hold
   pub body-context : p .parts .kind ≡ 4 → contextOf (part (p .body) (p .length) ws) ≡ accepted tt
-  unfolding packetOf partsOf bodyOf bodyChecks
+  unfolding packetOf partsOf bodyOf bodyChecks contextOf
   body-context k =
       let a = read-accepts ws p e in
       let t : typeOf (getD ws 0 0) ≡ 4 = rw (← a .says) at k in
@@ -113,64 +121,6 @@ module _ (ws : List ℕ) (p : Packet) (e : readOf ws ≡ accepted p) where
 -- ---- the numbers of reading
 
 -- a refusal's number is below STREAM's
-abbrev Low : {A : Type 0} → Outcome A → Type 0
-Low (refused n) = n < STREAM
-Low (accepted a) = Unit
-
-low-test : {A : Type 0} (t : Bool) (n : ℕ) (o : Outcome A) → n < STREAM → Low o → Low (pick t (refused n) o)
-low-test true n o h l = h
-low-test false n o h l = l
-
-abbrev fine : Outcome Unit
-fine = accepted tt
-
-low-two : (s t : Bool) (k m : ℕ) → k < STREAM → m < STREAM → Low (pick s (refused k) (pick t (refused m) fine))
-low-two s t k m h g = low-test s k (pick t (refused m) fine) h (low-test t m fine g tt)
-
-low-after : {A B : Type 0} (o : Outcome B) (r : Outcome A) → Low o → Low r → Low (after o r)
-low-after (refused n) r h l = h
-low-after (accepted b) r h l = l
-
-header-low : (w : ℕ) → Low (headerChecks w)
-unfolding headerChecks
-header-low w = low-two (ltb 5 (typeOf w)) (not (eqb (reservedOf w) 0)) TYPE BITS (omega arith) (omega arith)
-
-size-low : (w n : ℕ) → Low (sizeChecks w n)
-unfolding sizeChecks
-size-low w n = low-two (ltb (sizeOf w) (requiredOf w)) (ltb n (sizeOf w)) SHORT CUT (omega arith) (omega arith)
-
-prologue-low : (w : ℕ) (ws : List ℕ) → Low (prologueChecks w ws)
-unfolding prologueChecks
-prologue-low w ws = low-two (not (eqb (bits 31 24 (classHigh w ws)) 0)) (timeOver (tsfOf w) (fractionOf w ws)) CLASS TIME (omega arith) (omega arith)
-
-context-low : (body : List ℕ) → Low (contextOf body)
-unfolding contextOf
-context-low body =
-    low-test (lowBitsSet body) INDICATOR (pick (otherLength body) (refused LAYOUT) (pick (ruleBroken body) (refused FIELD) (accepted tt))) (omega arith)
-    (low-two (otherLength body) (ruleBroken body) LAYOUT FIELD (omega arith) (omega arith))
-
-body-low : (kind : ℕ) (body : List ℕ) → Low (bodyChecks kind body)
-unfolding bodyChecks
-body-low kind body = low-either (eqb kind 4) (contextOf body) (context-low body)
-  where
-    low-either : (t : Bool) (o : Outcome Unit) → Low o → Low (pick t o (accepted tt))
-    low-either true o l = l
-    low-either false o l = tt
-
-checks-low : (w : ℕ) (ws : List ℕ) → Low (checksOf w ws)
-unfolding checksOf
-checks-low w ws =
-    let b : Outcome Unit = bodyChecks (typeOf w) (bodyOf w ws) in
-    let p : Outcome Unit = after (prologueChecks w ws) b in
-    low-after (headerChecks w) (after (sizeChecks w (length ws)) p) (header-low w)
-    (low-after (sizeChecks w (length ws)) p (size-low w (length ws))
-    (low-after (prologueChecks w ws) b (prologue-low w ws) (body-low (typeOf w) (bodyOf w ws))))
-
-read-low : (ws : List ℕ) → Low (readOf ws)
-unfolding readOf
-read-low ws =
-    let o : Outcome Packet = after (checksOf (getD ws 0 0) ws) (accepted (packetOf (getD ws 0 0) ws)) in
-    low-test (eqb (length ws) 0) EMPTY o (omega arith) (low-after (checksOf (getD ws 0 0) ws) (accepted (packetOf (getD ws 0 0) ws)) (checks-low (getD ws 0 0) ws) tt)
-
 pub read-number : (ws : List ℕ) (n : ℕ) → readOf ws ≡ refused n → n < STREAM
-read-number ws n e = subst Low e (read-low ws)
+unfolding readOf
+read-number ws n e = subst (Numbered (λ k. k < STREAM)) e (number-among (λ k. k < STREAM) (readList (getD ws 0 0) ws) _ (search needs) tt)

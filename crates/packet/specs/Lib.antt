@@ -6,5 +6,3 @@ pub mod Header
 pub mod Parts
 -- what reading answers
 pub mod Read
--- what reading refuses before it looks at a body
-pub mod Front

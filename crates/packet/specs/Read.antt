@@ -2,63 +2,71 @@
 -- ignored." w is the header word, ws the words that were handed in.
 use Prim.Native.Nat.{ℕ, _^_}
 use mathlib.Core.Bool.{Bool, not}
-use mathlib.Core.List.{List}
+use mathlib.Core.List.{List, [], _∷_, _++_}
 use lib.Dec.{eqb, ltb, leb}
 use lib.ListN.{length, getD}
-use Rattle.words.specs.Numbers.{EMPTY, TYPE, BITS, SHORT, CUT, CLASS, TIME}
-use Rattle.words.specs.Tests.{pick, both}
+use Rattle.words.specs.Numbers.{EMPTY, TYPE, BITS, SHORT, CUT, CLASS, TIME, INDICATOR, LAYOUT, FIELD}
+use Rattle.words.specs.Tests.{both}
 use Rattle.words.specs.Word.{bits}
-use Rattle.words.specs.Outcome.{Outcome, refused, accepted, after}
-use Rattle.fields.specs.Layout.{contextOf}
+use Rattle.words.specs.Outcome.{Outcome, refused, accepted}
+use Rattle.words.specs.Refusals.{Refusals, firstGiven}
+use Rattle.fields.specs.Layout.{lowBitsSet, otherLength, ruleBroken}
 use Rattle.packet.specs.Header.{typeOf, reservedOf, tsfOf, sizeOf}
 use Rattle.packet.specs.Parts.{requiredOf, classHigh, fractionOf, bodyOf, packetOf}
 use Rattle.packet.specs.declared.Packet.{Packet}
 use Rattle.packet.specs.declared.Parsed.{Parsed}
 use Rattle.packet.specs.declared.Parsed.the-variants.{Accepted, Refused}
 
--- TYPE: "type above 5"; BITS: "reserved header bit set"
-unfoldable pub headerChecks : ℕ → Outcome Unit
-headerChecks w =
-    pick (ltb 5 (typeOf w)) (refused TYPE)
-    (pick (not (eqb (reservedOf w) 0)) (refused BITS)
-    (accepted tt))
+-- "type above 5"; "reserved header bit set"
+abbrev pub headerList : ℕ → Refusals
+headerList w = (TYPE, ltb 5 (typeOf w)) ∷ (BITS, not (eqb (reservedOf w) 0)) ∷ []
 
--- SHORT: "size below the required parts"; CUT: "size exceeds the words given"
-unfoldable pub sizeChecks : ℕ → ℕ → Outcome Unit
-sizeChecks w given =
-    pick (ltb (sizeOf w) (requiredOf w)) (refused SHORT)
-    (pick (ltb given (sizeOf w)) (refused CUT)
-    (accepted tt))
+-- "size below the required parts"; "size exceeds the words given"
+abbrev pub sizeList : ℕ → ℕ → Refusals
+sizeList w given = (SHORT, ltb (sizeOf w) (requiredOf w)) ∷ (CUT, ltb given (sizeOf w)) ∷ []
 
 -- "TSF is 2 and the fraction is 10^12 or more"
 unfoldable pub timeOver : ℕ → ℕ → Bool
 timeOver tsf fraction = both (eqb tsf 2) (leb (10 ^ 12) fraction)
 
--- CLASS: "top eight class bits not zero"; TIME: "TSF is 2 and the fraction is 10^12 or more"
+-- "top eight class bits not zero"; "TSF is 2 and the fraction is 10^12 or more"
+abbrev pub prologueList : ℕ → List ℕ → Refusals
+prologueList w ws = (CLASS, not (eqb (bits 31 24 (classHigh w ws)) 0)) ∷ (TIME, timeOver (tsfOf w) (fractionOf w ws)) ∷ []
+
+-- of type 4, "bits 7-0 not zero"; "fields need more or fewer words than the body has"; "a field rule is broken"
+abbrev pub bodyList : ℕ → List ℕ → Refusals
+bodyList kind body =
+    (INDICATOR, both (eqb kind 4) (lowBitsSet body)) ∷ (LAYOUT, both (eqb kind 4) (otherLength body)) ∷ (FIELD, both (eqb kind 4) (ruleBroken body)) ∷ []
+
+-- those that look at no body, of words whose header is w
+abbrev pub frontList : ℕ → List ℕ → Refusals
+frontList w ws = ((EMPTY, eqb (length ws) 0) ∷ []) ++ headerList w ++ sizeList w (length ws) ++ prologueList w ws
+
+-- what each step of reading finds
+unfoldable pub headerChecks : ℕ → Outcome Unit
+headerChecks w = firstGiven (headerList w) (accepted tt)
+
+unfoldable pub sizeChecks : ℕ → ℕ → Outcome Unit
+sizeChecks w given = firstGiven (sizeList w given) (accepted tt)
+
 unfoldable pub prologueChecks : ℕ → List ℕ → Outcome Unit
-prologueChecks w ws =
-    pick (not (eqb (bits 31 24 (classHigh w ws)) 0)) (refused CLASS)
-    (pick (timeOver (tsfOf w) (fractionOf w ws)) (refused TIME)
-    (accepted tt))
+prologueChecks w ws = firstGiven (prologueList w ws) (accepted tt)
 
--- INDICATOR, LAYOUT and FIELD, of the body of a type 4 packet
 unfoldable pub bodyChecks : ℕ → List ℕ → Outcome Unit
-bodyChecks kind body = pick (eqb kind 4) (contextOf body) (accepted tt)
+bodyChecks kind body = firstGiven (bodyList kind body) (accepted tt)
 
--- all checks of words whose header is w, in their order
-unfoldable pub checksOf : ℕ → List ℕ → Outcome Unit
-checksOf w ws =
-    after (headerChecks w)
-    (after (sizeChecks w (length ws))
-    (after (prologueChecks w ws)
-    (bodyChecks (typeOf w) (bodyOf w ws))))
+unfoldable pub headedChecks : ℕ → List ℕ → Outcome Unit
+headedChecks w ws = firstGiven (headerList w ++ sizeList w (length ws) ++ prologueList w ws) (accepted tt)
+
+unfoldable pub frontChecks : List ℕ → Outcome Unit
+frontChecks ws = firstGiven (frontList (getD ws 0 0) ws) (accepted tt)
 
 -- what reading answers
+abbrev pub readList : ℕ → List ℕ → Refusals
+readList w ws = frontList w ws ++ bodyList (typeOf w) (bodyOf w ws)
+
 unfoldable pub readOf : List ℕ → Outcome Packet
-readOf ws =
-    pick (eqb (length ws) 0) (refused EMPTY)
-    (after (checksOf (getD ws 0 0) ws)
-    (accepted (packetOf (getD ws 0 0) ws)))
+readOf ws = firstGiven (readList (getD ws 0 0) ws) (accepted (packetOf (getD ws 0 0) ws))
 
 -- the number and values of an answer
 abbrev pub paper : Parsed → Outcome Packet

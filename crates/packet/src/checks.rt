@@ -5,8 +5,7 @@ ghost use lib.ListN.{length};
 ghost use Rattle.words.specs.Outcome.{checked};
 ghost use Rattle.packet.specs.Header.{typeOf, sizeOf};
 ghost use Rattle.packet.specs.Parts.{requiredOf, bodyOf};
-ghost use Rattle.packet.specs.Front.{headedChecks, frontChecks};
-ghost use Rattle.packet.specs.Read.{headerChecks, sizeChecks, timeOver, prologueChecks, bodyChecks};
+ghost use Rattle.packet.specs.Read.{headerChecks, sizeChecks, timeOver, prologueChecks, bodyChecks, headedChecks, frontChecks};
 
 // TYPE and BITS.
 fn check_header(w: u32) -> words::Check

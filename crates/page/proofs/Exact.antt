@@ -1,17 +1,18 @@
 -- Saving and putting back. The idea: at each stream `record-body` and `body-record` say that record and body give each other, and the layouts of page and
 -- table give back their pieces; so a well-made table is got back from its page (`table-back`), a page that passes the tests is that of the table put back
--- from it (`page-back`), and the tests accept exactly the pages that well-made tables save (`page-exact`).
+-- from it (`page-back`), and the tests pass exactly the well-made pages (`page-tested`), those that well-made
+-- tables save (`page-exact`).
 use mathlib.Core.Path.{_≡_, sym, ap, _∙_}
 use mathlib.Core.Bool.{Bool, true}
 use mathlib.Core.Logic.{_↔_}
-use mathlib.Core.List.{List, [], _++_}
+use mathlib.Core.List.{List, [], _++_, append-nil}
 use Prim.Native.Nat.{ℕ, _+_, _<_}
 use native.Mathlib.Nat.{add-zero}
 use native.Mathlib.Omega.{arith}
 use lib.ListN.{length, getD, take, length-append}
-use Rattle.words.specs.Tests.{both}
+use Rattle.words.specs.Tests.{both, sameWords}
 use Rattle.words.specs.All.{all}
-use Rattle.words.proofs.Cases.{both-left, both-right, both-true}
+use Rattle.words.proofs.Cases.{same-test, both-left, both-right, both-true, same-words, words-same}
 use Rattle.words.proofs.AllLaws.{all-at, all-intro}
 use Rattle.record.specs.Layout.{headWords, recordWords, identifierOf, heldOf}
 use Rattle.record.specs.Good.{recordGood}
@@ -24,7 +25,8 @@ use Rattle.table.proofs.ListLaws.{list-same}
 use Rattle.table.proofs.WellLaws.{layout-has, well-whole, well-list, well-few, well-record, well-from}
 use Rattle.page.specs.Body.{bodyOf, bodyWords, recordOf}
 use Rattle.page.specs.Layout.{pageFrom, savedBody, pageOf, bodiesIn, offsetAt, bodyAt, savedRecord, tableFrom, tableOf}
-use Rattle.page.specs.Good.{contentsGood, identifierAt, recordGoodIn, pageOk, GoodContents}
+use Rattle.page.specs.Good.{pageGood}
+use Rattle.page.specs.inner.Tested.{contentsGood, identifierAt, recordGoodIn, pageOk, GoodContents}
 use Rattle.page.proofs.BodyLaws.{body-word, record-word, good-within, body-length, record-body, body-some, record-length, body-record}
 use Rattle.page.proofs.LayoutLaws.{body-in, page-same, page-again, table-length, record-in, table-same, table-again}
 use Rattle.page.proofs.ContentsLaws.{contents-of, of-contents, page-contents, word-in, body-words}
@@ -144,8 +146,26 @@ module _ (p : List ℕ) (e : pageOk p ≡ true) where
 
 -- ---- "A page is well made when some well-made table saves exactly its words"
 
-pub page-exact : (p : List ℕ) → (pageOk p ≡ true) ↔ ((t : List ℕ) × (wellMade t ≡ true) × (pageOf t ≡ p))
+ok-good : (p : List ℕ) → pageOk p ≡ true → pageGood p ≡ true
+unfolding pageGood
+ok-good p e =
+    let whole : tableOf p ++ [] ≡ tableOf p = append-nil (tableOf p) in
+    let back : pageOf (tableOf p) ≡ p = rw whole at (page-back p e []) in
+    both-true (wellMade (tableOf p)) (sameWords (pageOf (tableOf p)) p) (rw whole at (table-well p e [])) (rw back (words-same p))
+
+good-ok : (p : List ℕ) → pageGood p ≡ true → pageOk p ≡ true
+unfolding pageGood
+good-ok p g =
+    let same = sameWords (pageOf (tableOf p)) p in
+    let back = same-words (pageOf (tableOf p)) p (both-right (wellMade (tableOf p)) same g) in
+    sym (ap pageOk back) ∙ page-passes (tableOf p) (both-left (wellMade (tableOf p)) same g)
+
+-- the tests pass exactly the well-made pages
+pub page-tested : (p : List ℕ) → pageOk p ≡ pageGood p
+page-tested p = same-test (pageOk p) (pageGood p) (ok-good p) (good-ok p)
+
+pub page-exact : (p : List ℕ) → (pageGood p ≡ true) ↔ ((t : List ℕ) × (wellMade t ≡ true) × (pageOf t ≡ p))
 page-exact p = (
-  λ e. (tableOf p ++ [], table-well p e [], page-back p e []),
-  λ x. ap pageOk (sym (x .2)) ∙ page-passes (x .0) (x .1),
+  λ e. let ok = page-tested p ∙ e in (tableOf p ++ [], table-well p ok [], page-back p ok []),
+  λ x. sym (page-tested p) ∙ ap pageOk (sym (x .2)) ∙ page-passes (x .0) (x .1),
 )

@@ -9,13 +9,15 @@ use borrow.Author.Tests.{lt-ltb, le-ltb}
 use lib.Bits.{bitAnd}
 use lib.ListN.{length, take, drop, set, replicate, length-replicate}
 use Rattle.words.specs.Numbers.{PAGE, ROOM}
-use Rattle.words.specs.Outcome.{Meets}
+use Rattle.words.specs.declared.Length.the-variants.{Accepted, Refused}
+use Rattle.words.specs.Outcome.{measured, Meets}
 use Rattle.words.specs.Tests.{pick}
 use Rattle.words.specs.Word.{has}
 use Rattle.words.specs.SetBits.{bitsOf}
 use Rattle.words.specs.Part.{part, put}
 use Rattle.words.specs.Laid.{Laid}
 use Rattle.words.proofs.LaidLaws.{then, laid-length}
+use Rattle.words.proofs.RefusalLaws.{meets-refused, meets-length}
 use Rattle.words.proofs.PartLaws.{seen, lent-to, put-at, part-length, part-past, part-whole}
 use Rattle.fields.specs.Sizes.{sizeOf, sizesOf}
 use Rattle.record.specs.Held.{heldMask, holds, heldBits}
@@ -28,12 +30,11 @@ use Rattle.table.specs.Layout.{base, Has, withRecord}
 use Rattle.page.specs.Joined.{joined}
 use Rattle.page.specs.Body.{bodyWords, recordOf}
 use Rattle.page.specs.Layout.{bodiesIn, offsetAt, lengthAt, bodyAt, savedRecord, tableFrom, tableOf}
-use Rattle.page.specs.Good.{contentsGood, pageOk}
-use Rattle.page.specs.PutBack.{putBackOf, backPaper}
-use Rattle.page.specs.declared.PutBack.the-variants.{Accepted, Refused}
+use Rattle.page.specs.inner.Tested.{contentsGood, pageOk}
+use Rattle.page.specs.PutBack.{putBackOf}
 use Rattle.page.proofs.BodyLaws.{body-some, record-length}
 use Rattle.page.proofs.ContentsLaws.{contents-of, body-words}
-use Rattle.page.proofs.Exact.{ok-tested, back-length}
+use Rattle.page.proofs.Exact.{ok-tested, back-length, page-tested}
 use Rattle.page.proofs.WriteLaws.{laid-part, laid-one, laid-none, laid-next, laid-front}
 
 -- zeroed words for a record
@@ -58,7 +59,13 @@ module _ (n : ℕ) (b : List ℕ) (e : n ≡ heldOf b) (l : length b ≡ bodyWor
   fields-inside x y =
       let o : holds x ≡ true = within-holds (bitAnd n heldMask) (masked-within n) x y in
       let h : has n x ≡ true = sym (masked-has n x o) ∙ y in
-      omega (arith, l, ap (λ (k : ℕ). sizesOf (bitsOf 31 k)) e, placed-inside 31 n x (held-high x o) h, ap sizesOf (masked-place n x (omega (arith, held-low x o))))
+      omega (
+        arith,
+        l,
+        ap (λ (k : ℕ). sizesOf (bitsOf 31 k)) e,
+        placed-inside 31 n x (held-high x o) h,
+        ap sizesOf (masked-place n x (omega (arith, held-low x o))),
+      )
 
   -- zeroed words with the body's first words
   begun-is : put 0 headWords (part 0 headWords b) (replicate recordWords 0) ≡ part 0 headWords b ++ replicate slotWords 0
@@ -78,7 +85,8 @@ module _ (n : ℕ) (b : List ℕ) (e : n ≡ heldOf b) (l : length b ≡ bodyWor
     first-put : rec ≡ put 0 headWords (part 0 headWords b) (replicate recordWords 0)
     first-put = y ∙ ap (put 0 headWords (part 0 headWords b)) z
 
-    pub refill-asks : (length (take (recordWords - headWords) (drop headWords rec)) ≡ slotWords) × (bitAnd (bitAnd n heldMask) heldMask ≡ bitAnd n heldMask) × Inside (bitAnd n heldMask) headWords b
+    pub refill-asks : (length (take (recordWords - headWords) (drop headWords rec)) ≡ slotWords)
+        × (bitAnd (bitAnd n heldMask) heldMask ≡ bitAnd n heldMask) × Inside (bitAnd n heldMask) headWords b
     refill-asks = (
       ap length (seen headWords recordWords slotWords rec refl ∙ ap (part headWords slotWords) first-put ∙ slots-blank) ∙ length-replicate {A = ℕ} slotWords 0,
       masked-within n,
@@ -90,10 +98,13 @@ module _ (n : ℕ) (b : List ℕ) (e : n ≡ heldOf b) (l : length b ≡ bodyWor
     unfolding recordOf
     filled-record last g =
         lent-to headWords recordWords slotWords (refilled (bitAnd n heldMask) headWords b) last rec refl g
-        ∙ ap₂ (λ (s r : List ℕ). put headWords slotWords (refilled (bitAnd n heldMask) headWords b s) r) (ap (part headWords slotWords) first-put ∙ slots-blank) (first-put ∙ begun-is)
-        ∙ put-at headWords slotWords (part 0 headWords b) (replicate slotWords 0) (refilled (bitAnd n heldMask) headWords b (replicate slotWords 0)) front-length
+        ∙ ap₂ (λ (s r : List ℕ). put headWords slotWords (refilled (bitAnd n heldMask) headWords b s) r)
+        (ap (part headWords slotWords) first-put ∙ slots-blank) (first-put ∙ begun-is)
+        ∙ put-at headWords slotWords (part 0 headWords b) (replicate slotWords 0)
+        (refilled (bitAnd n heldMask) headWords b (replicate slotWords 0)) front-length
         ∙ ap (λ (s : List ℕ). part 0 headWords b ++ s)
-        (append-nil (refilled (bitAnd n heldMask) headWords b (replicate slotWords 0)) ∙ refilled-masked n headWords b (replicate slotWords 0) ∙ ap (λ (k : ℕ). refilled k headWords b (replicate slotWords 0)) e)
+        (append-nil (refilled (bitAnd n heldMask) headWords b (replicate slotWords 0)) ∙ refilled-masked n headWords b (replicate slotWords 0)
+        ∙ ap (λ (k : ℕ). refilled k headWords b (replicate slotWords 0)) e)
 
 -- ---- the record of body s, which begins at the place at and has l words
 
@@ -114,7 +125,8 @@ module _ (p : List ℕ) (s : ℕ) (c : contentsGood p ≡ true) (h : s < bodiesI
   pub load-asks : (body : List ℕ) → body ≡ bodyAt p s → length body ≡ bodyWords (heldOf body)
   load-asks body e = rw e (body-words p (contents-of p c) s h)
 
-  pub put-record : (body rec t after : List ℕ) → body ≡ bodyAt p s → rec ≡ recordOf body → after ≡ put (base s) recordWords (part 0 recordWords rec) t → after ≡ withRecord s (savedRecord p s) t
+  pub put-record : (body rec t after : List ℕ) → body ≡ bodyAt p s → rec ≡ recordOf body → after ≡ put (base s) recordWords (part 0 recordWords rec) t
+      → after ≡ withRecord s (savedRecord p s) t
   unfolding withRecord savedRecord
   put-record body rec t after b e f =
       f ∙ ap (λ (r : List ℕ). put (base s) recordWords r t) (ap (part 0 recordWords) (e ∙ ap recordOf b) ∙ rw loaded-length at (part-whole (savedRecord p s)))
@@ -128,7 +140,8 @@ pub record Putting (p before after : List ℕ) (n s : ℕ) : Type 0 where
 pub putting-start : (p before : List ℕ) (n : ℕ) → Putting p before before n 0
 putting-start p before n = record { most = omega arith; laid = laid-none before 1 (savedRecord p) }
 
-module _ (p before after : List ℕ) (n s : ℕ) (w : pageOk p ≡ true) (e : n ≡ bodiesIn p) (l : base (bodiesIn p) ≤ length before) (q : Putting p before after n s) where
+module _ (p before after : List ℕ) (n s : ℕ) (w : pageOk p ≡ true) (e : n ≡ bodiesIn p) (l : base (bodiesIn p) ≤ length before)
+    (q : Putting p before after n s) where
   pub putting-asks : s < n → (contentsGood p ≡ true) × (s < bodiesIn p) × Has s after
   putting-asks g = (ok-tested p w, omega arith, omega (arith, laid-length (q .laid)))
 
@@ -139,7 +152,8 @@ module _ (p before after : List ℕ) (n s : ℕ) (w : pageOk p ≡ true) (e : n 
       let i : base s + recordWords ≡ base (s + 1) = omega arith in
       record {
         most = omega arith;
-        laid = laid-next s (savedRecord p) (q .laid) (rw i at (laid-part after (savedRecord p s) after′ (base s) recordWords (loaded-length p s (a .0) (a .1)) (a .2) f));
+        laid = laid-next s (savedRecord p) (q .laid)
+            (rw i at (laid-part after (savedRecord p s) after′ (base s) recordWords (loaded-length p s (a .0) (a .1)) (a .2) f));
       }
 
 -- S and the records are the table
@@ -156,15 +170,16 @@ table-laid p t after n s w e l q h =
 -- ---- the answers
 
 module _ (p t : List ℕ) where
-  pub back-ill : pageOk p ≡ false → Meets backPaper (putBackOf p t) t (Refused PAGE) t
+  pub back-ill : pageOk p ≡ false → Meets measured (putBackOf p t) t (Refused PAGE) t
   unfolding putBackOf
-  back-ill w = record { answer = rw w; buffer = rw w }
+  back-ill w = meets-refused (rw (← page-tested p, w))
 
   module _ (w : pageOk p ≡ true) (n : ℕ) (e : n ≡ bodiesIn p) where
-    pub back-short : length t < base n → Meets backPaper (putBackOf p t) t (Refused ROOM) t
+    pub back-short : length t < base n → Meets measured (putBackOf p t) t (Refused ROOM) t
     unfolding putBackOf
-    back-short h = record { answer = rw (w, ← e, lt-ltb (length t) (base n) h); buffer = rw (w, ← e, lt-ltb (length t) (base n) h) }
+    back-short h = meets-refused (rw (← page-tested p, w, ← e, lt-ltb (length t) (base n) h))
 
-    pub back-made : (after : List ℕ) → base n ≤ length t → after ≡ tableOf p ++ drop (base (bodiesIn p)) t → Meets backPaper (putBackOf p t) t (Accepted (base n)) after
+    pub back-made : (after : List ℕ) → base n ≤ length t → after ≡ tableOf p ++ drop (base (bodiesIn p)) t
+        → Meets measured (putBackOf p t) t (Accepted (base n)) after
     unfolding putBackOf
-    back-made after h f = record { answer = rw (w, ← e, le-ltb (length t) (base n) h); buffer = rw (w, ← e, le-ltb (length t) (base n) h) (f ∙ rw e) }
+    back-made after h f = meets-length (rw (← page-tested p, w, ← e, le-ltb (length t) (base n) h)) f

@@ -11,11 +11,11 @@ use Rattle.words.specs.Outcome.{accepted}
 use Rattle.table.specs.Layout.{streamsOf, base}
 use Rattle.table.specs.Well.{wellMade}
 use Rattle.page.specs.Layout.{pageFrom, pageOf, pageLength, tableOf}
-use Rattle.page.specs.Good.{pageOk}
+use Rattle.page.specs.Good.{pageGood}
 use Rattle.page.specs.Save.{saveOf}
 use Rattle.page.specs.PutBack.{putBackOf}
 use Rattle.page.proofs.Bounds.{page-small, page-whole}
-use Rattle.page.proofs.Exact.{table-back, page-passes, table-well, page-back}
+use Rattle.page.proofs.Exact.{table-back, page-passes, table-well, page-back, page-tested}
 
 -- every well-made table is saved where there is room
 pub save-accepted : (t page : List ℕ) → wellMade t ≡ true → pageLength t ≤ length page
@@ -27,13 +27,14 @@ save-accepted t page w h = rw (w, le-ltb 65535 (pageLength t) (omega (arith, pag
 pub put-back-saved : (t lent : List ℕ) → wellMade t ≡ true → base (streamsOf t) ≤ length lent
     → putBackOf (pageOf t) lent ≡ accepted (record { says = base (streamsOf t); leaves = take (base (streamsOf t)) t ++ drop (base (streamsOf t)) lent })
 unfolding putBackOf pageOf pageFrom
-put-back-saved t lent w h = rw (page-passes t w, le-ltb (length lent) (base (streamsOf t)) h, table-back t w)
+put-back-saved t lent w h = rw (← page-tested _, page-passes t w, le-ltb (length lent) (base (streamsOf t)) h, table-back t w)
 
 -- save after put back is the same page, whatever follows the layout
-pub saved-put-back : (p rest page : List ℕ) → pageOk p ≡ true → length p ≤ length page
+pub saved-put-back : (p rest page : List ℕ) → pageGood p ≡ true → length p ≤ length page
     → saveOf (tableOf p ++ rest) page ≡ accepted (record { says = length p; leaves = p ++ drop (length p) page })
 saved-put-back p rest page e h =
-    let w = table-well p e rest in
-    let b : pageOf (tableOf p ++ rest) ≡ p = page-back p e rest in
+    let ok = page-tested p ∙ e in
+    let w = table-well p ok rest in
+    let b : pageOf (tableOf p ++ rest) ≡ p = page-back p ok rest in
     let l : pageLength (tableOf p ++ rest) ≡ length p = sym (page-whole (tableOf p ++ rest) w) ∙ ap length b in
     save-accepted (tableOf p ++ rest) page w (omega (arith, l)) ∙ rw (l, b)

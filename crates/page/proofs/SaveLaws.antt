@@ -2,7 +2,7 @@
 -- the pairs and the bodies are pieces laid one after the other (`Pairing`, `Laying`), in one pass: a pair stands before the bodies, so writing it leaves them
 -- (`Writing`).
 use mathlib.Core.Path.{_≡_, refl, sym, ap, ap₂, _∙_}
-use mathlib.Core.Bool.{Bool, true, false, not}
+use mathlib.Core.Bool.{true, false}
 use mathlib.Core.List.{List, [], _∷_, _++_}
 use Prim.Native.Nat.{ℕ, _+_, _-_, _*_, _≤_, _<_}
 use native.Mathlib.Numerals.{add-one}
@@ -12,12 +12,14 @@ use lib.Bits.{bitAnd}
 use lib.Dec.{ltb}
 use lib.ListN.{length, getD, take, drop, set}
 use Rattle.words.specs.Numbers.{TABLE, SIZE, ROOM}
-use Rattle.words.specs.Tests.{pick}
-use Rattle.words.specs.Outcome.{Outcome, refused, accepted, numberOf, Done, saidOf, leftOf, Meets}
+use Rattle.words.specs.declared.Length.{Length}
+use Rattle.words.specs.declared.Length.the-variants.{Accepted, Refused}
+use Rattle.words.specs.Outcome.{refused, accepted, measured, Meets}
 use Rattle.words.specs.Part.{part, put}
 use Rattle.words.specs.SetBits.{bitsOf}
 use Rattle.words.specs.Laid.{Laid}
-use Rattle.words.proofs.Cases.{passed, accepted-same}
+use Rattle.words.proofs.Cases.{accepted-same}
+use Rattle.words.proofs.RefusalLaws.{first-passed, first-refused, meets-refused, meets-length}
 use Rattle.words.proofs.LaidLaws.{then, laid-length}
 use Rattle.words.proofs.PartLaws.{seen, getD-part, part-length}
 use Rattle.fields.specs.Sizes.{sizesOf}
@@ -32,9 +34,7 @@ use Rattle.table.proofs.WellLaws.{layout-has, well-whole, well-record}
 use Rattle.page.specs.Joined.{joined}
 use Rattle.page.specs.Body.{bodyOf, bodyWords}
 use Rattle.page.specs.Layout.{offsetOf, pairOf, pageFrom, savedBody, pairsOf, bodiesOf, bodiesFrom, pageOf, pageLength}
-use Rattle.page.specs.Save.{lengthOf, saveOf, paper}
-use Rattle.page.specs.declared.Saved.{Saved}
-use Rattle.page.specs.declared.Saved.the-variants.{Accepted, Refused}
+use Rattle.page.specs.Save.{lengthList, lengthOf, saveOf}
 use Rattle.page.proofs.BodyLaws.{good-within, body-length}
 use Rattle.page.proofs.LayoutLaws.{offset-first, offset-next, offset-inside}
 use Rattle.page.proofs.Bounds.{page-between, page-small, page-whole}
@@ -100,7 +100,8 @@ module _ (r page : List ℕ) (at : ℕ) (l : length r ≡ recordWords) (g : reco
   slots-seen = seen headWords recordWords slotWords r refl
 
   pub squeeze-asks : (page′ : List ℕ) → page′ ≡ put at headWords (part 0 headWords r) page
-      → (length (take (recordWords - headWords) (drop headWords r)) ≡ slotWords) × (bitAnd (heldOf r) heldMask ≡ heldOf r) × (at + headWords + sizesOf (bitsOf 31 (heldOf r)) ≤ length page′)
+      → (length (take (recordWords - headWords) (drop headWords r)) ≡ slotWords) × (bitAnd (heldOf r) heldMask ≡ heldOf r)
+      × (at + headWords + sizesOf (bitsOf 31 (heldOf r)) ≤ length page′)
   unfolding slotsOf bodyWords
   squeeze-asks page′ e =
       (ap length slots-seen ∙ part-length headWords slotWords r (omega arith), good-within r g, omega (arith, body-room, laid-length (head-laid page′ e)))
@@ -174,7 +175,8 @@ module _ (t before : List ℕ) (w : wellMade t ≡ true) (h : pageLength t ≤ l
           omega (arith, h, p .laid .past, laid-length (p .laid), offset-inside (streamsOf t) (savedBody t) s i),
         )
 
-    laying-turn : (after′ : List ℕ) (to : ℕ) → Laid after at (bodyOf (take (base s + recordWords - base s) (drop (base s) t))) to after′ → Laying t before after′ n (s + 1) to
+    laying-turn : (after′ : List ℕ) (to : ℕ) → Laid after at (bodyOf (take (base s + recordWords - base s) (drop (base s) t))) to after′
+        → Laying t before after′ n (s + 1) to
     unfolding savedBody
     laying-turn after′ to q = record { most = omega arith; laid = laid-next s (savedBody t) (p .laid) (rw record-seen at q) }
 
@@ -225,15 +227,21 @@ module _ (t before : List ℕ) (w : wellMade t ≡ true) (h : pageLength t ≤ l
           rw f (record {
             mid = set (set (p .mid) (2 + 2 * s) at) (3 + 2 * s) (to - at);
             pairs = rw sum at (pairing-turn t before w h (p .mid) n s at e (p .pairs) g (to - at) length-is);
-            bodies = record { most = next .most; laid = laid-before (3 + 2 * s) (to - at) (laid-before (2 + 2 * s) at (next .laid) (omega arith)) (omega arith) };
+            bodies = record {
+              most = next .most;
+              laid = laid-before (3 + 2 * s) (to - at) (laid-before (2 + 2 * s) at (next .laid) (omega arith))
+                  (omega arith);
+            };
           })
 
   pub writing-length : {after : List ℕ} {n s at : ℕ} → Writing t before after n s at → length after ≡ length before
   writing-length p = laid-length (p .bodies .laid) ∙ laid-length (p .pairs .laid)
 
-  pub writing-end : (after : List ℕ) (n s at : ℕ) → n ≡ streamsOf t → Writing t before after n s at → n ≤ s → Laid before 2 (pairsOf t ++ bodiesOf t) (pageLength t) after
+  pub writing-end : (after : List ℕ) (n s at : ℕ) → n ≡ streamsOf t → Writing t before after n s at → n ≤ s
+      → Laid before 2 (pairsOf t ++ bodiesOf t) (pageLength t) after
   writing-end after n s at e p g =
-      then (pairing-end t before w h (p .mid) n s at e (p .pairs) g) (laying-end t (p .mid) w (omega (arith, laid-length (p .pairs .laid))) after n s at e (p .bodies) g)
+      then (pairing-end t before w h (p .mid) n s at e (p .pairs) g)
+      (laying-end t (p .mid) w (omega (arith, laid-length (p .pairs .laid))) after n s at e (p .bodies) g)
 
   -- S, the length, the pairs and the bodies are the page
   pub page-laid : (n size : ℕ) (after : List ℕ) → n ≡ streamsOf t → size ≡ pageLength t
@@ -241,7 +249,8 @@ module _ (t before : List ℕ) (w : wellMade t ≡ true) (h : pageLength t ≤ l
   unfolding pageOf pageFrom pageLength
   page-laid n size after e f p =
       let l = page-whole t w in
-      let first : Laid before 0 (streamsOf t ∷ pageLength t ∷ []) 2 (set (set before 0 n) 1 size) = rw (e, f) (laid-two before 0 (streamsOf t) (pageLength t)) in
+      let first : Laid before 0 (streamsOf t ∷ pageLength t ∷ []) 2 (set (set before 0 n) 1 size) = rw (e, f)
+      (laid-two before 0 (streamsOf t) (pageLength t)) in
       rw l at (laid-front (then first p) (omega (arith, h, l)))
 
 -- ---- the answers of the length
@@ -262,38 +271,29 @@ length-fine t n w e h = rw (w, ← e, le-ltb 65535 n h)
 pub length-well : (t : List ℕ) (n : ℕ) → lengthOf t ≡ accepted n → (wellMade t ≡ true) × (n ≡ pageLength t)
 unfolding lengthOf
 length-well t n e =
-    let a = passed (not (wellMade t)) _ _ n e in
-    let b = passed (ltb 65535 (pageLength t)) _ _ n (a .1) in
-    (not-false _ (a .0), sym (accepted-same (b .1)))
+    let a = first-passed (lengthList t) _ n e in
+    (not-false _ (a .0 .0), sym (accepted-same (a .1)))
 
 -- ---- the answers of saving
 
 -- what the length refuses, saving refuses
-refused-alike : (ill over : Bool) (x n : ℕ) (rest : Outcome (Done ℕ (List ℕ))) → refused n ≡ pick ill (refused TABLE) (pick over (refused SIZE) (accepted x))
-    → refused n ≡ pick ill (refused TABLE) (pick over (refused SIZE) rest)
-refused-alike true over x n rest e = ap (λ (o : Outcome ℕ). refused (numberOf o)) e
-refused-alike false true x n rest e = ap (λ (o : Outcome ℕ). refused (numberOf o)) e
-refused-alike false false x n rest e = let z : _≡_ {A = ℕ} 0 1 = cc in absurd (omega arith)
-
-pub save-refused : (t page : List ℕ) (r : Saved) (n : ℕ) → r ≡ Refused n → paper r ≡ lengthOf t → Meets paper (saveOf t page) page r page
+pub save-refused : (t page : List ℕ) (r : Length) (n : ℕ) → r ≡ Refused n → measured r ≡ lengthOf t → Meets measured (saveOf t page) page r page
 unfolding lengthOf saveOf
-save-refused t page r n k e =
-    let f : refused n ≡ saveOf t page = refused-alike (not (wellMade t)) (ltb 65535 (pageLength t)) (pageLength t) n _ (sym (ap paper k) ∙ e) in
-    record { answer = ap paper k ∙ ap saidOf f; buffer = ap (λ (o : Outcome (Done ℕ (List ℕ))). leftOf o page) f }
+save-refused t page r n k e = rw k (meets-refused (first-refused (lengthList t) (pageLength t) n _ (sym e ∙ ap measured k)))
 
 module _ (t page : List ℕ) (n : ℕ) (e : accepted n ≡ lengthOf t) where
-  pub save-short : length page < n → Meets paper (saveOf t page) page (Refused ROOM) page
+  pub save-short : length page < n → Meets measured (saveOf t page) page (Refused ROOM) page
   unfolding saveOf
   save-short h =
       let a = length-well t n (sym e) in
       let l : length page < pageLength t = omega (arith, a .1) in
       let o : ltb 65535 (pageLength t) ≡ false = le-ltb 65535 (pageLength t) (omega (arith, page-small t (a .0))) in
-      record { answer = rw (a .0, o, lt-ltb (length page) (pageLength t) l); buffer = rw (a .0, o, lt-ltb (length page) (pageLength t) l) }
+      meets-refused (rw (a .0, o, lt-ltb (length page) (pageLength t) l))
 
-  pub save-made : (after : List ℕ) → n ≤ length page → after ≡ pageOf t ++ drop (pageLength t) page → Meets paper (saveOf t page) page (Accepted n) after
+  pub save-made : (after : List ℕ) → n ≤ length page → after ≡ pageOf t ++ drop (pageLength t) page → Meets measured (saveOf t page) page (Accepted n) after
   unfolding saveOf
   save-made after h l =
       let a = length-well t n (sym e) in
       let o : ltb 65535 (pageLength t) ≡ false = le-ltb 65535 (pageLength t) (omega (arith, page-small t (a .0))) in
       let r : ltb (length page) (pageLength t) ≡ false = le-ltb (length page) (pageLength t) (omega (arith, a .1)) in
-      record { answer = rw (a .0, o, r, a .1); buffer = rw (a .0, o, r) l }
+      meets-length (rw (a .0, o, r, a .1)) l

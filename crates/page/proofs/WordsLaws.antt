@@ -18,8 +18,8 @@ use Rattle.table.specs.Well.{wellMade}
 use Rattle.page.specs.Joined.{joined}
 use Rattle.page.specs.Body.{recordOf}
 use Rattle.page.specs.Layout.{pageOf, bodiesIn, bodyAt, savedRecord, tableFrom, tableOf}
-use Rattle.page.specs.Good.{pageOk}
-use Rattle.page.proofs.Exact.{page-passes, table-well, page-back}
+use Rattle.page.specs.Good.{pageGood}
+use Rattle.page.proofs.Exact.{table-well, page-back, page-tested, page-exact}
 
 -- each word is below 2^32
 abbrev pub Words : List ℕ → Type 0
@@ -73,15 +73,16 @@ words-record b w =
     words-append (part 0 headWords b) _ (words-part 0 headWords b w)
     (words-order heldBits _
     (λ x. words-after (has (heldOf b) x) _ _
-    (words-part (headWords + sizesOf (above x (bitsOf 31 (heldOf b)))) (sizeOf x) b w) (words-part _ (sizeOf x) (replicate slotWords 0) (words-zero slotWords))))
+    (words-part (headWords + sizesOf (above x (bitsOf 31 (heldOf b)))) (sizeOf x) b w)
+    (words-part _ (sizeOf x) (replicate slotWords 0) (words-zero slotWords))))
 
 pub words-table : (p : List ℕ) → Words p → Words (tableOf p)
 unfolding tableOf tableFrom savedRecord bodyAt
 words-table p w = (words-first p w, words-joined (bodiesIn p) (savedRecord p) (λ s. words-record (bodyAt p s) (words-part _ _ p w)))
 
 -- "A page is well made when some well-made table saves exactly its words", over words
-pub page-exact-words : (p : List ℕ) → Words p → (pageOk p ≡ true) ↔ ((t : List ℕ) × Words t × (wellMade t ≡ true) × (pageOf t ≡ p))
+pub page-exact-words : (p : List ℕ) → Words p → (pageGood p ≡ true) ↔ ((t : List ℕ) × Words t × (wellMade t ≡ true) × (pageOf t ≡ p))
 page-exact-words p w = (
-  λ e. (tableOf p ++ [], words-append (tableOf p) [] (words-table p w) tt, table-well p e [], page-back p e []),
-  λ x. ap pageOk (sym (x .3)) ∙ page-passes (x .0) (x .2),
+  λ e. let ok = page-tested p ∙ e in (tableOf p ++ [], words-append (tableOf p) [] (words-table p w) tt, table-well p ok [], page-back p ok []),
+  λ x. page-exact p .1 (x .0, x .2, x .3),
 )

@@ -12,3 +12,5 @@ pub mod Good
 pub mod Save
 -- what putting back answers and leaves
 pub mod PutBack
+-- what the functions inside promise each other
+pub mod inner

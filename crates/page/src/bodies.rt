@@ -15,7 +15,7 @@ ghost use Rattle.record.specs.Good.{recordGood};
 ghost use Rattle.table.specs.Well.{wellMade};
 ghost use Rattle.page.specs.Body.{bodyOf, bodyWords};
 ghost use Rattle.page.specs.Layout.{pageLength, bodiesIn, bodyAt};
-ghost use Rattle.page.specs.Good.{contentsGood};
+ghost use Rattle.page.specs.inner.Tested.{contentsGood};
 
 // The length of a body, by its held indicator: the first words, and the words of each held field. The table of sizes is lent.
 pub fn body_words(held: u32, sizes: &[u8; 32]) -> usize

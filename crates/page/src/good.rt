@@ -10,7 +10,7 @@ ghost use Rattle.record.specs.Good.{recordGood};
 ghost use Rattle.table.specs.Identifiers.{listGood};
 ghost use Rattle.page.specs.Body.{bodyWords, recordOf};
 ghost use Rattle.page.specs.Layout.{contentsWords, bodiesIn, beginsAt};
-ghost use Rattle.page.specs.Good.{pairGood, pairsGood, contentsGood, identifierAt, Gathered, recordGoodIn, pageOk};
+ghost use Rattle.page.specs.inner.Tested.{pairGood, pairsGood, contentsGood, identifierAt, Gathered, recordGoodIn, pageOk};
 
 // Whether pair s is right, where the bodies before it end at a place: its offset is that place, its body ends inside the page, and its length is that of the
 // body's held indicator. The table of sizes is lent.

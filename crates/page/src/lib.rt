@@ -5,64 +5,52 @@ mod putting;
 mod saving;
 
 ghost use mathlib.Core.Path.{_≡_};
-ghost use Rattle.words.specs.Outcome.{Meets};
-ghost use Rattle.page.specs.Save.{lengthOf, saveOf, paper};
-ghost use Rattle.page.specs.PutBack.{putBackOf, backPaper};
-
-// What saving answers: the page's length in words, or the number of the refusal.
-pub enum Saved {
-    Accepted(usize),
-    Refused(u32),
-}
-
-// What putting back answers: the layout's length in words, or the number of the refusal.
-pub enum PutBack {
-    Accepted(usize),
-    Refused(u32),
-}
+ghost use Rattle.words.specs.Outcome.{measured, Meets};
+ghost use Rattle.page.specs.Save.{lengthOf, saveOf};
+ghost use Rattle.page.specs.PutBack.{putBackOf};
 
 // The length of the page of a table, for a caller who must make room: TABLE where the table is not well made; SIZE where the page exceeds 65,535 words.
-pub fn page_length(table: &[u32]) -> Saved
-    ensures { λ r. ⌜ paper r ≡ lengthOf (now (table .entry)) ⌝ }
+pub fn page_length(table: &[u32]) -> words::Length
+    ensures { λ r. ⌜ measured r ≡ lengthOf (now (table .entry)) ⌝ }
 {
     if !table::well_made(table) {
-        return Saved::Refused(words::TABLE);
+        return words::Length::Refused(words::TABLE);
     }
     let length = bodies::page_words(table);
     if 65535 < length {
-        return Saved::Refused(words::SIZE);
+        return words::Length::Refused(words::SIZE);
     }
-    Saved::Accepted(length)
+    words::Length::Accepted(length)
 }
 
 // Saves a table: writes its page into the front of a buffer, and answers the page's length. TABLE and SIZE as `page_length` has them; ROOM where the buffer is
 // shorter than the page. A refusal changes nothing; words past the page stay.
-pub fn save(table: &[u32], page: &mut [u32]) -> Saved
-    ensures { λ r. ⌜ Meets paper (saveOf (now (table .entry)) (now (page .entry))) (now (page .entry)) r (now (page .exit)) ⌝ }
+pub fn save(table: &[u32], page: &mut [u32]) -> words::Length
+    ensures { λ r. ⌜ Meets measured (saveOf (now (table .entry)) (now (page .entry))) (now (page .entry)) r (now (page .exit)) ⌝ }
 {
     let measured = page_length(table);
-    let Saved::Accepted(length) = measured else {
+    let words::Length::Accepted(length) = measured else {
         return measured;
     };
     if page.len() < length {
-        return Saved::Refused(words::ROOM);
+        return words::Length::Refused(words::ROOM);
     }
     saving::write_page(page, table, length);
-    Saved::Accepted(length)
+    words::Length::Accepted(length)
 }
 
 // Puts a table back from its page, and answers the layout's length: PAGE where the words are not exactly one well-made page; ROOM where the table is shorter than
 // the layout. A refusal changes nothing; words past the layout stay.
-pub fn put_back(page: &[u32], table: &mut [u32]) -> PutBack
-    ensures { λ r. ⌜ Meets backPaper (putBackOf (now (page .entry)) (now (table .entry))) (now (table .entry)) r (now (table .exit)) ⌝ }
+pub fn put_back(page: &[u32], table: &mut [u32]) -> words::Length
+    ensures { λ r. ⌜ Meets measured (putBackOf (now (page .entry)) (now (table .entry))) (now (table .entry)) r (now (table .exit)) ⌝ }
 {
     if !good::page_ok(page) {
-        return PutBack::Refused(words::PAGE);
+        return words::Length::Refused(words::PAGE);
     }
     let length = 1 + record::inner::RECORD_WORDS * words::inner::word_at(page, 0) as usize;
     if table.len() < length {
-        return PutBack::Refused(words::ROOM);
+        return words::Length::Refused(words::ROOM);
     }
     putting::write_table(table, page);
-    PutBack::Accepted(length)
+    words::Length::Accepted(length)
 }

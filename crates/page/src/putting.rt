@@ -8,7 +8,7 @@ ghost use Rattle.record.specs.Layout.{recordWords, heldOf};
 ghost use Rattle.table.specs.Layout.{base, Has, withRecord};
 ghost use Rattle.page.specs.Body.{bodyWords, recordOf};
 ghost use Rattle.page.specs.Layout.{bodiesIn, savedRecord, tableOf};
-ghost use Rattle.page.specs.Good.{contentsGood, pageOk};
+ghost use Rattle.page.specs.inner.Tested.{contentsGood, pageOk};
 
 // The record of a body, into zeroed words: the body's first words, and the held words into their slots.
 fn fill_record(rec: &mut [u32], body: &[u32])

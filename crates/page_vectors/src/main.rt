@@ -3,15 +3,14 @@
 mod resuming;
 mod showing;
 
-use page::PutBack;
-use page::Saved;
+use words::Length;
 
 // A page to be put back: the answer, the table, and the page that is saved of it again.
 fn put_case(words: &[u32], table: &mut [u32], page: &mut [u32]) {
     wordio::inner::pattern(table);
     wordio::inner::pattern(page);
     match page::put_back(words, table) {
-        PutBack::Accepted(length) => {
+        Length::Accepted(length) => {
             wordio::inner::named(b"put", length as u64);
             showing::end_line();
             showing::show_words(b"table", table);
@@ -20,7 +19,7 @@ fn put_case(words: &[u32], table: &mut [u32], page: &mut [u32]) {
             showing::show_saved(answer, page);
             showing::end_line();
         }
-        PutBack::Refused(n) => {
+        Length::Refused(n) => {
             wordio::inner::named(b"refused", n as u64);
             showing::end_line();
             showing::show_words(b"table", table);
@@ -32,15 +31,15 @@ fn put_case(words: &[u32], table: &mut [u32], page: &mut [u32]) {
 fn save_case(words: &[u32], page: &mut [u32]) {
     wordio::inner::pattern(page);
     match page::save(words, page) {
-        Saved::Accepted(length) => wordio::inner::named(b"saved", length as u64),
-        Saved::Refused(n) => wordio::inner::named(b"refused", n as u64),
+        Length::Accepted(length) => wordio::inner::named(b"saved", length as u64),
+        Length::Refused(n) => wordio::inner::named(b"refused", n as u64),
     }
     showing::end_line();
     showing::show_words(b"page", page);
     wordio::inner::text(b" ");
     match page::page_length(words) {
-        Saved::Accepted(length) => wordio::inner::named(b"length", length as u64),
-        Saved::Refused(n) => wordio::inner::named(b"length refused", n as u64),
+        Length::Accepted(length) => wordio::inner::named(b"length", length as u64),
+        Length::Refused(n) => wordio::inner::named(b"length refused", n as u64),
     }
     showing::end_line();
 }

@@ -1,7 +1,6 @@
 // A recording that is stopped and resumed: played on one table up to a cut, saved, put back into a second table, and played on.
-use page::PutBack;
-use page::Saved;
 use play::Played;
+use words::Length;
 
 // Where a walk over the packets stands, and the check number of their answers so far.
 pub struct Walk {
@@ -59,13 +58,13 @@ fn play_part(table: &mut [u32], words: &[u32], from: Walk, packets: u32) -> Walk
 // Puts the page back into the second table, and plays the packets that are left.
 fn resume(page: &[u32], table: &mut [u32], words: &[u32], walk: Walk, packets: u32) {
     match page::put_back(page, table) {
-        PutBack::Accepted(length) => {
+        Length::Accepted(length) => {
             wordio::inner::named(b"put", length as u64);
             let end = play_part(table, words, walk, packets);
             wordio::inner::named(b"answers", end.answers as u64);
             crate::showing::show_table(length, table);
         }
-        PutBack::Refused(n) => wordio::inner::named(b"put refused", n as u64),
+        Length::Refused(n) => wordio::inner::named(b"put refused", n as u64),
     }
 }
 
@@ -80,7 +79,7 @@ fn stop(
 ) {
     let answer = page::save(first, page);
     crate::showing::show_saved(answer, page);
-    let Saved::Accepted(length) = answer else {
+    let Length::Accepted(length) = answer else {
         return;
     };
     if page.len() < length {

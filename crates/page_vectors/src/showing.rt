@@ -1,5 +1,5 @@
 // What the lines of output say of buffers and pages.
-use page::Saved;
+use words::Length;
 
 // Ends a line.
 pub fn end_line() {
@@ -29,10 +29,10 @@ fn show_page(length: usize, page: &[u32]) {
 }
 
 // What saving answered, and the page.
-pub fn show_saved(answer: Saved, page: &[u32]) {
+pub fn show_saved(answer: Length, page: &[u32]) {
     match answer {
-        Saved::Accepted(length) => show_page(length, page),
-        Saved::Refused(n) => wordio::inner::named(b"saved refused", n as u64),
+        Length::Accepted(length) => show_page(length, page),
+        Length::Refused(n) => wordio::inner::named(b"saved refused", n as u64),
     }
 }
 

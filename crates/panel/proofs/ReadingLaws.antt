@@ -8,11 +8,12 @@ use native.Mathlib.Omega.{arith}
 use borrow.Author.Tests.{lt-ltb, le-ltb, leb-false, ltb-false, not-false}
 use lib.Dec.{ltb, leb}
 use lib.ListN.{length, take, drop}
-use Rattle.words.specs.Numbers.{TABLE, STREAM, VALUE, ROOM}
+use Rattle.words.specs.Numbers.{ROOM}
 use Rattle.words.specs.Tests.{pick, when}
 use Rattle.words.specs.Part.{part, put}
-use Rattle.words.specs.Outcome.{refused, accepted, Meets}
-use Rattle.words.proofs.Cases.{passed, when-most}
+use Rattle.words.specs.Outcome.{refused, accepted, after, measured, Meets}
+use Rattle.words.proofs.Cases.{when-most}
+use Rattle.words.proofs.RefusalLaws.{first-passed, either-passed, after-first, meets-refused, meets-length}
 use Rattle.words.proofs.PartLaws.{seen, part-part, part-length}
 use Rattle.fields.specs.Sizes.{sizeOf}
 use Rattle.record.specs.Held.{holds, slotAt}
@@ -22,43 +23,45 @@ use Rattle.record.proofs.HoldLaws.{slot-inside}
 use Rattle.table.specs.Layout.{streamsOf, base, Has, recordAt}
 use Rattle.table.specs.Well.{wellMade}
 use Rattle.table.proofs.WellLaws.{layout-has, well-whole, well-few}
-use Rattle.panel.specs.Readings.{absent, shownOf, isHeld, recordShows, askedOf, readingOf, readingPaper}
-use Rattle.panel.specs.HeldWords.{heldIn, copyOf, heldWordsOf, copiedPaper}
+use Rattle.panel.specs.Readings.{absent, shownOf, isHeld, recordShows, readingList, askedOf, readingOf, readingPaper}
+use Rattle.panel.specs.HeldWords.{heldIn, copyOf, heldWordsOf}
 use Rattle.panel.specs.declared.Dial.{Dial}
 use Rattle.panel.specs.declared.Dial.the-variants as dial
-use Rattle.panel.specs.declared.Copied.{Copied}
-use Rattle.panel.specs.declared.Copied.the-variants as copied
+use Rattle.words.specs.declared.Length.{Length}
+use Rattle.words.specs.declared.Length.the-variants as lengths
 
 -- ---- what may be asked for, in facts
 pub asked-facts : (t : List ℕ) (s b : ℕ) → askedOf t s b ≡ accepted tt → (s < 32) × Has s t × (10 ≤ b) × (b ≤ 30)
 unfolding askedOf
 asked-facts t s b e =
-    let p = passed (not (wellMade t)) TABLE _ tt e in
-    let w = not-false (wellMade t) (p .0) in
-    let q = passed (leb (streamsOf t) s) STREAM _ tt (p .1) in
-    let g : s < streamsOf t = leb-false (streamsOf t) s (q .0) in
-    let u = passed (ltb b 10) VALUE _ tt (q .1) in
-    let v = passed (ltb 30 b) VALUE _ tt (u .1) in
-    (omega (arith, well-few t w), layout-has t s (well-whole t w) g, ltb-false b 10 (u .0), ltb-false 30 b (v .0))
+    let a = first-passed (readingList t s b) _ tt e .0 in
+    let w = not-false (wellMade t) (a .0) in
+    let g : s < streamsOf t = leb-false (streamsOf t) s (a .1 .0) in
+    let v = either-passed (ltb b 10) (ltb 30 b) (a .1 .1 .0) in
+    (omega (arith, well-few t w), layout-has t s (well-whole t w) g, ltb-false b 10 (v .0), ltb-false 30 b (v .1))
 
 -- ---- the public answers
 module _ (t : List ℕ) (s b : ℕ) where
+  reading-asked : readingOf t s b ≡ after (askedOf t s b) (accepted (recordShows b (recordAt s t)))
+  unfolding readingOf askedOf
+  reading-asked = sym (after-first (readingList t s b) tt _)
+
+  words-asked : (out : List ℕ) → heldWordsOf t s b out ≡ after (askedOf t s b) (copyOf (heldIn b (recordAt s t)) out)
+  unfolding heldWordsOf askedOf copyOf
+  words-asked out = sym (after-first (readingList t s b) tt _)
+
   pub reading-refused : (n : ℕ) → refused n ≡ askedOf t s b → readingPaper (dial.Refused n) ≡ readingOf t s b
-  unfolding readingOf
-  reading-refused n e = rw (sym e)
+  reading-refused n e = rw (reading-asked, ← e)
 
   pub reading-shown : (r : Dial) → accepted tt ≡ askedOf t s b → readingPaper r ≡ accepted (recordShows b (recordAt s t)) → readingPaper r ≡ readingOf t s b
-  unfolding readingOf
-  reading-shown r e h = rw (sym e) h
+  reading-shown r e h = rw (reading-asked, ← e) h
 
-  pub words-refused : (out : List ℕ) (n : ℕ) → refused n ≡ askedOf t s b → Meets copiedPaper (heldWordsOf t s b out) out (copied.Refused n) out
-  unfolding heldWordsOf
-  words-refused out n e = record { answer = rw (sym e); buffer = rw (sym e) }
+  pub words-refused : (out : List ℕ) (n : ℕ) → refused n ≡ askedOf t s b → Meets measured (heldWordsOf t s b out) out (lengths.Refused n) out
+  words-refused out n e = meets-refused (rw (words-asked, ← e))
 
-  pub words-copied : (out last : List ℕ) (r : Copied) → accepted tt ≡ askedOf t s b → Meets copiedPaper (copyOf (heldIn b (recordAt s t)) out) out r last
-      → Meets copiedPaper (heldWordsOf t s b out) out r last
-  unfolding heldWordsOf
-  words-copied out last r e h = rw (sym e) h
+  pub words-copied : (out last : List ℕ) (r : Length) → accepted tt ≡ askedOf t s b → Meets measured (copyOf (heldIn b (recordAt s t)) out) out r last
+      → Meets measured (heldWordsOf t s b out) out r last
+  words-copied out last r e h = rw (words-asked, ← e) h
 
 -- ---- a field in a record
 pub shows-absent : (r : List ℕ) (b : ℕ) → isHeld b r ≡ false → accepted absent ≡ accepted (recordShows b r)
@@ -99,20 +102,19 @@ module _ (r : List ℕ) (b at : ℕ) (l : length r ≡ recordWords) (lo : 10 ≤
     held-length : length (heldIn b r) ≡ n
     held-length = ap length held-part ∙ part-length (headWords + at) n r held-most
 
-    pub copy-room : (out : List ℕ) → length out < n → Meets copiedPaper (copyOf (heldIn b r) out) out (copied.Refused ROOM) out
+    pub copy-room : (out : List ℕ) → length out < n → Meets measured (copyOf (heldIn b r) out) out (lengths.Refused ROOM) out
     unfolding copyOf
-    copy-room out h = let e = lt-ltb (length out) n h in record { answer = rw (held-length, e); buffer = rw (held-length, e) }
+    copy-room out h = meets-refused (rw (held-length, lt-ltb (length out) n h))
 
     pub copy-made : (out last : List ℕ) → n ≤ length out → last ≡ put 0 n (part (headWords + at) n r) out
-        → Meets copiedPaper (copyOf (heldIn b r) out) out (copied.Accepted n) last
+        → Meets measured (copyOf (heldIn b r) out) out (lengths.Accepted n) last
     unfolding copyOf put
     copy-made out last h p =
-        let e = le-ltb (length out) n h in
-        record { answer = rw (held-length, e); buffer = rw (held-length, e) (p ∙ ap (λ (ws : List ℕ). ws ++ drop n out) (sym held-part)) }
+        meets-length {left = heldIn b r ++ drop n out} (rw (held-length, le-ltb (length out) n h)) (p ∙ ap (λ (ws : List ℕ). ws ++ drop n out) (sym held-part))
 
 -- ---- a record that is lent
-pub copy-lent : (t out last : List ℕ) (s b : ℕ) (r : Copied)
-    → Meets copiedPaper (copyOf (heldIn b (take (base s + recordWords - base s) (drop (base s) t))) out) out r last
-    → Meets copiedPaper (copyOf (heldIn b (recordAt s t)) out) out r last
+pub copy-lent : (t out last : List ℕ) (s b : ℕ) (r : Length)
+    → Meets measured (copyOf (heldIn b (take (base s + recordWords - base s) (drop (base s) t))) out) out r last
+    → Meets measured (copyOf (heldIn b (recordAt s t)) out) out r last
 unfolding recordAt
-copy-lent t out last s b r h = subst (λ (l : List ℕ). Meets copiedPaper (copyOf (heldIn b l) out) out r last) (seen (base s) (base s + recordWords) recordWords t refl) h
+copy-lent t out last s b r h = subst (λ (l : List ℕ). Meets measured (copyOf (heldIn b l) out) out r last) (seen (base s) (base s + recordWords) recordWords t refl) h

@@ -2,14 +2,11 @@
 use mathlib.Core.Path.{_≡_, refl}
 use mathlib.Core.List.{List}
 use Prim.Native.Nat.{ℕ}
-use Rattle.words.specs.Outcome.{Outcome, refused, accepted, Meets}
-use Rattle.words.proofs.Once.{once, meets-once}
+use Rattle.words.specs.Outcome.{Outcome, refused, accepted}
+use Rattle.words.proofs.Once.{once}
 use Rattle.panel.specs.Readings.{Reading, frequency, level, gain, temperature, other, absent, readingOf, readingPaper}
-use Rattle.panel.specs.HeldWords.{heldWordsOf, copiedPaper}
 use Rattle.panel.specs.declared.Dial.{Dial}
 use Rattle.panel.specs.declared.Dial.the-variants as dial
-use Rattle.panel.specs.declared.Copied.{Copied}
-use Rattle.panel.specs.declared.Copied.the-variants as copied
 
 -- ---- the left inverses
 abbrev readingBack : Outcome Reading → Dial
@@ -30,19 +27,6 @@ readingLeft dial.Other = refl
 readingLeft dial.Absent = refl
 readingLeft (dial.Refused n) = refl
 
-abbrev copiedBack : Outcome ℕ → Copied
-copiedBack (accepted n) = copied.Accepted n
-copiedBack (refused n) = copied.Refused n
-
-copiedLeft : (a : Copied) → copiedBack (copiedPaper a) ≡ a
-copiedLeft (copied.Accepted n) = refl
-copiedLeft (copied.Refused n) = refl
-
 -- ---- one law for each public call
 pub reading-once : (t : List ℕ) (stream bit : ℕ) (r s : Dial) → readingPaper r ≡ readingOf t stream bit → readingPaper s ≡ readingOf t stream bit → r ≡ s
 reading-once t stream bit r s p q = once readingPaper readingBack readingLeft p q
-
-pub held-words-once : (t : List ℕ) (stream bit : ℕ) (out after after′ : List ℕ) (r s : Copied)
-    → Meets copiedPaper (heldWordsOf t stream bit out) out r after → Meets copiedPaper (heldWordsOf t stream bit out) out s after′
-    → (r ≡ s) × (after ≡ after′)
-held-words-once t stream bit out after after′ r s p q = meets-once copiedPaper copiedBack copiedLeft p q

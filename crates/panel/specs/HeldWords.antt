@@ -1,33 +1,34 @@
 -- The held words themselves, for a field of which a reading says no more: TABLE, STREAM and VALUE as a reading, then ROOM. Document 01: "A refusal returns its
 -- number alone and writes nothing"; "Only words needed by an accepted answer change."
 use Prim.Native.Nat.{ℕ}
-use mathlib.Core.List.{List, [], _++_}
+use mathlib.Core.List.{List, [], _∷_, _++_}
 use lib.Dec.{ltb}
 use lib.ListN.{length, drop}
 use Rattle.words.specs.Numbers.{ROOM}
 use Rattle.words.specs.Tests.{pick}
-use Rattle.words.specs.Outcome.{Outcome, refused, accepted, after, Done}
+use Rattle.words.specs.Outcome.{Outcome, accepted, Done}
+use Rattle.words.specs.Refusals.{Refusals, firstGiven}
 use Rattle.record.specs.Layout.{slotOf}
 use Rattle.table.specs.Layout.{recordAt}
-use Rattle.panel.specs.Readings.{isHeld, askedOf}
-use Rattle.panel.specs.declared.Copied.{Copied}
-use Rattle.panel.specs.declared.Copied.the-variants.{Accepted, Refused}
+use Rattle.panel.specs.Readings.{isHeld, readingList}
 
 -- the words of the field of a bit in a record: none where it is absent
 unfoldable pub heldIn : ℕ → List ℕ → List ℕ
 heldIn bit r = pick (isHeld bit r) (slotOf bit r) []
 
--- words copied to the front of a buffer, whose other words stay; ROOM: "a buffer to be written is too short"
+-- "a buffer to be written is too short"
+abbrev pub copyList : List ℕ → List ℕ → Refusals
+copyList ws out = (ROOM, ltb (length out) (length ws)) ∷ []
+
+-- words copied to the front of a buffer, whose other words stay
 unfoldable pub copyOf : List ℕ → List ℕ → Outcome (Done ℕ (List ℕ))
-copyOf ws out =
-    pick (ltb (length out) (length ws)) (refused ROOM)
-    (accepted (record { says = length ws; leaves = ws ++ drop (length ws) out }))
+copyOf ws out = firstGiven (copyList ws out) (accepted (record { says = length ws; leaves = ws ++ drop (length ws) out }))
+
+abbrev pub heldWordsList : List ℕ → ℕ → ℕ → List ℕ → Refusals
+heldWordsList t stream bit out = readingList t stream bit ++ copyList (heldIn bit (recordAt stream t)) out
 
 -- what `held_words` answers, and what it leaves in the buffer
 unfoldable pub heldWordsOf : List ℕ → ℕ → ℕ → List ℕ → Outcome (Done ℕ (List ℕ))
-heldWordsOf t stream bit out = after (askedOf t stream bit) (copyOf (heldIn bit (recordAt stream t)) out)
-
--- the number or the value of its answer
-abbrev pub copiedPaper : Copied → Outcome ℕ
-copiedPaper (Accepted n) = accepted n
-copiedPaper (Refused n) = refused n
+heldWordsOf t stream bit out =
+    let ws = heldIn bit (recordAt stream t) in
+    firstGiven (heldWordsList t stream bit out) (accepted (record { says = length ws; leaves = ws ++ drop (length ws) out }))

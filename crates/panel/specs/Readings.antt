@@ -2,15 +2,16 @@
 -- "Reading: TABLE, STREAM, VALUE".
 use Prim.Native.Nat.{ℕ}
 use mathlib.Core.Bool.{Bool, true, not}
-use mathlib.Core.List.{List}
+use mathlib.Core.List.{List, [], _∷_}
 use lib.Dec.{eqb, ltb, leb}
 use lib.ListN.{getD}
 use lib.IntN.{ℤ}
 use lib.Ieee.{Float}
 use Rattle.words.specs.Numbers.{TABLE, STREAM, VALUE}
-use Rattle.words.specs.Tests.{pick, both}
+use Rattle.words.specs.Tests.{pick, both, either}
 use Rattle.words.specs.Word.{has}
-use Rattle.words.specs.Outcome.{Outcome, refused, accepted, after}
+use Rattle.words.specs.Outcome.{Outcome, refused, accepted}
+use Rattle.words.specs.Refusals.{Refusals, firstGiven}
 use Rattle.record.specs.Layout.{heldOf, slotOf}
 use Rattle.table.specs.Layout.{streamsOf, recordAt}
 use Rattle.table.specs.Well.{wellMade}
@@ -49,18 +50,17 @@ isHeld bit r = has (heldOf r) bit
 unfoldable pub recordShows : ℕ → List ℕ → Reading
 recordShows bit r = pick (isHeld bit r) (shownOf bit (slotOf bit r)) absent
 
--- TABLE: "table not well made"; STREAM: "a stream number not in the table"; VALUE: "a field bit is not 30 to 10"
+-- "table not well made"; "a stream number not in the table"; "a field bit is not 30 to 10"
+abbrev pub readingList : List ℕ → ℕ → ℕ → Refusals
+readingList t stream bit = (TABLE, not (wellMade t)) ∷ (STREAM, leb (streamsOf t) stream) ∷ (VALUE, either (ltb bit 10) (ltb 30 bit)) ∷ []
+
+-- whether a field may be asked for
 unfoldable pub askedOf : List ℕ → ℕ → ℕ → Outcome Unit
-askedOf t stream bit =
-    pick (not (wellMade t)) (refused TABLE)
-    (pick (leb (streamsOf t) stream) (refused STREAM)
-    (pick (ltb bit 10) (refused VALUE)
-    (pick (ltb 30 bit) (refused VALUE)
-    (accepted tt))))
+askedOf t stream bit = firstGiven (readingList t stream bit) (accepted tt)
 
 -- what `reading` answers
 unfoldable pub readingOf : List ℕ → ℕ → ℕ → Outcome Reading
-readingOf t stream bit = after (askedOf t stream bit) (accepted (recordShows bit (recordAt stream t)))
+readingOf t stream bit = firstGiven (readingList t stream bit) (accepted (recordShows bit (recordAt stream t)))
 
 -- the number or the values of its answer
 abbrev pub readingPaper : Dial → Outcome Reading

@@ -5,9 +5,9 @@ mod shows;
 mod values;
 
 ghost use mathlib.Core.Path.{_≡_};
-ghost use Rattle.words.specs.Outcome.{Meets};
+ghost use Rattle.words.specs.Outcome.{measured, Meets};
 ghost use Rattle.panel.specs.Readings.{readingOf, readingPaper};
-ghost use Rattle.panel.specs.HeldWords.{heldWordsOf, copiedPaper};
+ghost use Rattle.panel.specs.HeldWords.{heldWordsOf};
 
 // The two stages of a gain.
 pub struct Stages {
@@ -27,12 +27,6 @@ pub enum Dial {
     Refused(u32),
 }
 
-// What `held_words` answers: how many words it wrote, or the number of the refusal.
-pub enum Copied {
-    Accepted(usize),
-    Refused(u32),
-}
-
 // What the field of a bit shows in a stream's record. TABLE for a table that is not well made, STREAM for a stream number that is not in it, VALUE for a bit
 // that is not 30 to 10.
 pub fn reading(table: &[u32], stream: usize, bit: u32) -> Dial
@@ -46,11 +40,11 @@ pub fn reading(table: &[u32], stream: usize, bit: u32) -> Dial
 
 // The words of a field that a stream holds, at the front of out; answers how many, 0 where the field is absent. TABLE, STREAM and VALUE as for a reading, then
 // ROOM where out is shorter. Other words of out stay.
-pub fn held_words(table: &[u32], stream: usize, bit: u32, out: &mut [u32]) -> Copied
-    ensures { λ r. ⌜ Meets copiedPaper (heldWordsOf (now (table .entry)) stream bit (now (out .entry))) (now (out .entry)) r (now (out .exit)) ⌝ }
+pub fn held_words(table: &[u32], stream: usize, bit: u32, out: &mut [u32]) -> words::Length
+    ensures { λ r. ⌜ Meets measured (heldWordsOf (now (table .entry)) stream bit (now (out .entry))) (now (out .entry)) r (now (out .exit)) ⌝ }
 {
     match asked::check(table, stream, bit) {
-        words::Check::Refused(n) => Copied::Refused(n),
+        words::Check::Refused(n) => words::Length::Refused(n),
         words::Check::Fine => records::copy_at(table, stream, bit, out),
     }
 }

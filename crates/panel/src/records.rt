@@ -2,11 +2,11 @@
 ghost use mathlib.Core.Path.{_≡_};
 ghost use Prim.Native.Nat.{_≤_, _<_};
 ghost use lib.ListN.{length};
-ghost use Rattle.words.specs.Outcome.{accepted, Meets};
+ghost use Rattle.words.specs.Outcome.{accepted, measured, Meets};
 ghost use Rattle.record.specs.Layout.{recordWords};
 ghost use Rattle.table.specs.Layout.{Has, recordAt};
 ghost use Rattle.panel.specs.Readings.{isHeld, recordShows, readingPaper};
-ghost use Rattle.panel.specs.HeldWords.{heldIn, copyOf, copiedPaper};
+ghost use Rattle.panel.specs.HeldWords.{heldIn, copyOf};
 
 // Whether a record holds the field of a bit.
 fn is_held(rec: &[u32], bit: u32) -> bool
@@ -30,17 +30,17 @@ fn read_record(rec: &[u32], bit: u32) -> crate::Dial
 }
 
 // The words of a field that a record holds, copied to the front of out.
-fn copy_record(rec: &[u32], bit: u32, out: &mut [u32]) -> crate::Copied
+fn copy_record(rec: &[u32], bit: u32, out: &mut [u32]) -> words::Length
     requires { ⌜ (length (now rec) ≡ recordWords) × (10 ≤ bit) × (bit ≤ 30) ⌝ }
-    ensures { λ r. ⌜ Meets copiedPaper (copyOf (heldIn bit (now (rec .entry))) (now (out .entry))) (now (out .entry)) r (now (out .exit)) ⌝ }
+    ensures { λ r. ⌜ Meets measured (copyOf (heldIn bit (now (rec .entry))) (now (out .entry))) (now (out .entry)) r (now (out .exit)) ⌝ }
 {
     let n = words::inner::when_so(is_held(rec, bit), fields::inner::size_of(bit));
     if out.len() < n {
-        return crate::Copied::Refused(words::ROOM);
+        return words::Length::Refused(words::ROOM);
     }
     let at = record::inner::HEAD_WORDS + record::inner::slot_at(bit);
     words::inner::copy_part(out, 0, rec, at, n);
-    crate::Copied::Accepted(n)
+    words::Length::Accepted(n)
 }
 
 // What the field of a bit shows in the record of a stream.
@@ -54,9 +54,9 @@ pub fn read_at(table: &[u32], stream: usize, bit: u32) -> crate::Dial
 }
 
 // The words of a field that a stream holds, copied to the front of out.
-pub fn copy_at(table: &[u32], stream: usize, bit: u32, out: &mut [u32]) -> crate::Copied
+pub fn copy_at(table: &[u32], stream: usize, bit: u32, out: &mut [u32]) -> words::Length
     requires { ⌜ (stream < 32) × Has stream (now table) × (10 ≤ bit) × (bit ≤ 30) ⌝ }
-    ensures { λ r. ⌜ Meets copiedPaper (copyOf (heldIn bit (recordAt stream (now (table .entry)))) (now (out .entry))) (now (out .entry)) r (now (out .exit)) ⌝ }
+    ensures { λ r. ⌜ Meets measured (copyOf (heldIn bit (recordAt stream (now (table .entry)))) (now (out .entry))) (now (out .entry)) r (now (out .exit)) ⌝ }
 {
     let at = 1 + record::inner::RECORD_WORDS * stream;
     let end = at + record::inner::RECORD_WORDS;

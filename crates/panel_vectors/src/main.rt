@@ -3,8 +3,8 @@
 // 3, a sweep over every half of a word.
 mod decimal;
 
-use panel::Copied;
 use panel::Dial;
+use words::Length;
 
 // A frequency: whole hertz and parts of 2^20.
 fn show_frequency(hertz: i64, parts: u32) {
@@ -56,11 +56,11 @@ fn ask_reading(k: u64, table: &[u32]) {
 }
 
 // The line of `held_words`: how many, or the refusal.
-fn show_copied(k: u64, answer: Copied) {
+fn show_copied(k: u64, answer: Length) {
     wordio::inner::number(k);
     match answer {
-        Copied::Accepted(n) => wordio::inner::named(b"held", n as u64),
-        Copied::Refused(n) => wordio::inner::named(b"refused", n as u64),
+        Length::Accepted(n) => wordio::inner::named(b"held", n as u64),
+        Length::Refused(n) => wordio::inner::named(b"refused", n as u64),
     }
     wordio::inner::text(b"\n");
 }

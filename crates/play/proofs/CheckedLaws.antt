@@ -8,8 +8,7 @@ use Rattle.words.specs.declared.Check.the-variants.{Fine, Refused}
 use Rattle.words.specs.Outcome.{refused, accepted, checked}
 use Rattle.packet.specs.Header.{typeOf, sizeOf}
 use Rattle.packet.specs.Parts.{requiredOf, bodyOf}
-use Rattle.packet.specs.Read.{bodyChecks, readOf}
-use Rattle.packet.specs.Front.{frontChecks}
+use Rattle.packet.specs.Read.{bodyChecks, frontChecks, readOf}
 use Rattle.packet.proofs.FrontLaws.{front-refuses, front-some, front-sized, front-data, body-refuses}
 use Rattle.play.specs.Entered.{Headed}
 use Rattle.play.proofs.StreamLaws.{body-headed}

@@ -5,10 +5,12 @@ use mathlib.Core.Bool.{true}
 use mathlib.Core.Logic.{⊎-elim}
 use mathlib.Core.List.{List}
 use Prim.Native.Nat.{ℕ, _<_}
+use borrow.Author.Tests.{not-false}
 use lib.ListN.{length, drop}
 use Rattle.words.specs.Part.{part}
 use Rattle.words.specs.Outcome.{Outcome, refused, accepted, Done, leftOf}
-use Rattle.words.proofs.Cases.{true-or-false, after-passed, onward-passed, accepted-same}
+use Rattle.words.proofs.Cases.{true-or-false, onward-passed, accepted-same}
+use Rattle.words.proofs.RefusalLaws.{first-passed}
 use Rattle.fields.specs.Layout.{contextOf}
 use Rattle.packet.specs.declared.Packet.{Packet}
 use Rattle.packet.specs.Read.{readOf}
@@ -22,9 +24,9 @@ use Rattle.table.specs.Well.{wellMade}
 use Rattle.table.proofs.RecordLaws.{record-length, record-identifier, with-length, record-with, record-with-other, streams-with, past-with}
 use Rattle.table.proofs.WellLaws.{well-whole, well-record, layout-has, list-with, well-with}
 use Rattle.play.specs.declared.Heard.{Heard}
-use Rattle.play.specs.Play.{soughtOf, heardOf, tableAfter, madeOf, stepOf, playOf}
+use Rattle.play.specs.Play.{soughtOf, heardOf, tableAfter, tableList, stepOf, playOf}
 use Rattle.play.proofs.StreamLaws.{sought-below}
-use Rattle.play.proofs.PlayLaws.{made-well, play-step, play-refuses}
+use Rattle.play.proofs.PlayLaws.{step-read, play-step, play-refuses}
 
 -- ---- an accepted packet: what was read, and its stream
 pub record Taken (t ws : List ℕ) (d : Done Heard (List ℕ)) : Type 0 where
@@ -36,12 +38,18 @@ pub record Taken (t ws : List ℕ) (d : Done Heard (List ℕ)) : Type 0 where
   pub leaves : tableAfter packet stream ws t ≡ d .leaves
 
 pub step-taken : (t ws : List ℕ) (d : Done Heard (List ℕ)) → stepOf t ws ≡ accepted d → Taken t ws d
-unfolding stepOf
 step-taken t ws d e =
-    let a = onward-passed (readOf ws) _ d e in
+    let a = onward-passed (readOf ws) _ d (sym (step-read t ws) ∙ e) in
     let b = onward-passed (soughtOf (a .0 .parts .kind) (a .0 .parts .identifier) t) _ d (a .2) in
     let f = accepted-same (b .2) in
-    record { packet = a .0; stream = b .0; reads = a .1; seeks = b .1; says = ap (λ (x : Done Heard (List ℕ)). x .says) f; leaves = ap (λ (x : Done Heard (List ℕ)). x .leaves) f }
+    record {
+      packet = a .0;
+      stream = b .0;
+      reads = a .1;
+      seeks = b .1;
+      says = ap (λ (x : Done Heard (List ℕ)). x .says) f;
+      leaves = ap (λ (x : Done Heard (List ℕ)). x .leaves) f;
+    }
 
 -- ---- what it keeps
 module _ (t ws : List ℕ) (w : wellMade t ≡ true) (d : Done Heard (List ℕ)) (k : Taken t ws d) where
@@ -136,8 +144,8 @@ play-keeps t ws =
 pub play-taken : (t ws : List ℕ) (d : Done Heard (List ℕ)) → playOf t ws ≡ accepted d → (wellMade t ≡ true) × Taken t ws d
 unfolding playOf
 play-taken t ws d e =
-    let a = after-passed (madeOf t) (stepOf t ws) d e in
-    (made-well t (a .1), step-taken t ws d (a .2))
+    let w = not-false (wellMade t) (first-passed (tableList t) _ d e .0 .0) in
+    (w, step-taken t ws d (sym (play-step t ws w) ∙ e))
 
 -- another stream's record is not touched
 pub play-other : (t ws : List ℕ) (d : Done Heard (List ℕ)) → playOf t ws ≡ accepted d → (u : ℕ) → (u ≡ d .says .stream → ⊥) → recordAt u (d .leaves) ≡ recordAt u t

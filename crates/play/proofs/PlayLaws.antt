@@ -1,31 +1,33 @@
 -- Playing a packet. The idea: the record of the packet's stream is lent, so the table afterwards is `withRecord` of the record afterwards (`lent-heard`), which is
 -- what hearing the packet leaves (`heard-data`, `heard-context`); a refusal leaves the table, since `leftOf` does.
-use mathlib.Core.Path.{_≡_, refl, ap, _∙_}
+use mathlib.Core.Path.{_≡_, refl, sym, ap, _∙_}
 use mathlib.Core.Bool.{true, false, not}
 use mathlib.Core.List.{List, [], _++_}
 use Prim.Native.Nat.{ℕ, _+_, _-_, _≤_, _<_}
 use native.Mathlib.Nat.{le-trans}
 use native.Mathlib.Omega.{arith}
 use borrow.Author.Tests.{not-false}
-use lib.ListN.{length, take, drop}
+use lib.ListN.{length, take, drop, getD}
 use Rattle.words.specs.Part.{part}
 use Rattle.words.specs.Numbers.{TABLE}
-use Rattle.words.specs.Outcome.{refused, accepted, Meets}
-use Rattle.words.proofs.Cases.{passed}
+use Rattle.words.specs.Outcome.{refused, accepted, after, onward, Meets}
+use Rattle.words.specs.Refusals.{firstGiven}
+use Rattle.words.proofs.RefusalLaws.{first-passed, after-first, onward-first}
 use Rattle.words.proofs.PartLaws.{seen, lent-to, part-length}
 use Rattle.fields.specs.Layout.{contextOf}
 use Rattle.packet.specs.Header.{typeOf, countOf, sizeOf}
 use Rattle.packet.specs.Parts.{bodyAt, bodyLength, partsOf, packetOf}
-use Rattle.packet.specs.Read.{readOf}
+use Rattle.packet.specs.Read.{readList, readOf}
 use Rattle.packet.proofs.ReadLaws.{read-inside, body-inside, body-context}
 use Rattle.record.specs.Layout.{recordWords}
 use Rattle.record.specs.After.{recordAfter, addedBy}
 use Rattle.record.specs.Good.{recordGood}
 use Rattle.record.proofs.PacketLaws.{after-body}
 use Rattle.table.specs.Layout.{streamsOf, base, recordAt, withRecord}
+use Rattle.table.specs.Identifiers.{streamOf}
 use Rattle.table.specs.Well.{wellMade}
 use Rattle.table.proofs.WellLaws.{well-whole, well-few, well-record, layout-has}
-use Rattle.play.specs.Play.{heardOf, tableAfter, stepOf, madeOf, playOf, paper}
+use Rattle.play.specs.Play.{heardOf, tableAfter, heardDone, tableList, streamList, madeOf, soughtOf, stepOf, playOf, paper}
 use Rattle.play.specs.Entered.{Headed, soughtIn, HeardAs}
 use Rattle.play.specs.declared.Played.{Played}
 use Rattle.play.specs.declared.Played.the-variants.{Accepted, Refused}
@@ -93,41 +95,52 @@ module _ (w s : ℕ) (ws t : List ℕ) (p : Headed w ws) where
 
 -- ---- the answers of a packet on a table that is well made
 
+-- the packet is read, its stream is looked for, and it is heard
+pub step-read : (t ws : List ℕ) → stepOf t ws ≡ onward (readOf ws) (λ p. onward (soughtOf (p .parts .kind) (p .parts .identifier) t) (λ s. heardDone p s t ws))
+unfolding stepOf readOf soughtOf
+step-read t ws =
+    let p = packetOf (getD ws 0 0) ws in
+    let list = readList (getD ws 0 0) ws in
+    let streams = streamList (p .parts .kind) (p .parts .identifier) t in
+    sym (onward-first list p _ ∙ ap (firstGiven list) (onward-first streams (streamOf (p .parts .identifier) t) _))
+
 -- reading refuses
 pub step-unread : (t ws : List ℕ) (n m : ℕ) → readOf ws ≡ refused n → m ≡ n → Meets paper (stepOf t ws) t (Refused m) t
-unfolding stepOf
-step-unread t ws n m e i = record { answer = rw (e, i); buffer = rw e }
+step-unread t ws n m e i = record { answer = rw (step-read, e, i); buffer = rw (step-read, e) }
 
 module _ (t ws : List ℕ) (w : ℕ) (p : Headed w ws) where
   -- the packet has no stream of the table
   pub step-unsought : (n m : ℕ) → soughtIn w ws t ≡ refused n → m ≡ n → Meets paper (stepOf t ws) t (Refused m) t
-  unfolding stepOf
-  step-unsought n m f i = record { answer = rw (p .reads, f, i); buffer = rw (p .reads, f) }
+  step-unsought n m f i = record { answer = rw (step-read, p .reads, f, i); buffer = rw (step-read, p .reads, f) }
 
   -- the packet is heard
   pub step-heard : (s more size kind : ℕ) (left : List ℕ) → soughtIn w ws t ≡ accepted s → size ≡ sizeOf w → kind ≡ typeOf w → HeardAs w s ws t more left
       → Meets paper (stepOf t ws) t (Accepted (record { size = size; kind = kind; stream = s; missing = more })) left
-  unfolding stepOf heardOf packetOf partsOf
-  step-heard s more size kind left f i k h = record { answer = rw (p .reads, f, i, k, h .adds); buffer = rw (p .reads, f) (h .leaves) }
+  unfolding heardOf packetOf partsOf
+  step-heard s more size kind left f i k h =
+      record { answer = rw (step-read, p .reads, f, i, k, h .adds); buffer = rw (step-read, p .reads, f) (h .leaves) }
 
 -- ---- the answers of a packet on any table
 
 pub made-well : (t : List ℕ) → madeOf t ≡ accepted tt → wellMade t ≡ true
 unfolding madeOf
-made-well t e = not-false (wellMade t) (passed (not (wellMade t)) _ _ tt e .0)
+made-well t e = not-false (wellMade t) (first-passed (tableList t) _ tt e .0 .0)
 
 module _ (t ws : List ℕ) where
+  play-after : playOf t ws ≡ after (madeOf t) (stepOf t ws)
+  unfolding playOf madeOf stepOf
+  play-after = sym (after-first (tableList t) tt _)
+
   pub play-unmade : (n m : ℕ) → madeOf t ≡ refused n → m ≡ n → Meets paper (playOf t ws) t (Refused m) t
-  unfolding playOf
-  play-unmade n m e i = record { answer = rw (e, i); buffer = rw e }
+  play-unmade n m e i = record { answer = rw (play-after, e, i); buffer = rw (play-after, e) }
 
   pub play-refuses : wellMade t ≡ false → playOf t ws ≡ refused TABLE
-  unfolding playOf madeOf
+  unfolding playOf
   play-refuses w = rw w
 
   -- on a well-made table it is the step
   pub play-step : wellMade t ≡ true → playOf t ws ≡ stepOf t ws
-  unfolding playOf madeOf
+  unfolding playOf stepOf
   play-step w = rw w
 
   pub play-made : (r : Played) (last : List ℕ) → madeOf t ≡ accepted tt → Meets paper (stepOf t ws) t r last → Meets paper (playOf t ws) t r last

@@ -15,6 +15,7 @@ use Rattle.words.specs.Tests.{pick, when}
 use Rattle.words.specs.Part.{put}
 use Rattle.words.specs.Outcome.{Outcome, refused, accepted, Done, saidOf, leftOf, Meets}
 use Rattle.words.proofs.Cases.{le-or-lt}
+use Rattle.words.proofs.RefusalLaws.{first-refused}
 use Rattle.words.proofs.LaidLaws.{sets-all}
 use Rattle.words.proofs.PartLaws.{put-at, put-length}
 use Rattle.fields.proofs.PlaceLaws.{rest-whole, first-word}
@@ -28,10 +29,10 @@ use Rattle.play.specs.declared.Played.the-variants.{Accepted, Refused}
 use Rattle.play.specs.declared.run.Entry.{Entry}
 use Rattle.play.specs.declared.run.Reached.{Reached}
 use Rattle.play.specs.declared.run.Ran.the-variants as Ran
-use Rattle.play.specs.Play.{stepOf, madeOf, playOf, paper}
+use Rattle.play.specs.Play.{tableList, madeOf, stepOf, playOf, paper}
 use Rattle.play.specs.Run.{goesOn, saidAt, leftAt, nextOf, Stepped, entryWords, entryOf, entryAt, wordsOf, Walk, ended, before, walkOf, wholeWalk, reachedOf, answersOf, WalkDone, runOf, runPaper}
 use Rattle.play.specs.Entered.{Entered}
-use Rattle.play.proofs.PlayLaws.{play-step}
+use Rattle.play.proofs.PlayLaws.{made-well, play-step}
 use Rattle.play.proofs.KeepLaws.{Kept, nothing-changed, play-keeps}
 
 -- ---- a step
@@ -261,13 +262,15 @@ module _ (most from at n : ℕ) (ws t₀ buffer₀ t buffer : List ℕ) (p : Run
 
 module _ (t ws : List ℕ) (from : ℕ) (answers : List ℕ) where
   pub run-unmade : (n m : ℕ) → madeOf t ≡ refused n → m ≡ n → Meets runPaper (runOf t ws from answers) (t, answers) (Ran.Refused m) (t, answers)
-  unfolding runOf
-  run-unmade n m e i = record { answer = rw (e, i); buffer = rw e }
+  unfolding runOf madeOf
+  run-unmade n m e i =
+      let f : runOf t ws from answers ≡ refused n = first-refused (tableList t) tt n _ e in
+      record { answer = rw (f, i); buffer = rw f }
 
   pub run-made : (r : Reached) (left written : List ℕ) → madeOf t ≡ accepted tt → WalkDone (wholeWalk t ws from answers) answers r left written
       → Meets runPaper (runOf t ws from answers) (t, answers) (Ran.Accepted r) (left, written)
   unfolding runOf
-  run-made r left written e d = record { answer = rw (e, d .reached); buffer = rw (e, d .table, d .answers) }
+  run-made r left written e d = let w = made-well t e in record { answer = rw (w, d .reached); buffer = rw (w, d .table, d .answers) }
 
 -- ---- what a run keeps
 

@@ -1,6 +1,6 @@
 -- An accepted packet and its stream. The idea: reading accepts a packet of type 5 at most whose words are there (`headed-kind`, `headed-sized`); the types that
 -- have an identifier are all but 0 and 2, so looking for it where there is one is looking by the type (`sought-in`).
-use mathlib.Core.Path.{_≡_, refl, sym, _∙_}
+use mathlib.Core.Path.{_≡_, refl, sym, subst, _∙_}
 use mathlib.Core.Bool.{Bool, true, false, not}
 use mathlib.Core.List.{List, [], _∷_}
 use Prim.Native.Nat.{ℕ, _≤_, _<_}
@@ -9,21 +9,21 @@ use borrow.Author.Tests.{ne-eqb, ltb-false, le-leb, lt-leb, leb-false}
 use lib.Dec.{eqb, leb, ltb}
 use lib.ListN.{length, getD}
 use Rattle.words.specs.Numbers.{STREAM}
-use Rattle.words.specs.Tests.{pick, among}
+use Rattle.words.specs.Tests.{pick, among, either}
 use Rattle.words.specs.All.{all}
 use Rattle.words.specs.Outcome.{Outcome, refused, accepted}
-use Rattle.words.proofs.Cases.{passed, accepted-same, true-is-false}
+use Rattle.words.proofs.Cases.{accepted-same, true-is-false}
+use Rattle.words.proofs.RefusalLaws.{Numbered, first-passed, either-passed, number-among}
 use Rattle.words.proofs.AllLaws.{all-at}
 use Rattle.packet.specs.Header.{typeOf, sizeOf}
 use Rattle.packet.specs.Parts.{streamed, wordIf, requiredOf, bodyOf, partsOf, packetOf}
-use Rattle.packet.specs.Read.{headerChecks, bodyChecks}
-use Rattle.packet.specs.Front.{frontChecks}
+use Rattle.packet.specs.Read.{headerList, headerChecks, bodyChecks, frontChecks}
 use Rattle.packet.proofs.ReadLaws.{sized, Passed, read-accepts}
 use Rattle.packet.proofs.FrontLaws.{body-accepted}
 use Rattle.table.specs.Layout.{streamsOf}
 use Rattle.table.specs.Identifiers.{declared, streamOf}
 use Rattle.table.proofs.ListLaws.{stream-found, stream-none}
-use Rattle.play.specs.Play.{soughtOf}
+use Rattle.play.specs.Play.{streamList, soughtOf}
 use Rattle.play.specs.Entered.{declaredOf, Headed, soughtIn}
 
 -- ---- the stream of an identifier
@@ -56,31 +56,27 @@ opposed k = pick (among k streamedKinds) (not (among k otherKinds)) (among k oth
 sought-streamed : (kind identifier : ℕ) (t : List ℕ) → kind < 6 → pick (among kind streamedKinds) (declaredOf identifier t) (refused STREAM) ≡ soughtOf kind identifier t
 unfolding opposed all soughtOf
 sought-streamed kind identifier t h =
-    swapped (among kind streamedKinds) (among kind otherKinds) (declaredOf identifier t) (refused STREAM) (all-at opposed 6 kind h refl)
+    swapped (among kind streamedKinds) (among kind otherKinds) (leb (streamsOf t) (streamOf identifier t)) (refused STREAM) _ (all-at opposed 6 kind h refl)
   where
-    swapped : (a b : Bool) (x y : Outcome ℕ) → pick a (not b) b ≡ true → pick a x y ≡ pick b y x
-    swapped true true x y e = absurd (true-is-false (sym e))
-    swapped true false x y e = refl
-    swapped false true x y e = refl
-    swapped false false x y e = absurd (true-is-false (sym e))
+    swapped : (a b c : Bool) (x y : Outcome ℕ) → pick a (not b) b ≡ true → pick a (pick c x y) x ≡ pick (either b c) x y
+    swapped true true c x y e = absurd (true-is-false (sym e))
+    swapped true false c x y e = refl
+    swapped false true c x y e = refl
+    swapped false false c x y e = absurd (true-is-false (sym e))
 
 -- STREAM alone is given where none is found
 pub sought-number : (kind identifier : ℕ) (t : List ℕ) (n : ℕ) → soughtOf kind identifier t ≡ refused n → n ≡ STREAM
 unfolding soughtOf
-sought-number kind identifier t n e = number (among kind otherKinds) (leb (streamsOf t) (streamOf identifier t)) (streamOf identifier t) e
-  where
-    number : (a b : Bool) (s : ℕ) → pick a (refused STREAM) (pick b (refused STREAM) (accepted s)) ≡ refused n → n ≡ STREAM
-    number true b s e = cc
-    number false true s e = cc
-    number false false s e = let z : _≡_ {A = ℕ} 0 1 = cc in absurd (omega arith)
+sought-number kind identifier t n e =
+    subst (Numbered (λ k. k ≡ STREAM)) e (number-among (λ k. k ≡ STREAM) (streamList kind identifier t) (accepted (streamOf identifier t)) (refl, tt) tt)
 
 -- a stream that is found is one of the table's
 pub sought-below : (kind identifier : ℕ) (t : List ℕ) (s : ℕ) → soughtOf kind identifier t ≡ accepted s → s < streamsOf t
 unfolding soughtOf
 sought-below kind identifier t s f =
-    let a = passed (among kind otherKinds) STREAM (declaredOf identifier t) s f in
-    let b = passed (leb (streamsOf t) (streamOf identifier t)) STREAM (accepted (streamOf identifier t)) s (a .1) in
-    rw (accepted-same (b .1)) at (leb-false (streamsOf t) (streamOf identifier t) (b .0))
+    let a = first-passed (streamList kind identifier t) _ s f in
+    let b = either-passed (among kind otherKinds) (leb (streamsOf t) (streamOf identifier t)) (a .0 .0) in
+    rw (accepted-same (a .1)) at (leb-false (streamsOf t) (streamOf identifier t) (b .1))
 
 dataLike : ℕ → Bool
 dataLike k = pick (eqb k 4) true (pick (among k otherKinds) true (among k (1 ∷ 3 ∷ 5 ∷ [])))
@@ -89,7 +85,8 @@ dataLike k = pick (eqb k 4) true (pick (among k otherKinds) true (among k (1 ∷
 sought-data : (kind identifier : ℕ) (t : List ℕ) (s : ℕ) → kind < 6 → (kind ≡ 4 → ⊥) → soughtOf kind identifier t ≡ accepted s → among kind (1 ∷ 3 ∷ 5 ∷ []) ≡ true
 unfolding dataLike all soughtOf
 sought-data kind identifier t s h n e =
-    rw (ne-eqb kind 4 n, passed (among kind otherKinds) STREAM (declaredOf identifier t) s e .0) at (all-at dataLike 6 kind h refl)
+    let a = first-passed (streamList kind identifier t) _ s e .0 .0 in
+    rw (ne-eqb kind 4 n, either-passed (among kind otherKinds) (leb (streamsOf t) (streamOf identifier t)) a .0) at (all-at dataLike 6 kind h refl)
 
 -- ---- an accepted packet, whose header is w
 
@@ -108,7 +105,7 @@ module _ (w : ℕ) (ws : List ℕ) (p : Headed w ws) where
   headed-kind : typeOf w < 6
   unfolding headerChecks
   headed-kind =
-      let k = ltb-false 5 (typeOf w) (passed (ltb 5 (typeOf w)) _ _ tt (headed-passed .header) .0) in
+      let k = ltb-false 5 (typeOf w) (first-passed (headerList w) _ tt (headed-passed .header) .0 .0) in
       omega arith
 
   module _ (t : List ℕ) where

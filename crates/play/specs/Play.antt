@@ -1,14 +1,17 @@
 -- Document 01: "Play: TABLE, read order, STREAM". "Play answers size, type, stream number (place in the list, from 0) and missing added."
 use Prim.Native.Nat.{ℕ}
 use mathlib.Core.Bool.{not}
-use mathlib.Core.List.{List, [], _∷_}
+use mathlib.Core.List.{List, [], _∷_, _++_}
 use lib.Dec.{leb}
+use lib.ListN.{getD}
 use Rattle.words.specs.Numbers.{STREAM, TABLE}
-use Rattle.words.specs.Tests.{pick, among}
+use Rattle.words.specs.Tests.{among, either}
 use Rattle.words.specs.Part.{part}
-use Rattle.words.specs.Outcome.{Outcome, refused, accepted, after, onward, Done}
+use Rattle.words.specs.Outcome.{Outcome, refused, accepted, Done}
+use Rattle.words.specs.Refusals.{Refusals, firstGiven}
 use Rattle.packet.specs.declared.Packet.{Packet}
-use Rattle.packet.specs.Read.{readOf}
+use Rattle.packet.specs.Parts.{packetOf}
+use Rattle.packet.specs.Read.{readList}
 use Rattle.record.specs.After.{recordAfter, addedBy}
 use Rattle.table.specs.Layout.{streamsOf, recordAt, withRecord}
 use Rattle.table.specs.Identifiers.{streamOf}
@@ -19,13 +22,6 @@ use Rattle.play.specs.declared.Played.the-variants.{Accepted, Refused}
 use Rattle.play.specs.declared.streams.Sought.{Sought}
 use Rattle.play.specs.declared.streams.Sought.the-variants.{At, Unknown}
 
--- STREAM: "no identifier (types 0, 2), one not declared"; else the stream's number
-unfoldable pub soughtOf : ℕ → ℕ → List ℕ → Outcome ℕ
-soughtOf kind identifier t =
-    pick (among kind (0 ∷ 2 ∷ [])) (refused STREAM)
-    (pick (leb (streamsOf t) (streamOf identifier t)) (refused STREAM)
-    (accepted (streamOf identifier t)))
-
 -- what an accepted packet of stream s says, played on the table t
 unfoldable pub heardOf : Packet → ℕ → List ℕ → Heard
 heardOf p s t = record { size = p .size; kind = p .parts .kind; stream = s; missing = addedBy (p .parts .kind) (p .parts .count) (recordAt s t) }
@@ -34,20 +30,43 @@ heardOf p s t = record { size = p .size; kind = p .parts .kind; stream = s; miss
 unfoldable pub tableAfter : Packet → ℕ → List ℕ → List ℕ → List ℕ
 tableAfter p s ws t = withRecord s (recordAfter (p .parts .kind) (p .parts .count) (part (p .body) (p .length) ws) (recordAt s t)) t
 
+-- both together
+abbrev pub heardDone : Packet → ℕ → List ℕ → List ℕ → Outcome (Done Heard (List ℕ))
+heardDone p s t ws = accepted (record { says = heardOf p s t; leaves = tableAfter p s ws t })
+
+-- ---- the refusals, in their order
+
+-- "table not well made"
+abbrev pub tableList : List ℕ → Refusals
+tableList t = (TABLE, not (wellMade t)) ∷ []
+
+-- "no identifier (types 0, 2), one not declared"
+abbrev pub streamList : ℕ → ℕ → List ℕ → Refusals
+streamList kind identifier t = (STREAM, either (among kind (0 ∷ 2 ∷ [])) (leb (streamsOf t) (streamOf identifier t))) ∷ []
+
+-- those of a packet on a table that is known to be well made
+abbrev pub stepList : List ℕ → List ℕ → Refusals
+stepList t ws = let p = packetOf (getD ws 0 0) ws in readList (getD ws 0 0) ws ++ streamList (p .parts .kind) (p .parts .identifier) t
+
+abbrev pub playList : List ℕ → List ℕ → Refusals
+playList t ws = tableList t ++ stepList t ws
+
+-- ---- what playing answers and leaves
+
+unfoldable pub madeOf : List ℕ → Outcome Unit
+madeOf t = firstGiven (tableList t) (accepted tt)
+
+-- the number of a packet's stream
+unfoldable pub soughtOf : ℕ → ℕ → List ℕ → Outcome ℕ
+soughtOf kind identifier t = firstGiven (streamList kind identifier t) (accepted (streamOf identifier t))
+
 -- a packet on a table that is known to be well made
 unfoldable pub stepOf : List ℕ → List ℕ → Outcome (Done Heard (List ℕ))
-stepOf t ws =
-    onward (readOf ws) (λ p.
-    onward (soughtOf (p .parts .kind) (p .parts .identifier) t) (λ s.
-    accepted (record { says = heardOf p s t; leaves = tableAfter p s ws t })))
-
--- TABLE: "table not well made"
-unfoldable pub madeOf : List ℕ → Outcome Unit
-madeOf t = pick (not (wellMade t)) (refused TABLE) (accepted tt)
+stepOf t ws = let p = packetOf (getD ws 0 0) ws in firstGiven (stepList t ws) (heardDone p (streamOf (p .parts .identifier) t) t ws)
 
 -- a packet on a table
 unfoldable pub playOf : List ℕ → List ℕ → Outcome (Done Heard (List ℕ))
-playOf t ws = after (madeOf t) (stepOf t ws)
+playOf t ws = let p = packetOf (getD ws 0 0) ws in firstGiven (playList t ws) (heardDone p (streamOf (p .parts .identifier) t) t ws)
 
 -- ---- the numbers and values of answers
 

@@ -8,7 +8,8 @@ use lib.Dec.{eqb, leb}
 use lib.ListN.{length, drop, getD}
 use Rattle.words.specs.Numbers.{STREAM}
 use Rattle.words.specs.Tests.{pick, when}
-use Rattle.words.specs.Outcome.{Outcome, refused, accepted, after, Done, saidOf, leftOf}
+use Rattle.words.specs.Outcome.{Outcome, refused, accepted, Done, saidOf, leftOf}
+use Rattle.words.specs.Refusals.{firstGiven}
 use Rattle.packet.specs.Header.{sizeOf}
 use Rattle.play.specs.declared.Heard.{Heard}
 use Rattle.play.specs.declared.inner.Happened.{Happened}
@@ -16,7 +17,7 @@ use Rattle.play.specs.declared.run.Entry.{Entry}
 use Rattle.play.specs.declared.run.Reached.{Reached}
 use Rattle.play.specs.declared.run.Ran.{Ran}
 use Rattle.play.specs.declared.run.Ran.the-variants.{Accepted, Refused}
-use Rattle.play.specs.Play.{madeOf, playOf, paper}
+use Rattle.play.specs.Play.{tableList, playOf, paper}
 
 -- ---- one step
 
@@ -103,8 +104,8 @@ pub record WalkDone (w : Walk) (buffer : List ℕ) (r : Reached) (left written :
 -- what a run answers, and what it leaves in the table and in the answers: TABLE, or the walk
 unfoldable pub runOf : List ℕ → List ℕ → ℕ → List ℕ → Outcome (Done Reached (List ℕ × List ℕ))
 runOf t ws from answers =
-    after (madeOf t)
-    (accepted (record { says = reachedOf (wholeWalk t ws from answers); leaves = (wholeWalk t ws from answers .table, answersOf (wholeWalk t ws from answers) answers) }))
+    let w = wholeWalk t ws from answers in
+    firstGiven (tableList t) (accepted (record { says = reachedOf w; leaves = (w .table, answersOf w answers) }))
 
 abbrev pub runPaper : Ran → Outcome Reached
 runPaper (Refused n) = refused n

@@ -1,7 +1,7 @@
 // Plays the recordings of standard input with `table::start` and `play::play`, and writes what they answer and the table that they leave.
 // A recording is the room of the table, S and S identifiers, D and D stores (place, word) after the start, P, and P packets (n, and n words).
 use play::Played;
-use table::Started;
+use words::Length;
 
 // The line of a table that was played on: the words of its layout.
 fn show_table(table: &[u32], length: usize) {
@@ -124,8 +124,8 @@ fn recording(table: &mut [u32], ids: &mut [u32], words: &mut [u32]) {
     wordio::inner::fill(&mut ids[0..n]);
     wordio::inner::pattern(table);
     match table::start(&ids[0..n], table) {
-        Started::Accepted(length) => play_recording(length, table, words),
-        Started::Refused(number) => pass_over(number, table),
+        Length::Accepted(length) => play_recording(length, table, words),
+        Length::Refused(number) => pass_over(number, table),
     }
 }
 

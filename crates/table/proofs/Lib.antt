@@ -8,5 +8,3 @@ pub mod ListLaws
 pub mod WellLaws
 -- a fresh table
 pub mod StartLaws
--- two answers that meet a promise are equal
-pub mod Uniqueness

@@ -2,19 +2,20 @@
 -- good and the list is that which was given.
 use mathlib.Core.Path.{_≡_, refl, sym, ap, _∙_}
 use mathlib.Core.List.{List, [], _∷_, _++_, append-assoc, append-nil}
-use mathlib.Core.Bool.{true, false, not}
+use mathlib.Core.Bool.{true, false}
 use Prim.Native.Nat.{ℕ, zero, suc, _+_, _-_, _*_, _≤_, _<_}
 use native.Mathlib.Nat.{not-suc-le-zero, le-of-suc-le-suc}
 use native.Mathlib.Numerals.{add-one}
 use native.Mathlib.Omega.{arith}
 use borrow.Author.Tests.{lt-ltb, le-ltb, ltb-false, not-false}
-use lib.Dec.{ltb}
 use lib.ListN.{length, getD, take, drop, set, length-append, length-drop, length-replicate, take-append-drop}
 use lib.Seq.{take-suc, take-all, drop-drop, length-take-le, take-suc-set, drop-set-lt, drop-at}
 use Rattle.words.specs.Numbers.{LIST, ROOM}
 use Rattle.words.specs.Part.{part}
-use Rattle.words.specs.Outcome.{Done, accepted, Meets}
-use Rattle.words.proofs.Cases.{passed, accepted-same}
+use Rattle.words.specs.declared.Length.the-variants.{Accepted, Refused}
+use Rattle.words.specs.Outcome.{Done, accepted, measured, Meets}
+use Rattle.words.proofs.Cases.{accepted-same}
+use Rattle.words.proofs.RefusalLaws.{first-passed, meets-refused, meets-length}
 use Rattle.words.proofs.PartLaws.{put-at, part-front, part-past, part-within}
 use Rattle.record.specs.Layout.{recordWords, identifierOf}
 use Rattle.record.specs.Good.{recordGood}
@@ -22,8 +23,7 @@ use Rattle.record.proofs.GoodLaws.{zero-at, of-good, blank-good}
 use Rattle.table.specs.Layout.{streamsOf, base, Has, recordAt, withRecord}
 use Rattle.table.specs.Identifiers.{spaced, listed, declared, listGood}
 use Rattle.table.specs.Well.{wellMade}
-use Rattle.table.specs.Start.{freshRecord, freshRecords, freshTable, startOf, paper}
-use Rattle.table.specs.declared.Started.the-variants.{Accepted, Refused}
+use Rattle.table.specs.Start.{freshRecord, freshRecords, freshTable, startList, startOf}
 use Rattle.table.proofs.RecordLaws.{record-identifier, with-length}
 use Rattle.table.proofs.ListLaws.{list-of, list-same, list-next}
 use Rattle.table.proofs.WellLaws.{well-from}
@@ -99,28 +99,22 @@ writing-end ids t₀ t s e w =
 -- ---- the answers
 
 module _ (ids t : List ℕ) where
-  pub start-list : listGood (length ids) (spaced 0 1 ids) ≡ false → Meets paper (startOf ids t) t (Refused LIST) t
+  pub start-list : listGood (length ids) (spaced 0 1 ids) ≡ false → Meets measured (startOf ids t) t (Refused LIST) t
   unfolding startOf
-  start-list e = let f : listGood (length ids) (listed ids) ≡ false = sym (list-next ids) ∙ e in record { answer = rw f; buffer = rw f }
+  start-list e = meets-refused (rw (← list-next ids, e))
 
-  pub start-room : listGood (length ids) (spaced 0 1 ids) ≡ true → length t < base (length ids) → Meets paper (startOf ids t) t (Refused ROOM) t
+  pub start-room : listGood (length ids) (spaced 0 1 ids) ≡ true → length t < base (length ids) → Meets measured (startOf ids t) t (Refused ROOM) t
   unfolding startOf
-  start-room e h =
-      let f : listGood (length ids) (listed ids) ≡ true = sym (list-next ids) ∙ e in
-      record { answer = rw (f, lt-ltb _ _ h); buffer = rw (f, lt-ltb _ _ h) }
+  start-room e h = meets-refused (rw (← list-next ids, e, lt-ltb _ _ h))
 
   pub start-made : (last : List ℕ) → listGood (length ids) (spaced 0 1 ids) ≡ true → base (length ids) ≤ length t
       → last ≡ take 1 (set t 0 (length ids)) ++ (freshRecords ids ++ drop (base (length ids)) (set t 0 (length ids)))
-      → Meets paper (startOf ids t) t (Accepted (base (length ids))) last
+      → Meets measured (startOf ids t) t (Accepted (base (length ids))) last
   unfolding startOf freshTable
   start-made last e h l =
-      let f : listGood (length ids) (listed ids) ≡ true = sym (list-next ids) ∙ e in
       let o : 0 < length t = omega arith in
       let b : 0 < base (length ids) = omega arith in
-      record {
-        answer = rw (f, le-ltb _ _ h);
-        buffer = rw (f, le-ltb _ _ h) (l ∙ rw (take-suc-set t 0 (length ids) o, drop-set-lt (base (length ids)) t 0 (length ids) b));
-      }
+      meets-length {left = freshTable ids t} (rw (← list-next ids, e, le-ltb _ _ h)) (l ∙ rw (take-suc-set t 0 (length ids) o, drop-set-lt (base (length ids)) t 0 (length ids) b))
 
   -- the list is short
   pub start-few : listGood (length ids) (spaced 0 1 ids) ≡ true → length ids ≤ 32
@@ -190,9 +184,8 @@ pub record Begun (ids t : List ℕ) (d : Done ℕ (List ℕ)) : Type 0 where
 pub start-well-made : (ids t : List ℕ) (d : Done ℕ (List ℕ)) → startOf ids t ≡ accepted d → Begun ids t d
 unfolding startOf
 start-well-made ids t d e =
-    let a = passed (not (listGood (length ids) (listed ids))) _ _ d e in
-    let b = passed (ltb (length t) (base (length ids))) _ _ d (a .1) in
-    let g : listGood (length ids) (listed ids) ≡ true = not-false _ (a .0) in
-    let h : base (length ids) ≤ length t = ltb-false _ _ (b .0) in
-    rw (← accepted-same (b .1))
+    let a = first-passed (startList ids t) _ d e in
+    let g : listGood (length ids) (listed ids) ≡ true = not-false _ (a .0 .0) in
+    let h : base (length ids) ≤ length t = ltb-false _ _ (a .0 .1 .0) in
+    rw (← accepted-same (a .1))
     (record { well = fresh-well ids t g h; size = rw (fresh-streams ids t g h); streams = fresh-streams ids t g h; list = fresh-list ids t g h; past = fresh-past ids t g h })

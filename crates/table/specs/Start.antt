@@ -5,13 +5,11 @@ use mathlib.Core.List.{List, [], _∷_, _++_}
 use lib.Dec.{ltb}
 use lib.ListN.{length, drop, replicate}
 use Rattle.words.specs.Numbers.{LIST, ROOM}
-use Rattle.words.specs.Tests.{pick}
-use Rattle.words.specs.Outcome.{Outcome, refused, accepted, Done}
+use Rattle.words.specs.Outcome.{Outcome, accepted, Done}
+use Rattle.words.specs.Refusals.{Refusals, firstGiven}
 use Rattle.record.specs.Layout.{recordWords}
 use Rattle.table.specs.Layout.{base}
 use Rattle.table.specs.Identifiers.{listed, listGood}
-use Rattle.table.specs.declared.Started.{Started}
-use Rattle.table.specs.declared.Started.the-variants.{Accepted, Refused}
 
 -- a stream's record at the start: its identifier, and zeros
 unfoldable pub freshRecord : ℕ → List ℕ
@@ -26,14 +24,10 @@ freshRecords (i ∷ ids) = freshRecord i ++ freshRecords ids
 unfoldable pub freshTable : List ℕ → List ℕ → List ℕ
 freshTable ids t = length ids ∷ (freshRecords ids ++ drop (base (length ids)) t)
 
+-- "0 or over 32 identifiers, or one twice"; "a buffer to be written is too short"
+abbrev pub startList : List ℕ → List ℕ → Refusals
+startList ids t = (LIST, not (listGood (length ids) (listed ids))) ∷ (ROOM, ltb (length t) (base (length ids))) ∷ []
+
 -- what start answers, the layout's length, and what it leaves in the table
 unfoldable pub startOf : List ℕ → List ℕ → Outcome (Done ℕ (List ℕ))
-startOf ids t =
-    pick (not (listGood (length ids) (listed ids))) (refused LIST)
-    (pick (ltb (length t) (base (length ids))) (refused ROOM)
-    (accepted (record { says = base (length ids); leaves = freshTable ids t })))
-
--- the number and value of an answer
-abbrev pub paper : Started → Outcome ℕ
-paper (Refused n) = refused n
-paper (Accepted n) = accepted n
+startOf ids t = firstGiven (startList ids t) (accepted (record { says = base (length ids); leaves = freshTable ids t }))

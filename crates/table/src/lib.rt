@@ -4,32 +4,26 @@ pub mod inner;
 mod records;
 
 ghost use mathlib.Core.Path.{_≡_};
-ghost use Rattle.words.specs.Outcome.{Meets};
+ghost use Rattle.words.specs.Outcome.{measured, Meets};
 ghost use Rattle.table.specs.Well.{wellMade};
-ghost use Rattle.table.specs.Start.{startOf, paper};
+ghost use Rattle.table.specs.Start.{startOf};
 
-// What start answers: the layout's length in words, or the number of the refusal.
-pub enum Started {
-    Accepted(usize),
-    Refused(u32),
-}
-
-// Starts a table for a list of identifiers: LIST for 0 or over 32 of them, or one twice; ROOM where the table is shorter than the layout. Words past the
+// Starts a table for a list of identifiers, and answers the layout's length: LIST for 0 or over 32 of them, or one twice; ROOM where the table is shorter than the layout. Words past the
 // layout stay.
-pub fn start(ids: &[u32], table: &mut [u32]) -> Started
-    ensures { λ r. ⌜ Meets paper (startOf (now (ids .entry)) (now (table .entry))) (now (table .entry)) r (now (table .exit)) ⌝ }
+pub fn start(ids: &[u32], table: &mut [u32]) -> words::Length
+    ensures { λ r. ⌜ Meets measured (startOf (now (ids .entry)) (now (table .entry))) (now (table .entry)) r (now (table .exit)) ⌝ }
 {
     let n = ids.len();
     if !identifiers::list_good(ids, 0, 1, n) {
-        return Started::Refused(words::LIST);
+        return words::Length::Refused(words::LIST);
     }
     let length = 1 + record::inner::RECORD_WORDS * n;
     if table.len() < length {
-        return Started::Refused(words::ROOM);
+        return words::Length::Refused(words::ROOM);
     }
     table[0] = n as u32;
     records::write_records(table, ids);
-    Started::Accepted(length)
+    words::Length::Accepted(length)
 }
 
 // Whether a table is well made: the whole layout is there, its list is valid, and each record is good.

@@ -3,7 +3,7 @@
 -- call that is lent other buffers beside (`beside-..`).
 use mathlib.Core.Path.{_≡_, refl, sym, ap, _∙_}
 use mathlib.Core.List.{List, _++_}
-use Prim.Native.Nat.{ℕ, _+_, _≤_, _<_}
+use Prim.Native.Nat.{ℕ, _+_, _^_, _≤_, _<_}
 use native.Mathlib.Nat.{zero-add}
 use native.Mathlib.Omega.{arith}
 use borrow.Author.Tests.{lt-ltb, le-ltb}
@@ -11,10 +11,11 @@ use lib.ListN.{length, drop}
 use lib.Seq.{sets, sets-eq}
 use Rattle.words.specs.Numbers.{ROOM}
 use Rattle.words.specs.Part.{part, put}
-use Rattle.words.specs.Outcome.{Outcome, refused, accepted, numberOf, Done, saidOf, leftOf, Meets}
+use Rattle.words.specs.declared.Length.{Length}
+use Rattle.words.specs.Outcome.{Outcome, refused, accepted, numberOf, measured, Done, saidOf, leftOf, Meets}
 use Rattle.words.proofs.Cases.{accepted-same}
 use Rattle.words.proofs.PartLaws.{part-whole}
-use Rattle.vrt49.specs.Answers.{Gives, front, answering, answeringBeside}
+use Rattle.vrt49.specs.Answers.{Gives, oneValue, front, answering, answeringBeside, given, Small}
 
 refused-same : {A : Type 0} {j k : ℕ} → _≡_ {A = Outcome A} (refused j) (refused k) → j ≡ k
 refused-same e = ap numberOf e
@@ -73,6 +74,35 @@ module _ {A B L : Type 0} (n : ℕ) (values : A → List B) (want : Outcome (Don
 
     pub beside-values : (a : A) (after : List B) → paper r ≡ accepted a → after ≡ front (values a) answer → Gives (answeringBeside n values want answer) (before, answer) 0 (left, after)
     beside-values a after e g = let d = said-accepted want a (sym (m .answer) ∙ e) in stored-beside (d .0) a left after (d .1) (d .2) (m .buffer) h g
+
+-- ---- a length that is given on
+
+-- it fits a word
+small-length : (want : Outcome ℕ) → ((n : ℕ) → want ≡ accepted n → n < 2 ^ 32) → Small want
+small-length (refused k) f = tt
+small-length (accepted n) f = f n refl
+
+pub small-given : {said want : Outcome ℕ} → said ≡ want → ((n : ℕ) → want ≡ accepted n → n < 2 ^ 32) → Small said
+small-given e f = small-length _ (λ n k. f n (sym e ∙ k))
+
+pub small-beside : {L : Type 0} {want : Outcome (Done ℕ L)} {before left : L} {r : Length} → Meets measured want before r left
+    → ((d : Done ℕ L) → want ≡ accepted d → d .says < 2 ^ 32) → Small (measured r)
+small-beside {want = want} m f = small-length _ (λ n e. let d = said-accepted want n (sym (m .answer) ∙ e) in rw (← d .2) (f (d .0) (d .1)))
+
+module _ (answer : List ℕ) (r : Length) (k : ℕ) (after : List ℕ) (h : 1 ≤ length answer) (g : Gives (given (measured r) answer) answer k after) where
+  pub length-given : {want : Outcome ℕ} → measured r ≡ want → Gives (answering 1 oneValue want answer) answer k after
+  unfolding answering given
+  length-given e = rw (le-ltb (length answer) 1 h, ← e) g
+
+  pub length-beside : {L : Type 0} (want : Outcome (Done ℕ L)) (before left : L) → Meets measured want before r left
+      → Gives (answeringBeside 1 oneValue want answer) (before, answer) k (left, after)
+  unfolding answeringBeside given
+  length-beside (refused n) before left m =
+      let q = rw (m .answer) at g in
+      rw (le-ltb (length answer) 1 h) (record { number = q .number; buffers = rw (m .buffer, q .buffers) })
+  length-beside (accepted d) before left m =
+      let q = rw (m .answer) at g in
+      rw (le-ltb (length answer) 1 h) (record { number = q .number; buffers = rw (m .buffer, q .buffers) })
 
 -- ---- values stored
 

@@ -11,7 +11,7 @@ use Rattle.words.specs.Tests.{pick}
 use Rattle.words.specs.Outcome.{Outcome, refused, accepted, after, onward, numberOf, Done}
 use Rattle.fields.specs.Layout.{contextOf}
 use Rattle.packet.specs.declared.Parts.{Parts}
-use Rattle.packet.specs.Read.{headerChecks, sizeChecks, prologueChecks, bodyChecks, checksOf, readOf}
+use Rattle.packet.specs.Read.{bodyChecks, readOf}
 use Rattle.writing.specs.Write.{partsChecks, measureChecks, roomChecks, writeChecks, writeOf}
 use Rattle.trailer.specs.Trailer.{trailerWordOf}
 use Rattle.payload.specs.Unpack.{Buffers, unpackCheck, unpackOf}
@@ -19,12 +19,12 @@ use Rattle.payload.specs.Pack.{packCheck, packOf}
 use Rattle.payload.specs.Count.{neededOf}
 use Rattle.payload.specs.Signs.{signedOf}
 use Rattle.table.specs.Start.{startOf}
-use Rattle.play.specs.Play.{soughtOf, stepOf, madeOf, playOf}
+use Rattle.play.specs.Play.{playOf}
 use Rattle.play.specs.Run.{runOf}
 use Rattle.page.specs.Save.{lengthOf, saveOf}
 use Rattle.page.specs.PutBack.{putBackOf}
-use Rattle.panel.specs.Readings.{askedOf, readingOf}
-use Rattle.panel.specs.HeldWords.{copyOf, heldWordsOf}
+use Rattle.panel.specs.Readings.{readingOf}
+use Rattle.panel.specs.HeldWords.{heldWordsOf}
 use Rattle.vrt49.specs.Answers.{answering, answeringBeside}
 use Rattle.vrt49.specs.Packets.{wordsChecks, writeWordsOf, readGives, writeGives, trailerGives, trailerWordGives, findGives}
 use Rattle.vrt49.specs.Payloads.{packGives, neededGives, signedGives}
@@ -63,29 +63,13 @@ context-of : (body : List ℕ) → Numbered (contextOf body)
 unfolding contextOf
 context-of body = search numbered
 
-header-checks : (w : ℕ) → Numbered (headerChecks w)
-unfolding headerChecks
-header-checks w = search numbered
-
-size-checks : (w given : ℕ) → Numbered (sizeChecks w given)
-unfolding sizeChecks
-size-checks w given = search numbered
-
-prologue-checks : (w : ℕ) (ws : List ℕ) → Numbered (prologueChecks w ws)
-unfolding prologueChecks
-prologue-checks w ws = search numbered
-
 body-checks : (kind : ℕ) (ws : List ℕ) → Numbered (bodyChecks kind ws)
 unfolding bodyChecks
-body-checks kind ws = search (numbered, context-of)
-
-checks-of : (w : ℕ) (ws : List ℕ) → Numbered (checksOf w ws)
-unfolding checksOf
-checks-of w ws = search (numbered, header-checks, size-checks, prologue-checks, body-checks)
+body-checks kind ws = search numbered
 
 read-of : (ws : List ℕ) → Numbered (readOf ws)
 unfolding readOf
-read-of ws = search (numbered, checks-of)
+read-of ws = search numbered depth 24
 
 parts-checks : (p : Parts) → Numbered (partsChecks p)
 unfolding partsChecks
@@ -135,25 +119,13 @@ start-of : (ids t : List ℕ) → Numbered (startOf ids t)
 unfolding startOf
 start-of ids t = search numbered
 
-sought-of : (kind identifier : ℕ) (t : List ℕ) → Numbered (soughtOf kind identifier t)
-unfolding soughtOf
-sought-of kind identifier t = search numbered
-
-step-of : (t ws : List ℕ) → Numbered (stepOf t ws)
-unfolding stepOf
-step-of t ws = search (numbered, read-of, sought-of)
-
-made-of : (t : List ℕ) → Numbered (madeOf t)
-unfolding madeOf
-made-of t = search numbered
-
 play-of : (t ws : List ℕ) → Numbered (playOf t ws)
 unfolding playOf
-play-of t ws = search (numbered, made-of, step-of)
+play-of t ws = search numbered depth 24
 
 run-of : (t ws : List ℕ) (from : ℕ) (answers : List ℕ) → Numbered (runOf t ws from answers)
 unfolding runOf
-run-of t ws from answers = search (numbered, made-of)
+run-of t ws from answers = search numbered
 
 length-of : (t : List ℕ) → Numbered (lengthOf t)
 unfolding lengthOf
@@ -167,21 +139,13 @@ put-back-of : (p t : List ℕ) → Numbered (putBackOf p t)
 unfolding putBackOf
 put-back-of p t = search numbered
 
-asked-of : (t : List ℕ) (stream bit : ℕ) → Numbered (askedOf t stream bit)
-unfolding askedOf
-asked-of t stream bit = search numbered
-
 reading-of : (t : List ℕ) (stream bit : ℕ) → Numbered (readingOf t stream bit)
 unfolding readingOf
-reading-of t stream bit = search (numbered, asked-of)
-
-copy-of : (ws out : List ℕ) → Numbered (copyOf ws out)
-unfolding copyOf
-copy-of ws out = search numbered
+reading-of t stream bit = search numbered
 
 held-words-of : (t : List ℕ) (stream bit : ℕ) (out : List ℕ) → Numbered (heldWordsOf t stream bit out)
 unfolding heldWordsOf
-held-words-of t stream bit out = search (numbered, asked-of, copy-of)
+held-words-of t stream bit out = search numbered
 
 words-checks : (ws : List ℕ) → Numbered (wordsChecks ws)
 unfolding wordsChecks

@@ -1,17 +1,17 @@
 -- The numbers of an accepted answer fit the words that they are stored in. The idea: each follows from a bound that the call's own definition has.
 use mathlib.Core.Path.{_≡_, sym, _∙_}
-use mathlib.Core.Bool.{Bool, true, false, not}
+use mathlib.Core.Bool.{Bool, true, false}
 use mathlib.Core.List.{List, []}
 use Prim.Native.Nat.{ℕ, _+_, _-_, _*_, _%_, _≤_, _<_}
 use native.Mathlib.Nat.{le-trans, mod-lt, mul-le-mul, div-le-self}
 use native.Mathlib.Omega.{arith}
 use borrow.Author.Tests.{ltb-false}
-use lib.Dec.{ltb}
 use lib.ListN.{length, getD, length-take, length-drop}
 use Rattle.words.specs.Tests.{pick}
 use Rattle.words.specs.Part.{part}
 use Rattle.words.specs.Outcome.{Outcome, accepted, Done, Meets}
 use Rattle.words.proofs.Cases.{both-left, passed, after-passed, accepted-same}
+use Rattle.words.proofs.RefusalLaws.{first-passed}
 use Rattle.fields.specs.Format.{packingSize}
 use Rattle.bitstream.specs.Carried.{needed}
 use Rattle.packet.specs.declared.Packet.{Packet}
@@ -29,22 +29,19 @@ use Rattle.fields.specs.Sizes.{sizeOf}
 use Rattle.record.specs.Held.{slotAt}
 use Rattle.record.specs.Layout.{headWords, slotWords, slotIn, slotsOf, slotOf}
 use Rattle.table.specs.Layout.{streamsOf, base, recordAt}
-use Rattle.table.specs.Well.{wellMade}
 use Rattle.table.specs.Start.{startOf}
 use Rattle.table.proofs.WellLaws.{well-few}
 use Rattle.table.proofs.StartLaws.{start-well-made}
 use Rattle.play.specs.declared.Heard.{Heard}
-use Rattle.play.specs.Play.{heardOf, madeOf, playOf}
+use Rattle.play.specs.Play.{heardOf, playOf}
 use Rattle.play.proofs.StreamLaws.{sought-below}
-use Rattle.play.proofs.PlayLaws.{made-well, play-step}
-use Rattle.play.proofs.KeepLaws.{step-taken}
+use Rattle.play.proofs.KeepLaws.{play-taken}
 use Rattle.page.specs.Layout.{bodiesIn, pageLength}
-use Rattle.page.specs.Good.{pageOk}
-use Rattle.page.specs.Save.{lengthOf, saveOf}
-use Rattle.page.specs.PutBack.{putBackOf}
-use Rattle.page.proofs.ContentsLaws.{contents-of}
-use Rattle.panel.specs.Readings.{isHeld, askedOf}
-use Rattle.panel.specs.HeldWords.{heldIn, copyOf, heldWordsOf}
+use Rattle.page.specs.Save.{lengthList, saveList, lengthOf, saveOf}
+use Rattle.page.specs.PutBack.{putBackList, putBackOf}
+use Rattle.page.proofs.Exact.{ok-contents, page-tested}
+use Rattle.panel.specs.Readings.{isHeld}
+use Rattle.panel.specs.HeldWords.{heldIn, heldWordsList, heldWordsOf}
 use Rattle.vrt49.specs.Packets.{partsOf, wordsChecks, writeWordsOf}
 use Rattle.vrt49.proofs.AnswerLaws.{said-accepted}
 
@@ -86,11 +83,11 @@ abbrev pub SmallHeard : Heard → Type 0
 SmallHeard h = (h .size ≤ 65535) × (h .stream ≤ 31)
 
 pub heard-small : (t ws : List ℕ) (d : Done Heard (List ℕ)) → playOf t ws ≡ accepted d → SmallHeard (d .says)
-unfolding heardOf playOf
+unfolding heardOf
 heard-small t ws d e =
-    let w = made-well t (after-passed (madeOf t) _ d e .1) in
-    let k = step-taken t ws d (sym (play-step t ws w) ∙ e) in
-    rw (← k .says) (size-small ws (k .packet) (k .reads), omega (arith, sought-below _ _ t (k .stream) (k .seeks), well-few t w))
+    let k = play-taken t ws d e in
+    let p = k .1 in
+    rw (← p .says) (size-small ws (p .packet) (p .reads), omega (arith, sought-below _ _ t (p .stream) (p .seeks), well-few t (k .0)))
 
 -- ---- packed samples
 
@@ -122,25 +119,21 @@ packed-small first second is es cs out d e =
 pub length-small : (t : List ℕ) (n : ℕ) → lengthOf t ≡ accepted n → n ≤ 65535
 unfolding lengthOf
 length-small t n e =
-    let a = passed (not (wellMade t)) _ _ n e in
-    let b = passed (ltb 65535 (pageLength t)) _ _ n (a .1) in
-    rw (← accepted-same (b .1)) (ltb-false 65535 (pageLength t) (b .0))
+    let a = first-passed (lengthList t) _ n e in
+    rw (← accepted-same (a .1)) (ltb-false 65535 (pageLength t) (a .0 .1 .0))
 
 pub saved-small : (t page : List ℕ) (d : Done ℕ (List ℕ)) → saveOf t page ≡ accepted d → d .says ≤ 65535
 unfolding saveOf
 saved-small t page d e =
-    let a = passed (not (wellMade t)) _ _ d e in
-    let b = passed (ltb 65535 (pageLength t)) _ _ d (a .1) in
-    let c = passed (ltb (length page) (pageLength t)) _ _ d (b .1) in
-    rw (← accepted-same (c .1)) (ltb-false 65535 (pageLength t) (b .0))
+    let a = first-passed (saveList t page) _ d e in
+    rw (← accepted-same (a .1)) (ltb-false 65535 (pageLength t) (a .0 .1 .0))
 
 pub back-small : (p t : List ℕ) (d : Done ℕ (List ℕ)) → putBackOf p t ≡ accepted d → d .says ≤ 2817
-unfolding putBackOf pageOk
+unfolding putBackOf
 back-small p t d e =
-    let a = passed (not (pageOk p)) _ _ d e in
-    let b = passed (ltb (length t) (base (bodiesIn p))) _ _ d (a .1) in
-    let h : bodiesIn p ≤ 32 = contents-of p (both-left _ _ (not-false _ (a .0))) .few in
-    rw (← accepted-same (b .1)) (omega arith)
+    let a = first-passed (putBackList p t) _ d e in
+    let h : bodiesIn p ≤ 32 = ok-contents p (page-tested p ∙ not-false _ (a .0 .0)) .few in
+    rw (← accepted-same (a .1)) (omega arith)
 
 -- ---- held words
 
@@ -159,9 +152,6 @@ held-few bit r false = omega arith
 
 -- a field lies inside the slots
 pub held-small : (t : List ℕ) (stream bit : ℕ) (out : List ℕ) (d : Done ℕ (List ℕ)) → heldWordsOf t stream bit out ≡ accepted d → d .says ≤ 74
-unfolding heldWordsOf copyOf heldIn
+unfolding heldWordsOf heldIn
 held-small t stream bit out d e =
-    let ws : List ℕ = heldIn bit (recordAt stream t) in
-    let k = after-passed (askedOf t stream bit) _ d e in
-    let r = passed (ltb (length out) (length ws)) _ _ d (k .2) in
-    rw (← accepted-same (r .1)) (held-few bit (recordAt stream t) (isHeld bit (recordAt stream t)))
+    rw (← accepted-same (first-passed (heldWordsList t stream bit out) _ d e .1)) (held-few bit (recordAt stream t) (isHeld bit (recordAt stream t)))

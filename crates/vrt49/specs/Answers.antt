@@ -1,7 +1,7 @@
 -- What a call for C gives: one number, 0 where it is accepted and else that of the refusal, and its values in lent buffers. Document 01: "A refusal returns its
 -- number alone and writes nothing"; "Only words needed by an accepted answer change."
 use mathlib.Core.Path.{_≡_}
-use Prim.Native.Nat.{ℕ}
+use Prim.Native.Nat.{ℕ, _^_, _<_}
 use mathlib.Core.List.{List, [], _∷_, _++_}
 use lib.Dec.{ltb}
 use lib.ListN.{length, drop}
@@ -34,3 +34,12 @@ module _ {B : Type 0} where
   answeringBeside n values want answer =
       pick (ltb (length answer) n) (refused ROOM)
       (onward want (λ d. accepted (record { says = tt; leaves = (d .leaves, front (values (d .says)) answer) })))
+
+-- a length, stored at the front of a buffer that has room
+unfoldable pub given : Outcome ℕ → List ℕ → Outcome (Done Unit (List ℕ))
+given want answer = onward want (λ n. accepted (record { says = tt; leaves = front (n ∷ []) answer }))
+
+-- a length fits a word
+abbrev pub Small : Outcome ℕ → Type 0
+Small (refused n) = Unit
+Small (accepted n) = n < 2 ^ 32

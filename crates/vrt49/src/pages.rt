@@ -10,13 +10,7 @@ pub extern "C" fn vrt49_page_length(table: &[u32], answer: &mut [u32]) -> u32
     if answer.len() < 1 {
         return words::ROOM;
     }
-    match page::page_length(table) {
-        page::Saved::Refused(n) => n,
-        page::Saved::Accepted(length) => {
-            answer[0] = length as u32;
-            0
-        }
-    }
+    crate::answers::give_length(page::page_length(table), answer)
 }
 
 // Saves a table's page; answers ROOM for a short answer, or what saving refuses. One value, the page's length.
@@ -27,13 +21,7 @@ pub extern "C" fn vrt49_save(table: &[u32], page: &mut [u32], answer: &mut [u32]
     if answer.len() < 1 {
         return words::ROOM;
     }
-    match page::save(table, page) {
-        page::Saved::Refused(n) => n,
-        page::Saved::Accepted(length) => {
-            answer[0] = length as u32;
-            0
-        }
-    }
+    crate::answers::give_length(page::save(table, page), answer)
 }
 
 // Puts a page back; answers ROOM for a short answer, PAGE, or ROOM. One value, the layout's words.
@@ -44,11 +32,5 @@ pub extern "C" fn vrt49_put_back(page: &[u32], table: &mut [u32], answer: &mut [
     if answer.len() < 1 {
         return words::ROOM;
     }
-    match page::put_back(page, table) {
-        page::PutBack::Refused(n) => n,
-        page::PutBack::Accepted(length) => {
-            answer[0] = length as u32;
-            0
-        }
-    }
+    crate::answers::give_length(page::put_back(page, table), answer)
 }

@@ -125,11 +125,5 @@ pub extern "C" fn vrt49_held_words(
     if answer.len() < 1 {
         return words::ROOM;
     }
-    match panel::held_words(table, stream, bit, out) {
-        panel::Copied::Refused(n) => n,
-        panel::Copied::Accepted(n) => {
-            answer[0] = n as u32;
-            0
-        }
-    }
+    crate::answers::give_length(panel::held_words(table, stream, bit, out), answer)
 }

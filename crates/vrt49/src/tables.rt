@@ -15,13 +15,7 @@ pub extern "C" fn vrt49_start(ids: &[u32], table: &mut [u32], answer: &mut [u32]
     if answer.len() < 1 {
         return words::ROOM;
     }
-    match table::start(ids, table) {
-        table::Started::Refused(n) => n,
-        table::Started::Accepted(length) => {
-            answer[0] = length as u32;
-            0
-        }
-    }
+    crate::answers::give_length(table::start(ids, table), answer)
 }
 
 // Whether a table is well made: 1 or 0.

@@ -10,30 +10,29 @@ use borrow.Author.Tests.{eqb-true}
 use lib.ListN.{length, drop, getD}
 use lib.Seq.{getD-drop}
 use Rattle.words.specs.Numbers.{STREAM}
-use Rattle.words.specs.Outcome.{Outcome, refused, accepted, Done, saidOf, leftOf, Meets}
+use Rattle.words.specs.Outcome.{Outcome, refused, accepted, measured, Done, saidOf, leftOf, Meets}
 use Rattle.words.proofs.Cases.{true-is-false}
 use Rattle.packet.specs.declared.Packet.{Packet}
 use Rattle.packet.specs.Header.{sizeOf}
 use Rattle.packet.specs.Read.{readOf}
 use Rattle.packet.proofs.ReadLaws.{size-some, size-said, read-number}
-use Rattle.table.specs.declared.Started.{Started}
-use Rattle.table.specs.declared.Started.the-variants.{Accepted}
+use Rattle.words.specs.declared.Length.{Length}
+use Rattle.words.specs.declared.Length.the-variants.{Accepted}
 use Rattle.table.specs.Well.{wellMade}
-use Rattle.table.specs.Start.{startOf, paper}
+use Rattle.table.specs.Start.{startOf}
 use Rattle.table.proofs.StartLaws.{start-well-made}
 use Rattle.play.specs.declared.inner.Happened.{Happened}
 use Rattle.play.specs.Play.{stepOf}
 use Rattle.play.specs.Run.{goesOn, saidAt, leftAt, nextOf, Stepped}
-use Rattle.play.proofs.PlayLaws.{play-step}
+use Rattle.play.proofs.PlayLaws.{step-read, play-step}
 use Rattle.play.proofs.KeepLaws.{play-keeps}
 
 -- ---- a step that goes on
 
 said-on : (o : Outcome Packet) (t ws : List ℕ) → readOf ws ≡ o → goesOn (saidOf (stepOf t ws)) ≡ true → (p : Packet) × (readOf ws ≡ accepted p)
-unfolding stepOf
 said-on (accepted p) t ws e g = (p, e)
 said-on (refused n) t ws e g =
-    let i : n ≡ STREAM = eqb-true n STREAM (rw e at g) in
+    let i : n ≡ STREAM = eqb-true n STREAM (rw (step-read, e) at g) in
     absurd (omega (arith, read-number ws n e, i))
 
 read-size : (ws : List ℕ) (p : Packet) → readOf ws ≡ accepted p → 1 ≤ sizeOf (getD ws 0 0)
@@ -71,5 +70,5 @@ begun-well : (o : Outcome (Done ℕ (List ℕ))) (ids t : List ℕ) (n : ℕ) �
 begun-well (refused k) ids t n e a = absurd (true-is-false (ap isAccepted a))
 begun-well (accepted d) ids t n e a = start-well-made ids t d e .well
 
-pub started-well : (ids t left : List ℕ) (r : Started) (n : ℕ) → Meets paper (startOf ids t) t r left → r ≡ Accepted n → wellMade left ≡ true
-started-well ids t left r n m e = ap wellMade (m .buffer) ∙ begun-well (startOf ids t) ids t n refl (sym (ap paper e) ∙ m .answer)
+pub started-well : (ids t left : List ℕ) (r : Length) (n : ℕ) → Meets measured (startOf ids t) t r left → r ≡ Accepted n → wellMade left ≡ true
+started-well ids t left r n m e = ap wellMade (m .buffer) ∙ begun-well (startOf ids t) ids t n refl (sym (ap measured e) ∙ m .answer)

@@ -6,7 +6,7 @@ ghost use lib.ListN.{length};
 ghost use Rattle.table.specs.Well.{wellMade};
 use libc::STDIN_FILENO;
 use play::Played;
-use table::Started;
+use words::Length;
 
 // The words of bytes, four for each.
 fn words_of(words: &mut [u32], bytes: &[u8])
@@ -90,8 +90,8 @@ fn play_packets(table: &mut [u32], words: &[u32], s: u32) -> usize {
     }
     let first = 1 + streams;
     match table::start(&words[1..first], table) {
-        Started::Accepted(_) => walk(table, words, first),
-        Started::Refused(_) => refuse_list(),
+        Length::Accepted(_) => walk(table, words, first),
+        Length::Refused(_) => refuse_list(),
     }
 }
 

@@ -1,6 +1,7 @@
 -- Definitions that go by tests: the rule set for `search`, case splits, and what an accepted answer says of the tests before it.
-use mathlib.Core.Path.{_≡_, refl}
+use mathlib.Core.Path.{_≡_, refl, sym}
 use mathlib.Core.Bool.{Bool, true, false}
+use mathlib.Core.List.{List, [], _∷_}
 use mathlib.Core.Logic.{_⊎_, inl, inr, ⊎-elim}
 use Prim.Native.Nat.{ℕ, zero, suc, _≤_, _<_, zero-le, suc-le-suc}
 use native.Mathlib.Nat.{le-refl}
@@ -8,7 +9,7 @@ use native.Mathlib.Omega.{arith}
 use borrow.Author.Needs.{needs}
 use borrow.Author.Tests.{lt-ltb, le-ltb, le-leb, lt-leb, eq-eqb, ne-eqb, eqb-true, eqb-false}
 use lib.Dec.{eqb}
-use Rattle.words.specs.Tests.{pick, when, both}
+use Rattle.words.specs.Tests.{pick, when, both, sameWords}
 use Rattle.words.specs.Outcome.{Outcome, refused, accepted, after, onward}
 
 -- for `search`: `search cases` closes most returns of a function that goes by tests on numbers
@@ -29,6 +30,12 @@ same-or-not a b = ⊎-elim (λ e. inl (eqb-true a b e)) (λ e. inr (eqb-false a 
 
 pub true-is-false : true ≡ false → ⊥
 true-is-false e = let z : _≡_ {A = ℕ} 0 1 = cc in omega arith
+
+-- two tests that hold together are the same
+pub same-test : (a b : Bool) → (a ≡ true → b ≡ true) → (b ≡ true → a ≡ true) → a ≡ b
+same-test true b there back = sym (there refl)
+same-test false true there back = back refl
+same-test false false there back = refl
 
 -- ---- tests joined
 pub both-left : (a b : Bool) → both a b ≡ true → a ≡ true
@@ -58,6 +65,22 @@ both-no false = refl
 pub both-assoc : (a b c : Bool) → both (both a b) c ≡ both a (both b c)
 both-assoc true b c = refl
 both-assoc false b c = refl
+
+-- ---- lists that are the same, word for word
+pub same-words : (xs ys : List ℕ) → sameWords xs ys ≡ true → xs ≡ ys
+unfolding sameWords
+same-words [] [] e = refl
+same-words [] (y ∷ ys) e = absurd (true-is-false (cc))
+same-words (x ∷ xs) [] e = absurd (true-is-false (cc))
+same-words (x ∷ xs) (y ∷ ys) e =
+    let first : x ≡ y = eqb-true x y (both-left (eqb x y) (sameWords xs ys) e) in
+    let rest : xs ≡ ys = same-words xs ys (both-right (eqb x y) (sameWords xs ys) e) in
+    cc
+
+pub words-same : (xs : List ℕ) → sameWords xs xs ≡ true
+unfolding sameWords
+words-same [] = refl
+words-same (x ∷ xs) = both-true (eqb x x) (sameWords xs xs) (eq-eqb x x refl) (words-same xs)
 
 -- ---- a test that matters only where another holds
 pub pick-true : (t a : Bool) → (t ≡ true → a ≡ true) → pick t a true ≡ true

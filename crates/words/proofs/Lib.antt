@@ -2,6 +2,8 @@
 
 -- what `search` is handed for a definition that goes by tests; chains of refusals; tests joined
 pub mod Cases
+-- lists of refusals
+pub mod RefusalLaws
 -- two answers that meet one promise are equal
 pub mod Once
 -- a word and its fields

@@ -1,8 +1,11 @@
 -- Two answers that meet one promise are equal. The idea: `paper` has a left inverse, `back`, so an answer is what `back` makes of the promise.
 use mathlib.Core.Path.{_≡_, refl, sym, ap, _∙_}
+use Prim.Native.Nat.{ℕ}
 use Rattle.words.specs.declared.Check.{Check}
 use Rattle.words.specs.declared.Check.the-variants.{Fine, Refused}
-use Rattle.words.specs.Outcome.{Outcome, refused, accepted, checked, Done, Meets}
+use Rattle.words.specs.declared.Length.{Length}
+use Rattle.words.specs.declared.Length.the-variants as lengths
+use Rattle.words.specs.Outcome.{Outcome, refused, accepted, checked, measured, Done, Meets}
 
 pub once {ℓ ℓ′} : {A : Type ℓ} {B : Type ℓ′} (paper : A → B) (back : B → A) → ((a : A) → back (paper a) ≡ a)
     → {want : B} {a b : A} → paper a ≡ want → paper b ≡ want → a ≡ b
@@ -27,3 +30,21 @@ checked-back (Refused n) = refl
 
 pub checked-once : {want : Outcome Unit} {r s : Check} → checked r ≡ want → checked s ≡ want → r ≡ s
 checked-once = once checked checkedBack checked-back
+
+-- ---- lengths
+
+measuredBack : Outcome ℕ → Length
+measuredBack (refused n) = lengths.Refused n
+measuredBack (accepted n) = lengths.Accepted n
+
+measured-back : (r : Length) → measuredBack (measured r) ≡ r
+unfolding measuredBack
+measured-back (lengths.Refused n) = refl
+measured-back (lengths.Accepted n) = refl
+
+pub measured-once : {want : Outcome ℕ} {r s : Length} → measured r ≡ want → measured s ≡ want → r ≡ s
+measured-once = once measured measuredBack measured-back
+
+pub lent-once : {L : Type 0} {want : Outcome (Done ℕ L)} {before after after′ : L} {r s : Length} → Meets measured want before r after
+    → Meets measured want before s after′ → (r ≡ s) × (after ≡ after′)
+lent-once = meets-once measured measuredBack measured-back

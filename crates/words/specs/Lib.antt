@@ -6,6 +6,8 @@ pub mod Numbers
 pub mod Tests
 -- an answer: refused with a number, or accepted with its values; what a call leaves in a lent buffer
 pub mod Outcome
+-- a call's refusals in their order: the first that applies is given
+pub mod Refusals
 -- a word's bits, and a word as fields by their widths
 pub mod Word
 -- the set bits of a number, highest first

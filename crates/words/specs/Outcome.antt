@@ -3,6 +3,8 @@ use mathlib.Core.Path.{_≡_}
 use Prim.Native.Nat.{ℕ}
 use Rattle.words.specs.declared.Check.{Check}
 use Rattle.words.specs.declared.Check.the-variants.{Fine, Refused}
+use Rattle.words.specs.declared.Length.{Length}
+use Rattle.words.specs.declared.Length.the-variants as lengths
 
 -- an answer: refused with a number of the list, or accepted with its values
 pub data Outcome (A : Type 0) : Type 0 where
@@ -28,6 +30,11 @@ numberOf (accepted a) = 0
 abbrev pub checked : Check → Outcome Unit
 checked Fine = accepted tt
 checked (Refused n) = refused n
+
+-- a length, as an answer
+abbrev pub measured : Length → Outcome ℕ
+measured (lengths.Accepted n) = accepted n
+measured (lengths.Refused n) = refused n
 
 -- an accepted call that was lent a buffer: what it says, and what it leaves in the buffer
 pub record Done (A L : Type 0) : Type 0 where

@@ -18,6 +18,17 @@ abbrev pub both : Bool → Bool → Bool
 both true b = b
 both false b = false
 
+-- one test holds or the other
+abbrev pub either : Bool → Bool → Bool
+either a b = pick a true b
+
+-- two lists of words are the same, word for word
+unfoldable pub sameWords : List ℕ → List ℕ → Bool
+sameWords [] [] = true
+sameWords [] (y ∷ ys) = false
+sameWords (x ∷ xs) [] = false
+sameWords (x ∷ xs) (y ∷ ys) = both (eqb x y) (sameWords xs ys)
+
 -- n is one of the list
 abbrev pub among : ℕ → List ℕ → Bool
 among n [] = false

@@ -27,3 +27,9 @@ pub enum Check {
     Fine,
     Refused(u32),
 }
+
+// What a call that gives a length answers: how many words or items, or the number of the refusal.
+pub enum Length {
+    Accepted(usize),
+    Refused(u32),
+}

@@ -5,6 +5,7 @@ use borrow.Author.Tests.{eq-eqb}
 use Rattle.words.proofs.Cases.{cases}
 use Rattle.words.proofs.PartLaws.{seen}
 use Rattle.packet.specs.Parts.{bodyLength, bodyOf}
+use Rattle.fields.specs.Layout.{contextOf}
 use Rattle.packet.specs.Read.{bodyChecks}
 use Rattle.packet.proofs.RoomLaws.{room}
 use borrow.Author.Needs.{needs}
@@ -21,7 +22,7 @@ part-check-body-end c =
     omega (arith, room _ _ (s .pre .0) (s .pre .1) .body, c .body-end .ensures, c .before .body-at .ensures .0)
 
 returns-2 : tie.Need-returns-2
-unfolding bodyChecks bodyOf
+unfolding bodyChecks bodyOf contextOf
 returns-2 c =
     let b = c .before .before .before in
     let t = b .before .before in

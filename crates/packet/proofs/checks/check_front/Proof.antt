@@ -1,6 +1,6 @@
 -- `check_front` meets its promise: no words are EMPTY, and else the header word decides.
 use borrow.Author.Tests.{eq-eqb, ne-eqb}
-use Rattle.packet.specs.Front.{frontChecks}
+use Rattle.packet.specs.Read.{headedChecks, frontChecks}
 use borrow.Author.Needs.{needs}
 use Rattle.packet.proofs.checks.check_front.Statement.{statement}
 use Rattle.packet.proofs.checks.check_front.Tie as tie
@@ -10,7 +10,7 @@ unfolding frontChecks
 returns c = rw (eq-eqb _ _ (c .if1 .taken))
 
 returns-2 : tie.Need-returns-2
-unfolding frontChecks
+unfolding frontChecks headedChecks
 returns-2 c = rw (ne-eqb _ _ (c .before .before .if1 .left)) (c .check-headed .ensures)
 
 pub check-front-spec : {M : Type 1} → statement M

@@ -3,7 +3,7 @@ use mathlib.Core.Path.{ap, _∙_}
 use Rattle.record.specs.Good.{recordGood}
 use Rattle.page.specs.Body.{recordOf}
 use Rattle.page.specs.Layout.{savedRecord}
-use Rattle.page.specs.Good.{recordGoodIn}
+use Rattle.page.specs.inner.Tested.{recordGoodIn}
 use Rattle.page.proofs.PutLaws.{load-asks}
 use borrow.Author.Needs.{needs}
 use Rattle.page.proofs.good.record_good_in.Statement.{statement}

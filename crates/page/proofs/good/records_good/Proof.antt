@@ -5,7 +5,7 @@ use mathlib.Core.Bool.{true}
 use borrow.Author.Tests.{not-true, not-false}
 use Rattle.words.specs.All.{all}
 use Rattle.words.proofs.AllLaws.{all-none, all-more, all-fails, all-end}
-use Rattle.page.specs.Good.{recordGoodIn}
+use Rattle.page.specs.inner.Tested.{recordGoodIn}
 use native.Mathlib.Omega.{arith}
 use borrow.Author.Needs.{needs}
 use Rattle.page.proofs.good.records_good.Statement.{statement}

@@ -1,10 +1,7 @@
 -- `vrt49_page_length` meets its promise: ROOM, else the length, or the number of the refusal.
-use mathlib.Core.Path.{sym, ap, _∙_}
-use mathlib.Core.List.{[], _∷_}
 use native.Mathlib.Omega.{arith}
-use Rattle.page.specs.Save.{paper}
 use Rattle.vrt49.specs.Pages.{lengthGives}
-use Rattle.vrt49.proofs.AnswerLaws.{gives-room, gives-refused, gives-values, stored-front}
+use Rattle.vrt49.proofs.AnswerLaws.{gives-room, small-given, length-given}
 use Rattle.vrt49.proofs.SmallLaws.{length-small}
 use borrow.Author.Needs.{needs}
 use Rattle.vrt49.proofs.pages.vrt49_page_length.Statement.{statement}
@@ -14,26 +11,15 @@ returns : tie.Need-returns
 unfolding lengthGives
 returns c = gives-room _ _ _ _ (c .if1 .taken)
 
-cast-answer : tie.Need-cast-answer
-cast-answer c =
-    let k = c .before .before .before in
-    omega (arith, length-small _ _ (sym (k .page-length .ensures) ∙ ap paper (c .before .length .given .1)))
+give-length-requires : tie.Need-give-length-requires
+give-length-requires c κs = (c .before .before .if1 .left, small-given (c .before .page-length .ensures) (λ n e. omega (arith, length-small _ n e)))
 
 returns-2 : tie.Need-returns-2
 unfolding lengthGives
 returns-2 c =
-    let k = c .before .before .before in
-    gives-refused _ _ _ _ _ (k .before .if1 .left) (sym (k .page-length .ensures) ∙ ap paper (c .before .n .given .1))
-
-returns-3 : tie.Need-returns-3
-unfolding lengthGives
-returns-3 c =
-    let k = c .before .before .before in
-    gives-values _ _ _ _ _ _ (k .before .if1 .left) (sym (k .page-length .ensures) ∙ ap paper (c .before .length .given .1))
-    (stored-front (_ ∷ []) _ (k .before .if1 .left))
+    let at-page-length : tie.After-page-length = search in
+    let at-if1 : tie.Else1 = search in
+    length-given _ (at-page-length .page-length .result) _ _ (at-if1 .if1 .left) (c .before .before .give-length .ensures) (at-page-length .page-length .ensures)
 
 pub vrt49-page-length-spec : {M : Type 1} → statement M
-vrt49-page-length-spec =
-    tie.close
-    (tie.spec
-    returns (λ c κs. search needs) (λ c. search needs) (λ c. search needs) cast-answer (λ c. search needs) returns-2 (λ c. search needs) returns-3)
+vrt49-page-length-spec = tie.close (tie.spec returns (λ c κs. search needs) give-length-requires (λ c. search needs) returns-2)

@@ -1,0 +1,110 @@
+-- Lists of refusals. The idea: an accepted answer passed every test of its list (`first-passed`), and where every test is passed the answer is what follows the
+-- list (`none-given`); checks one after the other are lists one after the other (`after-first`, `onward-first`).
+use mathlib.Core.Path.{_≡_, refl, sym, ap, _∙_}
+use mathlib.Core.Bool.{Bool, true, false}
+use mathlib.Core.List.{[], _∷_, _++_}
+use Prim.Native.Nat.{ℕ}
+use Rattle.words.specs.Tests.{pick, either}
+use Rattle.words.specs.declared.Length.the-variants.{Accepted, Refused}
+use Rattle.words.specs.Outcome.{Outcome, refused, accepted, after, onward, measured, Done, Meets}
+use Rattle.words.specs.Refusals.{Refusals, firstGiven}
+use Rattle.words.proofs.Cases.{passed, true-is-false}
+
+-- ---- tests that were passed
+
+-- none of a list applies
+abbrev pub None : Refusals → Type 0
+None [] = Unit
+None (r ∷ rs) = (r .1 ≡ false) × None rs
+
+pub either-passed : (a b : Bool) → either a b ≡ false → (a ≡ false) × (b ≡ false)
+either-passed true b e = absurd (true-is-false e)
+either-passed false b e = (refl, e)
+
+module _ {A : Type 0} where
+  pub first-passed : (rs : Refusals) (o : Outcome A) (a : A) → firstGiven rs o ≡ accepted a → None rs × (o ≡ accepted a)
+  first-passed [] o a e = (tt, e)
+  first-passed (r ∷ rs) o a e =
+      let p = passed (r .1) (r .0) (firstGiven rs o) a e in
+      let q = first-passed rs o a (p .1) in
+      ((p .0, q .0), q .1)
+
+  pub none-given : (rs : Refusals) (o : Outcome A) → None rs → firstGiven rs o ≡ o
+  none-given [] o h = refl
+  none-given (r ∷ rs) o h = rw (h .0) (none-given rs o (h .1))
+
+  -- what follows a test, or a list, matters only where it is passed
+  pick-same : (t : Bool) (x o p : Outcome A) → (t ≡ false → o ≡ p) → pick t x o ≡ pick t x p
+  pick-same true x o p e = refl
+  pick-same false x o p e = e refl
+
+  pub first-same : (rs : Refusals) (o p : Outcome A) → (None rs → o ≡ p) → firstGiven rs o ≡ firstGiven rs p
+  first-same [] o p f = f tt
+  first-same (r ∷ rs) o p f = pick-same (r .1) (refused (r .0)) (firstGiven rs o) (firstGiven rs p) (λ t. first-same rs o p (λ h. f (t, h)))
+
+-- ---- the number of a refusal
+
+-- what each number of a list is, and the number of an answer that is a refusal
+abbrev pub Numbers : (ℕ → Type 0) → Refusals → Type 0
+Numbers P [] = Unit
+Numbers P (r ∷ rs) = P (r .0) × Numbers P rs
+
+abbrev pub Numbered : {A : Type 0} → (ℕ → Type 0) → Outcome A → Type 0
+Numbered P (refused n) = P n
+Numbered P (accepted a) = Unit
+
+module _ {A : Type 0} (P : ℕ → Type 0) where
+  pick-numbered : (t : Bool) (n : ℕ) (o : Outcome A) → P n → Numbered P o → Numbered P (pick t (refused n) o)
+  pick-numbered true n o h l = h
+  pick-numbered false n o h l = l
+
+  -- it is one of its list
+  pub number-among : (rs : Refusals) (o : Outcome A) → Numbers P rs → Numbered P o → Numbered P (firstGiven rs o)
+  number-among [] o h l = l
+  number-among (r ∷ rs) o h l = pick-numbered (r .1) (r .0) (firstGiven rs o) (h .0) (number-among rs o (h .1) l)
+
+-- ---- lists one after the other
+
+module _ {A : Type 0} where
+  pub either-pick : (a b : Bool) (x y : A) → pick (either a b) x y ≡ pick a x (pick b x y)
+  either-pick true b x y = refl
+  either-pick false b x y = refl
+
+  pub after-pick : {B : Type 0} (t : Bool) (n : ℕ) (o : Outcome B) (rest : Outcome A) → after (pick t (refused n) o) rest ≡ pick t (refused n) (after o rest)
+  after-pick true n o rest = refl
+  after-pick false n o rest = refl
+
+  pub first-append : (rs qs : Refusals) (o : Outcome A) → firstGiven (rs ++ qs) o ≡ firstGiven rs (firstGiven qs o)
+  first-append [] qs o = refl
+  first-append (r ∷ rs) qs o = ap (pick (r .1) (refused (r .0))) (first-append rs qs o)
+
+  -- what a list gives, and then the rest
+  module _ {B : Type 0} where
+    onward-pick : (t : Bool) (n : ℕ) (o : Outcome B) (rest : B → Outcome A) → onward (pick t (refused n) o) rest ≡ pick t (refused n) (onward o rest)
+    onward-pick true n o rest = refl
+    onward-pick false n o rest = refl
+
+    pub onward-first : (rs : Refusals) (b : B) (rest : B → Outcome A) → onward (firstGiven rs (accepted b)) rest ≡ firstGiven rs (rest b)
+    onward-first [] b rest = refl
+    onward-first (r ∷ rs) b rest =
+        onward-pick (r .1) (r .0) (firstGiven rs (accepted b)) rest ∙ ap (pick (r .1) (refused (r .0))) (onward-first rs b rest)
+
+    after-onward : (o : Outcome B) (rest : Outcome A) → after o rest ≡ onward o (λ _. rest)
+    after-onward (refused n) rest = refl
+    after-onward (accepted b) rest = refl
+
+    pub after-first : (rs : Refusals) (b : B) (rest : Outcome A) → after (firstGiven rs (accepted b)) rest ≡ firstGiven rs rest
+    after-first rs b rest = after-onward (firstGiven rs (accepted b)) rest ∙ onward-first rs b (λ _. rest)
+
+    -- what a list refuses does not depend on what follows it
+    pub first-refused : (rs : Refusals) (b : B) (n : ℕ) (rest : Outcome A) → firstGiven rs (accepted b) ≡ refused n → firstGiven rs rest ≡ refused n
+    first-refused rs b n rest e = sym (after-first rs b rest) ∙ ap (λ (o : Outcome B). after o rest) e
+
+-- ---- the answers of a call that gives a length, and is lent words
+
+module _ {L : Type 0} {want : Outcome (Done ℕ L)} {before : L} where
+  pub meets-refused : {n : ℕ} → want ≡ refused n → Meets measured want before (Refused n) before
+  meets-refused e = record { answer = rw e; buffer = rw e }
+
+  pub meets-length : {n : ℕ} {left after : L} → want ≡ accepted (record { says = n; leaves = left }) → after ≡ left → Meets measured want before (Accepted n) after
+  meets-length e f = record { answer = rw e; buffer = f ∙ rw e }

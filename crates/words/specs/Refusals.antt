@@ -1,0 +1,20 @@
+-- Document 01, 'Numbers given back': "The first that applies is given, in these orders."
+use Prim.Native.Nat.{ℕ}
+use mathlib.Core.Bool.{Bool}
+use mathlib.Core.List.{List, [], _∷_}
+use Rattle.words.specs.Tests.{pick}
+use Rattle.words.specs.Outcome.{Outcome, refused}
+
+-- a call's refusals in their order: each number, and whether it applies
+abbrev pub Refusals : Type 0
+Refusals = List (ℕ × Bool)
+
+-- the first that applies is given, and else the answer
+abbrev pub firstGiven : {A : Type 0} → Refusals → Outcome A → Outcome A
+firstGiven [] answer = answer
+firstGiven (r ∷ rest) answer = pick (r .1) (refused (r .0)) (firstGiven rest answer)
+
+-- the numbers, in their order
+abbrev pub numbersIn : Refusals → List ℕ
+numbersIn [] = []
+numbersIn (r ∷ rest) = r .0 ∷ numbersIn rest
