@@ -13,16 +13,17 @@ use Rattle.words.specs.Tests.{when, both}
 use Rattle.words.specs.Word.{bits, highFirst, join}
 use Rattle.words.specs.Part.{part}
 use Rattle.words.specs.Outcome.{accepted, Done}
-use Rattle.words.proofs.Cases.{true-is-false, both-left, both-right, both-no, after-passed, accepted-same}
+use Rattle.words.proofs.Cases.{both-left, both-right, both-no, accepted-same}
+use Rattle.words.proofs.RefusalLaws.{first-passed, none-given}
 use Rattle.packet.specs.declared.Parts.{Parts}
 use Rattle.packet.specs.Header.{classed, trailed, sizeOf}
 use Rattle.packet.specs.Parts.{streamed, hasSeconds, hasFraction, classAt, secondsAt, fractionAt, bodyAt, requiredOf, bodyLength, wordIf, classHigh, classLow, fractionOf, partsOf, bodyOf, packetOf}
 use Rattle.packet.specs.Read.{headerChecks, sizeChecks, timeOver, prologueChecks, readOf}
-use Rattle.writing.specs.Write.{headerWord, sizeFor, given, classWord, headWords, classWords, timeWords, prologueWords, trailerWords, packetWords, plainParts, classFits, writeChecks, writeOf}
+use Rattle.writing.specs.Write.{headerWord, sizeFor, given, classWord, headWords, classWords, timeWords, prologueWords, trailerWords, packetWords, plainParts, classFits, writeList, writeChecks, writeOf}
 use Rattle.writing.proofs.FitLaws.{Fits, parts-fit, Writable, writable}
 use Rattle.packet.proofs.RoomLaws.{body-past}
 use Rattle.packet.proofs.ReadLaws.{Passed, accepts-read}
-use Rattle.writing.proofs.HeaderLaws.{type-is, classed-is, trailed-is, tsm-is, tsi-is, tsf-is, count-is, size-is, reserved-is, size-for-is}
+use Rattle.writing.proofs.HeaderLaws.{type-is, classed-is, trailed-is, tsm-is, tsi-is, tsf-is, count-is, size-is, reserved-is, size-for-is, required-is}
 use Rattle.writing.proofs.LayLaws.{length-given, head-length, class-length, prologue-length, packet-length}
 
 -- ---- an optional part, found where it was laid
@@ -66,11 +67,6 @@ fraction-back true fraction = omega arith
 fraction-back false fraction = refl
 
 -- ---- tests that a packet to be written passed, and that it passes when it is read
-
-indicator-back : (t : Bool) (n : ℕ) → both t (eqb n 0) ≡ false → when t 1 ≤ n
-indicator-back true zero e = absurd (true-is-false e)
-indicator-back true (suc n) e = omega arith
-indicator-back false n e = zero-le
 
 time-back : (t : Bool) (tsf fraction : ℕ) → timeOver tsf fraction ≡ false → timeOver tsf (when t fraction) ≡ false
 unfolding timeOver
@@ -176,11 +172,11 @@ module _ (p : Parts) (body more : List ℕ) (room at : ℕ) (may : Writable p bo
       rw (type-is p size (may .kind) fits (may .small), le-ltb 5 (p .kind) (omega (arith, may .kind)), reserved-is p size (may .kind) fits (may .small))
 
   size-passes : sizeChecks W (length Ws) ≡ accepted tt
-  unfolding sizeChecks requiredOf
+  unfolding sizeChecks
   size-passes =
-      let i = indicator-back (eqb (p .kind) 4) (length body) (may .indicator) in
-      let long : length Ws ≡ size + length more = length-append (packetWords p body) more ∙ ap (λ (n : ℕ). n + length more) (packet-length p body room at may) in
-      rw (size-of, type-is p size (may .kind) fits (may .small), le-ltb size (bodyAt W + when (trailed W) 1 + when (eqb (p .kind) 4) 1) (omega (arith, size-parts)), le-ltb (length Ws) size (omega arith))
+      let whole : requiredOf W ≤ size = omega (arith, required-is p size (may .kind) fits (may .small), may .whole) in
+      let long : size ≤ length Ws = omega (arith, length-append (packetWords p body) more, packet-length p body room at may) in
+      rw (size-of, le-ltb size (requiredOf W) whole, le-ltb (length Ws) size long)
 
   prologue-passes : prologueChecks W Ws ≡ accepted tt
   unfolding prologueChecks
@@ -212,12 +208,12 @@ pub written-back : (p : Parts) (body out : List ℕ) (at : ℕ) (d : Done ℕ (L
     → let w = headerWord p (sizeFor p (length body)) in
     (readOf (drop at (d .leaves)) ≡ accepted (record { parts = plainParts w p; size = d .says; body = bodyAt w; length = length body }))
     × (part (bodyAt w) (length body) (drop at (d .leaves)) ≡ body)
-unfolding writeOf
+unfolding writeOf writeChecks
 written-back p body out at d e =
     let size = sizeFor p (length body) in
-    let k = after-passed (writeChecks p body (length out) at) _ d e in
-    let may = writable p body (length out) at (k .1) in
-    let done = accepted-same (k .2) in
+    let k = first-passed (writeList p body (length out) at) _ d e in
+    let may = writable p body (length out) at (none-given (writeList p body (length out) at) _ (k .0)) in
+    let done = accepted-same (k .1) in
     let past : drop at (take at out ++ packetWords p body ++ drop (at + size) out) ≡ packetWords p body ++ drop (at + size) out =
     ap (drop at) (append-assoc (take at out) (packetWords p body) (drop (at + size) out))
     ∙ drop-at (take at out) (packetWords p body ++ drop (at + size) out) at (length-take-le at out (omega (arith, may .inside))) in
