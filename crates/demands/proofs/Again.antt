@@ -16,19 +16,21 @@ use Rattle.words.specs.Tests.{pick, when, both}
 use Rattle.words.specs.Word.{bits, has, highFirst, join, total}
 use Rattle.words.specs.Part.{part}
 use Rattle.words.specs.Outcome.{accepted}
-use Rattle.words.proofs.Cases.{passed}
+use Rattle.words.proofs.RefusalLaws.{first-passed, first-fine}
 use Rattle.words.proofs.PartLaws.{part-length}
 use Rattle.words.proofs.WordLaws.{fieldsFrom, join-split, split-from}
 use Rattle.packet.specs.declared.Parts.{Parts}
 use Rattle.packet.specs.declared.Packet.{Packet}
 use Rattle.packet.specs.Header.{typeOf, classed, trailed, tsmOf, reservedOf, tsiOf, tsfOf, countOf, sizeOf}
-use Rattle.packet.specs.Parts.{streamed, hasSeconds, hasFraction, classAt, secondsAt, fractionAt, bodyAt, requiredOf, bodyLength, wordIf, classHigh, classLow, fractionOf, partsOf, bodyOf, packetOf}
-use Rattle.packet.specs.Read.{headerChecks, timeOver, prologueChecks, bodyChecks, readOf}
-use Rattle.writing.specs.Write.{bit, headerWidths, headerWord, sizeFor, given, classWord, headWords, classWords, timeWords, prologueWords, trailerWords, packetWords, codesFit, flagsFit, classFits, partsFit, partsChecks, measureChecks, roomChecks, writeChecks, writeOf}
+use Rattle.packet.specs.Parts.{streamed, hasSeconds, hasFraction, classAt, secondsAt, fractionAt, bodyAt, requiredOf, bodyLength, wordIf, classHigh,
+classLow, fractionOf, partsOf, bodyOf, packetOf}
+use Rattle.packet.specs.Read.{headerList, prologueList, headerChecks, timeOver, prologueChecks, bodyChecks, readOf}
+use Rattle.writing.specs.Write.{bit, headerWidths, headerWord, sizeFor, given, classWord, headWords, classWords, timeWords, prologueWords,
+trailerWords, packetWords, codesFit, flagsFit, classFits, partsFit, writeList, partsChecks, measureChecks, roomChecks, writeChecks, writeOf}
 use Rattle.packet.proofs.RoomLaws.{Room, room}
 use Rattle.packet.proofs.ReadLaws.{Passed, sized, read-accepts}
-use Rattle.writing.proofs.FitLaws.{parts-fit}
-use Rattle.writing.proofs.HeaderLaws.{two-bits, size-for-is}
+use Rattle.writing.proofs.FitLaws.{parts-fit, nothing-refused}
+use Rattle.writing.proofs.HeaderLaws.{two-bits, size-for-is, required-is}
 
 -- ---- the header
 
@@ -46,14 +48,14 @@ flags-again false high middle low h l e = (bit-again low l, omega arith, omega a
 pub header-passed : (w : ℕ) → headerChecks w ≡ accepted tt → (typeOf w ≤ 5) × (reservedOf w ≡ 0)
 unfolding headerChecks
 header-passed w e =
-    let t = passed (ltb 5 (typeOf w)) _ _ tt e in
-    let b = passed (not (eqb (reservedOf w) 0)) _ _ tt (t .1) in
-    (ltb-false 5 (typeOf w) (t .0), eqb-true (reservedOf w) 0 (not-false _ (b .0)))
+    let a = first-passed (headerList w) _ tt e .0 in
+    (ltb-false 5 (typeOf w) (a .0), eqb-true (reservedOf w) 0 (not-false _ (a .1 .0)))
 
 pub header-again : (w : ℕ) (ws : List ℕ) → w < 2 ^ 32 → reservedOf w ≡ 0 → headerWord (partsOf w ws) (sizeOf w) ≡ w
 unfolding headerWord partsOf reservedOf trailed tsmOf total
 header-again w ws h e =
-    let f = flags-again (ltb (typeOf w) 4) (w / 2 ^ 26 % 2) (w / 2 ^ 25 % 2) (w / 2 ^ 24 % 2) (mod-lt _ (lit< tt)) (mod-lt _ (lit< tt)) (rw (two-bits w 24, two-bits w 25) at e) in
+    let f = flags-again (ltb (typeOf w) 4) (w / 2 ^ 26 % 2) (w / 2 ^ 25 % 2) (w / 2 ^ 24 % 2) (mod-lt _ (lit< tt)) (mod-lt _ (lit< tt))
+        (rw (two-bits w 24, two-bits w 25) at e) in
     let c : bit (classed w) ≡ w / 2 ^ 27 % 2 = bit-again (w / 2 ^ 27 % 2) (mod-lt _ (lit< tt)) in
     let size : sizeOf w ≡ w / 2 ^ 0 % 2 ^ 16 = rw (div-one w) in
     let same : sizeOf w ∷ countOf w ∷ tsfOf w ∷ tsiOf w ∷ bit (tsmOf w) ∷ 0 ∷ bit (trailed w) ∷ bit (classed w) ∷ typeOf w ∷ [] ≡ fieldsFrom 0 headerWidths w =
@@ -110,19 +112,17 @@ flags-read false t m = refl
 
 class-read : (t : Bool) (high low : ℕ) → classFits t (bits 23 0 high) (bits 31 16 low) (bits 15 0 low) ≡ true
 unfolding classFits
-class-read true high low = rw (lt-ltb (bits 23 0 high) (2 ^ 24) (mod-lt _ (lit< tt)), lt-ltb (bits 31 16 low) (2 ^ 16) (mod-lt _ (lit< tt)), lt-ltb (bits 15 0 low) (2 ^ 16) (mod-lt _ (lit< tt)))
+class-read true high low = rw
+    (lt-ltb (bits 23 0 high) (2 ^ 24) (mod-lt _ (lit< tt)), lt-ltb (bits 31 16 low) (2 ^ 16) (mod-lt _ (lit< tt)),
+    lt-ltb (bits 15 0 low) (2 ^ 16) (mod-lt _ (lit< tt)))
 class-read false high low = refl
 
 pub parts-read : (w : ℕ) (ws : List ℕ) → partsFit (partsOf w ws) ≡ true
 unfolding partsFit partsOf codesFit flagsFit trailed tsmOf
 parts-read w ws =
-    rw (lt-ltb (tsiOf w) 4 (mod-lt _ (lit< tt)), lt-ltb (tsfOf w) 4 (mod-lt _ (lit< tt)), lt-ltb (countOf w) 16 (mod-lt _ (lit< tt)), flags-read (ltb (typeOf w) 4) (has w 26) (has w 24))
+    rw (lt-ltb (tsiOf w) 4 (mod-lt _ (lit< tt)), lt-ltb (tsfOf w) 4 (mod-lt _ (lit< tt)), lt-ltb (countOf w) 16 (mod-lt _ (lit< tt)),
+    flags-read (ltb (typeOf w) 4) (has w 26) (has w 24))
     (class-read (classed w) (classHigh w ws) (classLow w ws))
-
--- a type 4 packet that was read has its indicator word
-indicator-read : (t : Bool) (n : ℕ) → when t 1 ≤ n → both t (eqb n 0) ≡ false
-indicator-read true n h = ne-eqb n 0 (omega arith)
-indicator-read false n h = refl
 
 -- ---- the words of an accepted packet, written again
 module _ (ws : List ℕ) (small : (i : ℕ) → getD ws i 0 < 2 ^ 32) (p : Packet) (e : readOf ws ≡ accepted p) where
@@ -146,16 +146,18 @@ module _ (ws : List ℕ) (small : (i : ℕ) → getD ws i 0 < 2 ^ 32) (p : Packe
 
   class-clear : bits 31 24 (classHigh w ws) ≡ 0
   unfolding prologueChecks
-  class-clear = eqb-true _ 0 (not-false _ (passed (not (eqb (bits 31 24 (classHigh w ws)) 0)) _ _ tt (passes .prologue) .0))
+  class-clear = eqb-true _ 0 (not-false _ (first-passed (prologueList w ws) _ tt (passes .prologue) .0 .0))
 
   head-again : headWords w P ≡ take (classAt w) ws
   unfolding headWords partsOf classAt
-  head-again = ap (λ (l : List ℕ). l ++ given (streamed w) (wordIf (streamed w) 1 ws ∷ [])) (first-word ws (read-accepts ws p e .some)) ∙ one-more ws 1 (streamed w) (lies .identifier)
+  head-again = ap (λ (l : List ℕ). l ++ given (streamed w) (wordIf (streamed w) 1 ws ∷ [])) (first-word ws (read-accepts ws p e .some))
+      ∙ one-more ws 1 (streamed w) (lies .identifier)
 
   class-words-again : take (classAt w) ws ++ classWords w P ≡ take (secondsAt w) ws
   unfolding classWords partsOf secondsAt classHigh classLow
   class-words-again =
-      let c = class-again (classHigh w ws) (classLow w ws) (word-small (classed w) (classAt w) ws small) (word-small (classed w) (classAt w + 1) ws small) class-clear in
+      let c = class-again (classHigh w ws) (classLow w ws) (word-small (classed w) (classAt w) ws small)
+          (word-small (classed w) (classAt w + 1) ws small) class-clear in
       rw (c .0, c .1) (two-more ws (classAt w) (classed w) (lies .class))
 
   time-words-again : take (secondsAt w) ws ++ timeWords w P ≡ take (bodyAt w) ws
@@ -213,11 +215,10 @@ module _ (ws : List ℕ) (small : (i : ℕ) → getD ws i 0 < 2 ^ 32) (p : Packe
 
   time-passed : timeOver (tsfOf w) (fractionOf w ws) ≡ false
   unfolding prologueChecks
-  time-passed = passed (timeOver (tsfOf w) (fractionOf w ws)) _ _ tt (passed (not (eqb (bits 31 24 (classHigh w ws)) 0)) _ _ tt (passes .prologue) .1) .0
+  time-passed = first-passed (prologueList w ws) _ tt (passes .prologue) .0 .1 .0
 
-  has-indicator : when (eqb (typeOf w) 4) 1 ≤ length (bodyOf w ws)
-  unfolding requiredOf bodyLength
-  has-indicator = omega (arith, body-length, sized w (length ws) (passes .size) .0)
+  required-again : requiredOf (headerWord P 0) ≡ requiredOf w
+  required-again = sym (required-is P (sizeOf w) kind-small (parts-fit P (parts-read w ws)) size-small) ∙ ap requiredOf header-is
 
   -- nothing refuses it, where there is room
   parts-again : partsChecks P ≡ accepted tt
@@ -227,21 +228,24 @@ module _ (ws : List ℕ) (small : (i : ℕ) → getD ws i 0 < 2 ^ 32) (p : Packe
   measure-again : measureChecks P (length (bodyOf w ws)) ≡ accepted tt
   unfolding measureChecks partsOf
   measure-again =
-      rw (indicator-read (eqb (typeOf w) 4) (length (bodyOf w ws)) has-indicator, size-again, le-ltb 65535 (sizeOf w) (omega (arith, size-small)), time-passed)
+      let whole = le-ltb (sizeOf w) (requiredOf w) (sized w (length ws) (passes .size) .0) in
+      rw (size-again, required-again, whole, le-ltb 65535 (sizeOf w) (omega (arith, size-small)), time-passed)
 
   body-again : bodyChecks (P .kind) (bodyOf w ws) ≡ accepted tt
   unfolding partsOf
   body-again = passes .body
 
   may-again : (room at : ℕ) → at + sizeOf w ≤ room → writeChecks P (bodyOf w ws) room at ≡ accepted tt
-  unfolding writeChecks roomChecks
-  may-again room at h = rw (parts-again, measure-again, body-again, size-again, le-ltb room (at + sizeOf w) h)
+  unfolding roomChecks
+  may-again room at h =
+      nothing-refused P (bodyOf w ws) room at (sizeOf w) parts-again measure-again body-again (sym size-again) (rw (le-ltb room (at + sizeOf w) h))
 
   -- written again anywhere where there is room, it gives its words
   pub written-again : (out : List ℕ) (at : ℕ) → at + p .size ≤ length out
-      → writeOf (p .parts) (part (p .body) (p .length) ws) out at ≡ accepted (record { says = p .size; leaves = take at out ++ take (p .size) ws ++ drop (at + p .size) out })
-  unfolding writeOf packetOf bodyOf
+      → writeOf (p .parts) (part (p .body) (p .length) ws) out at
+      ≡ accepted (record { says = p .size; leaves = take at out ++ take (p .size) ws ++ drop (at + p .size) out })
+  unfolding writeOf writeChecks packetOf bodyOf
   written-again out at h =
       let says = read-accepts ws p e .says in
       let words = rw (← says) at packet-again in
-      rw (← says) (rw (may-again (length out) at (rw (← says) at h), size-again, words))
+      rw (← says) (first-fine (writeList P (bodyOf w ws) (length out) at) tt tt _ (may-again (length out) at (rw (← says) at h)) ∙ rw (size-again, words))

@@ -8,7 +8,7 @@ use Rattle.demands.proofs.Once.{one-outcome, each-refusal}
 use Rattle.demands.proofs.InOrder.{in-order}
 use Rattle.demands.proofs.Again.{written-again}
 use Rattle.demands.proofs.Back.{written-back}
-use Rattle.demands.proofs.RoundTrip.{come-back, packed-again}
+use Rattle.demands.proofs.RoundTrip.{pack-then-unpack, unpack-then-pack}
 use Rattle.demands.proofs.RightLaws.{start-accepts, right-start, right-on, answers-on, past-on}
 use Rattle.demands.proofs.Resumed.{saves, resumes}
 use Rattle.demands.proofs.Separate.{apart}
@@ -24,8 +24,8 @@ demand-2 = record {
   unpacks = λ first second n ws b. refl;
   again = written-again;
   back = written-back;
-  unpacked = come-back;
-  packed = packed-again;
+  unpacked = pack-then-unpack;
+  packed = unpack-then-pack;
 }
 
 pub demand-3 : Demand3 ours

@@ -13,16 +13,19 @@ use Rattle.words.specs.Tests.{when, both}
 use Rattle.words.specs.Word.{bits, highFirst, join}
 use Rattle.words.specs.Part.{part}
 use Rattle.words.specs.Outcome.{accepted, Done}
-use Rattle.words.proofs.Cases.{true-is-false, both-left, both-right, both-no, after-passed, accepted-same}
+use Rattle.words.proofs.Cases.{both-left, both-right, both-no, accepted-same}
+use Rattle.words.proofs.RefusalLaws.{first-passed, none-given}
 use Rattle.packet.specs.declared.Parts.{Parts}
 use Rattle.packet.specs.Header.{classed, trailed, sizeOf}
-use Rattle.packet.specs.Parts.{streamed, hasSeconds, hasFraction, classAt, secondsAt, fractionAt, bodyAt, requiredOf, bodyLength, wordIf, classHigh, classLow, fractionOf, partsOf, bodyOf, packetOf}
+use Rattle.packet.specs.Parts.{streamed, hasSeconds, hasFraction, classAt, secondsAt, fractionAt, bodyAt, requiredOf, bodyLength, wordIf, classHigh,
+classLow, fractionOf, partsOf, bodyOf, packetOf}
 use Rattle.packet.specs.Read.{headerChecks, sizeChecks, timeOver, prologueChecks, readOf}
-use Rattle.writing.specs.Write.{headerWord, sizeFor, given, classWord, headWords, classWords, timeWords, prologueWords, trailerWords, packetWords, plainParts, classFits, writeChecks, writeOf}
+use Rattle.writing.specs.Write.{headerWord, sizeFor, given, classWord, headWords, classWords, timeWords, prologueWords, trailerWords, packetWords,
+plainParts, classFits, writeList, writeChecks, writeOf}
 use Rattle.writing.proofs.FitLaws.{Fits, parts-fit, Writable, writable}
 use Rattle.packet.proofs.RoomLaws.{body-past}
 use Rattle.packet.proofs.ReadLaws.{Passed, accepts-read}
-use Rattle.writing.proofs.HeaderLaws.{type-is, classed-is, trailed-is, tsm-is, tsi-is, tsf-is, count-is, size-is, reserved-is, size-for-is}
+use Rattle.writing.proofs.HeaderLaws.{type-is, classed-is, trailed-is, tsm-is, tsi-is, tsf-is, count-is, size-is, reserved-is, size-for-is, required-is}
 use Rattle.writing.proofs.LayLaws.{length-given, head-length, class-length, prologue-length, packet-length}
 
 -- ---- an optional part, found where it was laid
@@ -42,7 +45,8 @@ found-two ws before rest true x y n e l = (
 found-two ws before rest false x y n e l = (refl, refl)
 
 -- the trailer, the last word of the size
-found-last : (ws before rest : List ℕ) (t : Bool) (x size : ℕ) → ws ≡ before ++ (given t (x ∷ []) ++ rest) → length before + when t 1 ≡ size → wordIf t (size - 1) ws ≡ when t x
+found-last : (ws before rest : List ℕ) (t : Bool) (x size : ℕ) → ws ≡ before ++ (given t (x ∷ []) ++ rest) → length before + when t 1 ≡ size
+    → wordIf t (size - 1) ws ≡ when t x
 unfolding wordIf
 found-last ws before rest true x size e l = found-one ws before rest true x (size - 1) e (omega arith)
 found-last ws before rest false x size e l = refl
@@ -66,11 +70,6 @@ fraction-back true fraction = omega arith
 fraction-back false fraction = refl
 
 -- ---- tests that a packet to be written passed, and that it passes when it is read
-
-indicator-back : (t : Bool) (n : ℕ) → both t (eqb n 0) ≡ false → when t 1 ≤ n
-indicator-back true zero e = absurd (true-is-false e)
-indicator-back true (suc n) e = omega arith
-indicator-back false n e = zero-le
 
 time-back : (t : Bool) (tsf fraction : ℕ) → timeOver tsf fraction ≡ false → timeOver tsf (when t fraction) ≡ false
 unfolding timeOver
@@ -110,7 +109,8 @@ module _ (p : Parts) (body more : List ℕ) (room at : ℕ) (may : Writable p bo
   class-words-back : (classHigh W Ws ≡ when (classed W) (p .oui)) × (classLow W Ws ≡ when (classed W) (classWord (p .information) (p .packet)))
   unfolding classHigh classLow packetWords prologueWords classWords
   class-words-back =
-      found-two Ws (headWords W p) (timeWords W p ++ (body ++ (trailerWords W p ++ more))) (classed W) (p .oui) (classWord (p .information) (p .packet)) (classAt W) (simp append-assoc) head-at
+      found-two Ws (headWords W p) (timeWords W p ++ (body ++ (trailerWords W p ++ more))) (classed W) (p .oui)
+      (classWord (p .information) (p .packet)) (classAt W) (simp append-assoc) head-at
 
   class-at : length (headWords W p ++ classWords W p) ≡ secondsAt W
   unfolding secondsAt
@@ -119,12 +119,14 @@ module _ (p : Parts) (body more : List ℕ) (room at : ℕ) (may : Writable p bo
   seconds-back : wordIf (hasSeconds W) (secondsAt W) Ws ≡ when (hasSeconds W) (p .seconds)
   unfolding packetWords prologueWords timeWords
   seconds-back =
-      found-one Ws (headWords W p ++ classWords W p) (given (hasFraction W) (p .fraction / 2 ^ 32 ∷ p .fraction % 2 ^ 32 ∷ []) ++ (body ++ (trailerWords W p ++ more)))
+      found-one Ws (headWords W p ++ classWords W p)
+      (given (hasFraction W) (p .fraction / 2 ^ 32 ∷ p .fraction % 2 ^ 32 ∷ []) ++ (body ++ (trailerWords W p ++ more)))
       (hasSeconds W) (p .seconds) (secondsAt W) (simp append-assoc) class-at
 
   seconds-at : length (headWords W p ++ classWords W p ++ given (hasSeconds W) (p .seconds ∷ [])) ≡ fractionAt W
   unfolding fractionAt
-  seconds-at = length-append (headWords W p ++ classWords W p) (given (hasSeconds W) (p .seconds ∷ [])) ∙ omega (arith, class-at, length-given (hasSeconds W) (p .seconds ∷ []))
+  seconds-at = length-append (headWords W p ++ classWords W p) (given (hasSeconds W) (p .seconds ∷ []))
+      ∙ omega (arith, class-at, length-given (hasSeconds W) (p .seconds ∷ []))
 
   fraction-words-back : (wordIf (hasFraction W) (fractionAt W) Ws ≡ when (hasFraction W) (p .fraction / 2 ^ 32))
       × (wordIf (hasFraction W) (fractionAt W + 1) Ws ≡ when (hasFraction W) (p .fraction % 2 ^ 32))
@@ -155,7 +157,9 @@ module _ (p : Parts) (body more : List ℕ) (room at : ℕ) (may : Writable p bo
       let c = class-back (classed W) (p .oui) (p .information) (p .packet) class-fits in
       let k = may .kind in
       let z = may .small in
-      rw (identifier-back, class-words-back .0, class-words-back .1, c .1, c .2, c .3, seconds-back, fraction-is, trailer-back, type-is p size k fits z, trailed-is p size k fits z, tsm-is p size k fits z, tsi-is p size k fits z, tsf-is p size k fits z, count-is p size k fits z, classed-is p size k fits z)
+      rw (identifier-back, class-words-back .0, class-words-back .1, c .1, c .2, c .3, seconds-back, fraction-is, trailer-back,
+      type-is p size k fits z, trailed-is p size k fits z, tsm-is p size k fits z, tsi-is p size k fits z, tsf-is p size k fits z,
+      count-is p size k fits z, classed-is p size k fits z)
 
   length-back : bodyLength W ≡ length body
   unfolding bodyLength
@@ -176,11 +180,11 @@ module _ (p : Parts) (body more : List ℕ) (room at : ℕ) (may : Writable p bo
       rw (type-is p size (may .kind) fits (may .small), le-ltb 5 (p .kind) (omega (arith, may .kind)), reserved-is p size (may .kind) fits (may .small))
 
   size-passes : sizeChecks W (length Ws) ≡ accepted tt
-  unfolding sizeChecks requiredOf
+  unfolding sizeChecks
   size-passes =
-      let i = indicator-back (eqb (p .kind) 4) (length body) (may .indicator) in
-      let long : length Ws ≡ size + length more = length-append (packetWords p body) more ∙ ap (λ (n : ℕ). n + length more) (packet-length p body room at may) in
-      rw (size-of, type-is p size (may .kind) fits (may .small), le-ltb size (bodyAt W + when (trailed W) 1 + when (eqb (p .kind) 4) 1) (omega (arith, size-parts)), le-ltb (length Ws) size (omega arith))
+      let whole : requiredOf W ≤ size = omega (arith, required-is p size (may .kind) fits (may .small), may .whole) in
+      let long : size ≤ length Ws = omega (arith, length-append (packetWords p body) more, packet-length p body room at may) in
+      rw (size-of, le-ltb size (requiredOf W) whole, le-ltb (length Ws) size long)
 
   prologue-passes : prologueChecks W Ws ≡ accepted tt
   unfolding prologueChecks
@@ -212,12 +216,12 @@ pub written-back : (p : Parts) (body out : List ℕ) (at : ℕ) (d : Done ℕ (L
     → let w = headerWord p (sizeFor p (length body)) in
     (readOf (drop at (d .leaves)) ≡ accepted (record { parts = plainParts w p; size = d .says; body = bodyAt w; length = length body }))
     × (part (bodyAt w) (length body) (drop at (d .leaves)) ≡ body)
-unfolding writeOf
+unfolding writeOf writeChecks
 written-back p body out at d e =
     let size = sizeFor p (length body) in
-    let k = after-passed (writeChecks p body (length out) at) _ d e in
-    let may = writable p body (length out) at (k .1) in
-    let done = accepted-same (k .2) in
+    let k = first-passed (writeList p body (length out) at) _ d e in
+    let may = writable p body (length out) at (none-given (writeList p body (length out) at) _ (k .0)) in
+    let done = accepted-same (k .1) in
     let past : drop at (take at out ++ packetWords p body ++ drop (at + size) out) ≡ packetWords p body ++ drop (at + size) out =
     ap (drop at) (append-assoc (take at out) (packetWords p body) (drop (at + size) out))
     ∙ drop-at (take at out) (packetWords p body ++ drop (at + size) out) at (length-take-le at out (omega (arith, may .inside))) in

@@ -3,10 +3,10 @@
 use mathlib.Core.Path.{_≡_, refl, sym, ap, _∙_}
 use mathlib.Core.List.{List, [], _++_, map, map-append}
 use Prim.Native.Nat.{ℕ, _≤_}
-use native.Mathlib.Omega.{arith}
 use lib.ListN.{length, take}
 use Rattle.words.specs.declared.Length.{Length}
-use Rattle.words.specs.Outcome.{Outcome, refused, accepted, measured, Done, saidOf, leftOf, Meets}
+use Rattle.words.specs.Outcome.{accepted, measured, saidOf, Meets}
+use Rattle.words.proofs.MeetLaws.{meets-accepted}
 use Rattle.table.specs.Layout.{base}
 use Rattle.table.specs.Start.{startOf}
 use Rattle.play.specs.declared.Played.{Played}
@@ -21,18 +21,10 @@ use Rattle.demands.proofs.Separate.{apart}
 
 -- ---- outcomes
 
--- what an accepted answer tells of the outcome
-said-done : {B L : Type 0} (o : Outcome (Done B L)) (b : B) → saidOf o ≡ accepted b → (d : Done B L) × (o ≡ accepted d) × (b ≡ d .says)
-said-done (refused n) b e = let z : _≡_ {A = ℕ} 0 1 = cc in absurd (omega (arith, z))
-said-done (accepted d) b e = (d, refl, cc)
-
-left-done : {B L : Type 0} (o : Outcome (Done B L)) (d : Done B L) (before : L) → o ≡ accepted d → leftOf o before ≡ d .leaves
-left-done o d before e = ap (λ (x : Outcome (Done _ _)). leftOf x before) e
-
 started : (ids lent t : List ℕ) → StartMade ids lent t → Right ids [] t
 started ids lent t m =
-    let k = said-done (startOf ids lent) (m .says) (sym (m .meets .answer) ∙ m .accepts) in
-    rw (m .meets .buffer ∙ left-done (startOf ids lent) (k .0) lent (k .1)) (right-start ids lent (k .0) (k .1))
+    let k = meets-accepted (m .meets) (m .accepts) in
+    rw (k .leaves) (right-start ids lent (k .done) (k .wants))
 
 played : {t last : List ℕ} {packets : List (List ℕ)} {rs : List Played} → PlaysMade t packets rs last
     → (last ≡ playAll ours t packets) × (map paper rs ≡ saidAll ours t packets)
@@ -54,14 +46,13 @@ module _ (ids lent t middle page room back : List ℕ) (first rest : List (List 
     (m : Meets measured (putBackOf page room) room r back) where
   again : Resumes ours ids t first rest page room
   again =
-      let k = said-done (saveOf middle (c .lent)) (c .says) (sym (c .meets .answer) ∙ c .accepts) in
-      let s : saveOf (playAll ours t first) (c .lent) ≡ accepted (k .0) = ap (λ (u : List ℕ). saveOf u (c .lent)) (sym (played b .0)) ∙ k .1 in
-      let e : page ≡ take (k .0 .says) (k .0 .leaves) =
-      c .wrote ∙ ap (λ (n : ℕ). take n (c .left)) (k .2) ∙ ap (take (k .0 .says)) (c .meets .buffer ∙ left-done (saveOf middle (c .lent)) (k .0) (c .lent) (k .1)) in
-      rw e (resumes ids t (started ids lent t a) first rest (c .lent) room (k .0) s h)
+      let k = meets-accepted (c .meets) (c .accepts) in
+      let s : saveOf (playAll ours t first) (c .lent) ≡ accepted (k .done) = ap (λ (u : List ℕ). saveOf u (c .lent)) (sym (played b .0)) ∙ k .wants in
+      let e : page ≡ take (k .done .says) (k .done .leaves) = cc (c .wrote, k .says, k .leaves) in
+      rw e (resumes ids t (started ids lent t a) first rest (c .lent) room (k .done) s h)
 
   put-back : back ≡ again .done .leaves
-  put-back = m .buffer ∙ left-done (putBackOf page room) (again .done) room (again .accepts)
+  put-back = m .buffer ∙ rw (again .accepts)
 
   pub accepted-back : measured r ≡ accepted (base (length ids))
   accepted-back = m .answer ∙ ap saidOf (again .accepts) ∙ ap accepted (again .says)
@@ -86,8 +77,10 @@ module _ (ids lent t middle page room back : List ℕ) (first rest : List (List 
 pub demand-3-made : Demand3Made
 demand-3-made = record {
   plays = λ ids lent t last packets answers a p. ruled ids t last [] packets answers (started ids lent t a) p;
-  resumes = λ ids lent t middle page room back last first rest heard answers r a b c h m p.
-      (accepted-back ids lent t middle page room back first rest heard r a b c h m, resumed ids lent t middle page room back first rest heard r a b c h m last answers p);
+  resumes = λ ids lent t middle page room back last first rest heard answers r a b c h m p. (
+    accepted-back ids lent t middle page room back first rest heard r a b c h m,
+    resumed ids lent t middle page room back first rest heard r a b c h m last answers p,
+  );
   unbroken = λ ids lent t middle page room back last whole first rest heard answers all r a b c h m p q.
       as-unbroken ids lent t middle page room back first rest heard r a b c h m last answers p whole all q;
   apart = λ ids lent room t u last other ps qs answers others s a x b y h alter.

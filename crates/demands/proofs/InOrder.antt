@@ -1,15 +1,13 @@
--- Each call gives the first refusal of its list that applies: by its definition, or where the checks stand in groups, since groups one after the other are one
--- list (`after-pick`) and tests with one number are one test (`either-pick`).
+-- Each call gives the first refusal of its list that applies, by its definition; and the numbers of the list are the document's, since they are numbers.
 use mathlib.Core.Path.{refl}
-use Rattle.words.proofs.RefusalLaws.{after-pick, either-pick}
 use Rattle.fields.specs.Layout.{contextOf}
-use Rattle.packet.specs.Read.{bodyChecks, readOf}
+use Rattle.packet.specs.Read.{readOf}
 use Rattle.trailer.specs.Trailer.{trailerWordOf}
-use Rattle.writing.specs.Write.{partsChecks, measureChecks, roomChecks, writeChecks, writeOf}
+use Rattle.writing.specs.Write.{writeOf}
 use Rattle.payload.specs.Count.{neededOf}
-use Rattle.payload.specs.Pack.{packCheck, packOf}
+use Rattle.payload.specs.Pack.{packOf}
 use Rattle.payload.specs.Signs.{signedOf}
-use Rattle.payload.specs.Unpack.{unpackCheck, unpackOf}
+use Rattle.payload.specs.Unpack.{unpackOf}
 use Rattle.table.specs.Start.{startOf}
 use Rattle.play.specs.Play.{playOf}
 use Rattle.play.specs.Run.{runOf}
@@ -20,22 +18,22 @@ use Rattle.panel.specs.Readings.{readingOf}
 use Rattle.demands.specs.Refusals.{InOrder}
 
 pub in-order : InOrder
-unfolding readOf writeOf writeChecks partsChecks measureChecks bodyChecks contextOf roomChecks startOf playOf saveOf putBackOf readingOf packOf packCheck unpackOf unpackCheck signedOf neededOf trailerWordOf runOf lengthOf heldWordsOf
+unfolding readOf writeOf startOf playOf saveOf putBackOf readingOf packOf unpackOf signedOf contextOf neededOf trailerWordOf runOf lengthOf heldWordsOf
 in-order = record {
-  read = λ ws. refl;
-  write = λ p body out at. simp after-pick;
-  start = λ ids t. refl;
-  play = λ t ws. refl;
-  save = λ t page. refl;
-  putBack = λ p t. refl;
-  reading = λ t stream bit. refl;
-  pack = λ first second is es cs out. simp (after-pick, either-pick);
-  unpack = λ first second n ws b. simp (after-pick, either-pick);
-  signed = λ w x. simp either-pick;
-  checkBody = λ body. refl;
-  wordsNeeded = λ first second n. refl;
-  trailerWord = λ enables indicators e associated. refl;
-  playRun = λ t ws from out. refl;
-  length-of-page = λ t. refl;
-  heldWords = λ t stream bit out. refl;
+  read = λ ws. record { order = refl; first = refl };
+  write = λ p body out at. record { order = refl; first = refl };
+  start = λ ids t. record { order = refl; first = refl };
+  play = λ t ws. record { order = refl; first = refl };
+  save = λ t page. record { order = refl; first = refl };
+  putBack = λ p t. record { order = refl; first = refl };
+  reading = λ t stream bit. record { order = refl; first = refl };
+  pack = λ first second is es cs out. record { order = refl; first = refl };
+  unpack = λ first second n ws b. record { order = refl; first = refl };
+  signed = λ w x. record { order = refl; first = refl };
+  checkBody = λ body. record { order = refl; first = refl };
+  wordsNeeded = λ first second n. record { order = refl; first = refl };
+  trailerWord = λ enables indicators e associated. record { order = refl; first = refl };
+  playRun = λ t ws from out. record { order = refl; first = refl };
+  pageLengthOf = λ t. record { order = refl; first = refl };
+  heldWords = λ t stream bit out. record { order = refl; first = refl };
 }

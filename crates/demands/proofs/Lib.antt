@@ -6,8 +6,6 @@ pub mod Listing
 pub mod Once
 -- each call gives the first refusal of its list that applies
 pub mod InOrder
--- the numbers of each list
-pub mod Orders
 -- an accepted packet written again gives the same words, and what was written reads back
 pub mod Again
 pub mod Back

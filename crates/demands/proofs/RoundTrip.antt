@@ -1,5 +1,5 @@
 -- What is packed is unpacked again, and the other way, over the promises of the two public calls: once for every format, both packings, and every
--- number of items. The idea: an accepted answer tells that every test passed (`said`), the tests of the other call then pass too, and fields and words
+-- number of items. The idea: an accepted answer tells that every test passed, the tests of the other call then pass too, and fields and words
 -- come back by one regrouping of the stream (`field-back`, `word-back`).
 use mathlib.Core.Path.{_≡_, refl, sym, ap, _∙_}
 use mathlib.Core.Bool.{true, false}
@@ -12,8 +12,10 @@ use lib.Seq.{getD-take, length-take-le}
 use lib.Dec.{ltb}
 use lib.Pow.{pow-pos, shr-lt}
 use borrow.Author.Tests.{lt-ltb, le-ltb, eq-eqb}
-use Rattle.words.specs.Outcome.{Outcome, refused, accepted, after, Done, saidOf, leftOf, Meets}
+use Rattle.words.specs.Outcome.{accepted, Done, saidOf, leftOf}
 use Rattle.words.proofs.Cases.{accepted-same}
+use Rattle.words.proofs.RefusalLaws.{first-passed, none-given, first-fine}
+use Rattle.words.proofs.MeetLaws.{said-accepted}
 use Rattle.words.proofs.AllLaws.{all-intro}
 use Rattle.fields.specs.Format.{eventSize, channelSize, itemSize, packingSize}
 use Rattle.bitstream.specs.Carried.{carried, fieldOf, wordOf}
@@ -22,32 +24,29 @@ use Rattle.bitstream.proofs.SpanLaws.{below}
 use Rattle.bitstream.proofs.CarriedLaws.{field-back, word-back, enough}
 use Rattle.bitstream.proofs.FilledLaws.{filled-front, filled-at, filled-length}
 use Rattle.payload_format.specs.declared.inner.Packing.{Packing}
-use Rattle.payload.specs.declared.unpacking.Unpacked.{Unpacked}
-use Rattle.payload.specs.declared.unpacking.Unpacked.the-variants as unpackedAs
-use Rattle.packing.specs.declared.Packed.{Packed}
-use Rattle.packing.specs.declared.Packed.the-variants as packedAs
 use Rattle.payload.specs.Format.{formatBad, carriedBits, packingOf, Legal}
 use Rattle.payload.specs.Count.{countBad, wordsFor}
 use Rattle.payload.specs.Field.{fieldIn, itemIn, eventIn, channelIn, fieldsOf, fitting}
-use Rattle.payload.specs.Unpack.{Buffers, unpacked, unpackCheck, unpackOf}
-use Rattle.payload.specs.Pack.{packed, packCheck, packOf}
-use Rattle.payload.specs.Answers.{unpackedPaper, packedPaper}
+use Rattle.payload.specs.Unpack.{Buffers, unpacked, unpackList, unpackCheck, unpackOf}
+use Rattle.payload.specs.Pack.{packed, packList, packCheck, packOf}
 use Rattle.demands.specs.Clean.{Clean}
 use Rattle.payload.proofs.FormatLaws.{legal, carry-some, carry-most, field-some}
 use Rattle.payload.proofs.FieldLaws.{item-back, event-back, channel-back, made-below, made-back, fields-blank}
 use Rattle.payload.proofs.UnpackLaws.{UnpackPassed, unpack-passed}
 use Rattle.payload.proofs.PackLaws.{PackPassed, pack-passed, packable}
 
--- ---- an accepted answer: the checks passed, and what the call says and leaves
-said : {A L : Type 0} (k : Outcome Unit) (d : Done A L) (a : A) → saidOf (after k (accepted d)) ≡ accepted a → (k ≡ accepted tt) × (d .says ≡ a)
-said (refused n) d a e = let z : _≡_ {A = ℕ} 0 1 = cc in absurd (omega arith)
-said (accepted u) d a e = (refl, accepted-same e)
-
 -- ---- the checks of each call, passed
-unpack-passes : (first second n m a b c : ℕ) → formatBad first second ≡ false → countBad first second n ≡ false → m ≡ wordsFor first n → n ≤ a → n ≤ b → n ≤ c
-    → unpackCheck first second n m a b c ≡ accepted tt
+unpack-passes : (first second n m a b c : ℕ) → UnpackPassed first second n m a b c → unpackCheck first second n m a b c ≡ accepted tt
 unfolding unpackCheck
-unpack-passes first second n m a b c f k w ha hb hc = simp (f, k, eq-eqb m (wordsFor first n) w, le-ltb a n ha, le-ltb b n hb, le-ltb c n hc)
+unpack-passes first second n m a b c p =
+    simp (
+      p .format,
+      p .count,
+      eq-eqb m (wordsFor first n) (p .there),
+      le-ltb a n (p .items),
+      le-ltb b n (p .events),
+      le-ltb c n (p .channels),
+    )
 
 fitting-is : (w n : ℕ) (l : List ℕ) → ((k : ℕ) → k < n → getD l k 0 < 2 ^ w) → fitting w n l ≡ true
 unfolding fitting
@@ -116,27 +115,36 @@ module _ (first second : ℕ) (is es cs out : List ℕ) (p : PackPassed first se
     channel-packed = ap (channelIn P) (field-packed k l) ∙ channel-back P lawful _ _ _ (p .events .each k l) (p .channels .each k l)
 
 -- What `pack` wrote, handed to `unpack` with room for as many, is accepted, and gives the items, the event tags and the channel tags back.
-pub pack-then-unpack : (first second : ℕ) (is es cs out out′ : List ℕ) (r : Packed) (w : ℕ) (b b′ : Buffers) (u : Unpacked)
-    → Meets packedPaper (packOf first second is es cs out) out r out′ → packedPaper r ≡ accepted w
-    → Meets unpackedPaper (unpackOf first second (length is) (take w out′) b) b u b′
-    → length is ≤ length (b .items) → length is ≤ length (b .events) → length is ≤ length (b .channels)
-    → (unpackedPaper u ≡ accepted (length is))
-    × (take (length is) (b′ .items) ≡ is)
-    × (take (length is) (b′ .events) ≡ es)
-    × (take (length is) (b′ .channels) ≡ cs)
-unfolding packOf unpackOf
-pack-then-unpack first second is es cs out out′ r w b b′ u p a q hi he hc =
-    let t = said (packCheck first second is es cs (length out)) _ w (sym (p .answer) ∙ a) in
-    let k : PackPassed first second is es cs (length out) = pack-passed first second is es cs (length out) (t .0) in
-    let m : ℕ = wordsFor first (length is) in
-    let e : take w out′ ≡ take m (packed (packingOf first) (length is) is es cs out) = rw (← (t .1)) (ap (take m) (p .buffer ∙ rw (t .0))) in
-    let l : length (take w out′) ≡ m = ap length e ∙ words-length first second is es cs out k in
-    let c = unpack-passes first second (length is) (length (take w out′)) (length (b .items)) (length (b .events)) (length (b .channels)) (k .format) (k .count) l hi he hc in
-    let left : b′ ≡ unpacked (packingOf first) (length is) (take w out′) b = q .buffer ∙ rw c in (
-      q .answer ∙ rw c,
-      ap (λ (x : Buffers). take (length is) (x .items)) left ∙ rw e (filled-front (length is) _ (b .items) is hi refl (item-packed first second is es cs out k)),
-      ap (λ (x : Buffers). take (length is) (x .events)) left ∙ rw e (filled-front (length is) _ (b .events) es he (k .events .many) (event-packed first second is es cs out k)),
-      ap (λ (x : Buffers). take (length is) (x .channels)) left ∙ rw e (filled-front (length is) _ (b .channels) cs hc (k .channels .many) (channel-packed first second is es cs out k)),
+pub pack-then-unpack : (first second : ℕ) (items events channels out : List ℕ) (d : Done ℕ (List ℕ))
+    → packOf first second items events channels out ≡ accepted d
+    → (b : Buffers) → length items ≤ length (b .items) → length items ≤ length (b .events) → length items ≤ length (b .channels)
+    → let answer = unpackOf first second (length items) (take (d .says) (d .leaves)) b in
+    (saidOf answer ≡ accepted (length items))
+    × (take (length items) (leftOf answer b .items) ≡ items)
+    × (take (length items) (leftOf answer b .events) ≡ events)
+    × (take (length items) (leftOf answer b .channels) ≡ channels)
+unfolding packOf packCheck unpackOf unpackCheck
+pack-then-unpack first second is es cs out d e b hi he hc =
+    let n = length is in
+    let a = first-passed (packList first second is es cs (length out)) _ d e in
+    let k = pack-passed first second is es cs (length out) (none-given (packList first second is es cs (length out)) _ (a .0)) in
+    let ws = words first second is es cs out k in
+    let c = unpack-passes first second n (length ws) (length (b .items)) (length (b .events)) (length (b .channels))
+    (record {
+      format = k .format;
+      count = k .count;
+      there = words-length first second is es cs out k;
+      items = hi;
+      events = he;
+      channels = hc;
+    }) in
+    let f : unpackOf first second n ws b ≡ accepted (record { says = n; leaves = unpacked (packingOf first) n ws b }) =
+    first-fine (unpackList first second n (length ws) (length (b .items)) (length (b .events)) (length (b .channels))) tt tt _ c in
+    rw (← accepted-same (a .1), f) (
+      refl,
+      filled-front n _ (b .items) is hi refl (item-packed first second is es cs out k),
+      filled-front n _ (b .events) es he (k .events .many) (event-packed first second is es cs out k),
+      filled-front n _ (b .channels) cs hc (k .channels .many) (channel-packed first second is es cs out k),
     )
 
 -- ---- unpacked, then packed
@@ -183,9 +191,21 @@ module _ (first second n : ℕ) (ws is es cs out : List ℕ) (f : formatBad firs
     format = f;
     count = rw (h .items) c;
     places = rw (h .items, ← there) room;
-    items = record { many = refl; each = λ k l. let q : k < n = omega (arith, h .items) in rw (h .item k q) (item-small (packingOf first) (legal first second f) ws k) };
-    events = record { many = h .events ∙ sym (h .items); each = λ k l. let q : k < n = omega (arith, h .items) in rw (h .event k q) (mod-lt _ (pow-pos (eventSize first))) };
-    channels = record { many = h .channels ∙ sym (h .items); each = λ k l. let q : k < n = omega (arith, h .items) in rw (h .channel k q) (mod-lt _ (pow-pos (channelSize first))) };
+    items = record {
+      many = refl;
+      each = λ k l. let q : k < n = omega (arith, h .items) in
+          rw (h .item k q) (item-small (packingOf first) (legal first second f) ws k);
+    };
+    events = record {
+      many = h .events ∙ sym (h .items);
+      each = λ k l. let q : k < n = omega (arith, h .items) in
+          rw (h .event k q) (mod-lt _ (pow-pos (eventSize first)));
+    };
+    channels = record {
+      many = h .channels ∙ sym (h .items);
+      each = λ k l. let q : k < n = omega (arith, h .items) in
+          rw (h .channel k q) (mod-lt _ (pow-pos (channelSize first)));
+    };
   }
 
   -- the fields are those of the words, and the words come back
@@ -194,81 +214,36 @@ module _ (first second n : ℕ) (ws is es cs out : List ℕ) (f : formatBad firs
   repacked w z =
       let g : ℕ → ℕ = fieldsOf (packingOf first) is es cs in
       let same : (k : ℕ) → k < n → g k ≡ fieldIn (packingOf first) ws k =
-      λ k l. rw (h .item k l, h .event k l, h .channel k l) (made-back (packingOf first) (legal first second f) (fieldIn (packingOf first) ws k) (z .unused k l)) in
+      λ k l. rw (h .item k l, h .event k l, h .channel k l)
+      (made-back (packingOf first) (legal first second f) (fieldIn (packingOf first) ws k) (z .unused k l)) in
       let past : (k : ℕ) → n ≤ k → g k ≡ 0 =
       λ k l. fields-blank (packingOf first) k is es cs (omega (arith, h .items)) (omega (arith, h .events)) (omega (arith, h .channels)) in
       let back : (j : ℕ) → j < length ws → wordOf (carriedBits first) (packingSize first) g j ≡ getD ws j 0 =
-      λ j l. word-back (carriedBits first) (packingSize first) n g ws j (field-some first) (carry-some first) (carry-most first) same past (z .padding) (w j) (z .uncarried j) in
+      λ j l. word-back (carriedBits first) (packingSize first) n g ws j (field-some first) (carry-some first) (carry-most first) same past
+      (z .padding) (w j) (z .uncarried j) in
       rw (h .items, ← there) (filled-front (length ws) (wordOf (carriedBits first) (packingSize first) g) out ws room refl back)
 
+  packs-back : ((j : ℕ) → getD ws j 0 < 2 ^ 32) → Clean first n ws
+      → let answer = packOf first second is es cs out in (saidOf answer ≡ accepted (length ws)) × (take (length ws) (leftOf answer out) ≡ ws)
+  unfolding packOf packCheck
+  packs-back w z =
+      let done : Done ℕ (List ℕ) = record { says = wordsFor first (length is); leaves = packed (packingOf first) (length is) is es cs out } in
+      let f : packOf first second is es cs out ≡ accepted done =
+      first-fine (packList first second is es cs (length out)) tt tt _ (pack-passes first second is es cs (length out) repacks) in
+      rw f (rw (h .items, ← there), repacked w z)
+
 -- What `unpack` gave, handed to `pack` with room for as many words, is accepted, and gives the words back where they were clean.
-pub unpack-then-pack : (first second n : ℕ) (ws : List ℕ) (b b′ : Buffers) (u : Unpacked) (v : ℕ) (out out′ : List ℕ) (r : Packed)
-    → ((j : ℕ) → getD ws j 0 < 2 ^ 32) → Clean first n ws
-    → Meets unpackedPaper (unpackOf first second n ws b) b u b′ → unpackedPaper u ≡ accepted v
-    → Meets packedPaper (packOf first second (take n (b′ .items)) (take n (b′ .events)) (take n (b′ .channels)) out) out r out′
-    → length ws ≤ length out
-    → (packedPaper r ≡ accepted (length ws)) × (take (length ws) out′ ≡ ws)
-unfolding packOf unpackOf
-unpack-then-pack first second n ws b b′ u v out out′ r w z p a q room =
-    let is : List ℕ = take n (b′ .items) in
-    let es : List ℕ = take n (b′ .events) in
-    let cs : List ℕ = take n (b′ .channels) in
-    let t = said (unpackCheck first second n (length ws) (length (b .items)) (length (b .events)) (length (b .channels))) _ v (sym (p .answer) ∙ a) in
-    let k = unpack-passed first second n (length ws) (length (b .items)) (length (b .events)) (length (b .channels)) (t .0) in
-    let left : b′ ≡ unpacked (packingOf first) n ws b = p .buffer ∙ rw (t .0) in
-    let h : Parts first n ws is es cs = parts-of first second n (length ws) ws b b′ k left in
-    let c = pack-passes first second is es cs (length out) (repacks first second n ws is es cs out (k .format) (k .count) (k .there) h room) in
-    let e : wordsFor first (length is) ≡ length ws = rw (h .items) (sym (k .there)) in (
-      q .answer ∙ rw (c, e),
-      ap (take (length ws)) (q .buffer ∙ rw c) ∙ repacked first second n ws is es cs out (k .format) (k .count) (k .there) h room w z,
-    )
-
--- ---- the same over the definitions: there is an answer for each outcome
-
-unpackedFor : Outcome ℕ → Unpacked
-unpackedFor (refused n) = unpackedAs.Refused n
-unpackedFor (accepted n) = unpackedAs.Accepted n
-
-unpacked-for : (o : Outcome ℕ) → unpackedPaper (unpackedFor o) ≡ o
-unfolding unpackedFor
-unpacked-for (refused n) = refl
-unpacked-for (accepted n) = refl
-
-pub come-back : (first second : ℕ) (items events channels out : List ℕ) (d : Done ℕ (List ℕ)) → packOf first second items events channels out ≡ accepted d
-    → (b : Buffers) → length items ≤ length (b .items) → length items ≤ length (b .events) → length items ≤ length (b .channels)
-    → let answer = unpackOf first second (length items) (take (d .says) (d .leaves)) b in
-    (saidOf answer ≡ accepted (length items))
-    × (take (length items) (leftOf answer b .items) ≡ items)
-    × (take (length items) (leftOf answer b .events) ≡ events)
-    × (take (length items) (leftOf answer b .channels) ≡ channels)
-come-back first second items events channels out d e b hi he hc =
-    let answer : Outcome (Done ℕ Buffers) = unpackOf first second (length items) (take (d .says) (d .leaves)) b in
-    let k =
-    pack-then-unpack first second items events channels out (d .leaves) (packedAs.Accepted (d .says)) (d .says) b (leftOf answer b) (unpackedFor (saidOf answer))
-    (record { answer = sym (ap saidOf e); buffer = sym (ap (λ (o : Outcome (Done ℕ (List ℕ))). leftOf o out) e) }) refl
-    (record { answer = unpacked-for (saidOf answer); buffer = refl }) hi he hc in
-    (sym (unpacked-for (saidOf answer)) ∙ k .0, k .1, k .2, k .3)
-
-packedFor : Outcome ℕ → Packed
-packedFor (refused n) = packedAs.Refused n
-packedFor (accepted n) = packedAs.Accepted n
-
-packed-for : (o : Outcome ℕ) → packedPaper (packedFor o) ≡ o
-unfolding packedFor
-packed-for (refused n) = refl
-packed-for (accepted n) = refl
-
-pub packed-again : (first second n : ℕ) (ws : List ℕ) → ((j : ℕ) → getD ws j 0 < 2 ^ 32) → Clean first n ws → (b : Buffers) (v : ℕ) → saidOf (unpackOf first second n ws b) ≡ accepted v
-    → (out : List ℕ) → length ws ≤ length out
+pub unpack-then-pack : (first second n : ℕ) (ws : List ℕ) → ((j : ℕ) → getD ws j 0 < 2 ^ 32) → Clean first n ws → (b : Buffers) (v : ℕ)
+    → saidOf (unpackOf first second n ws b) ≡ accepted v → (out : List ℕ) → length ws ≤ length out
     → let left = leftOf (unpackOf first second n ws b) b in
     let answer = packOf first second (take n (left .items)) (take n (left .events)) (take n (left .channels)) out in
     (saidOf answer ≡ accepted (length ws)) × (take (length ws) (leftOf answer out) ≡ ws)
-packed-again first second n ws small clean b v e out room =
-    let o : Outcome (Done ℕ Buffers) = unpackOf first second n ws b in
-    let left : Buffers = leftOf o b in
-    let answer : Outcome (Done ℕ (List ℕ)) = packOf first second (take n (left .items)) (take n (left .events)) (take n (left .channels)) out in
-    let k =
-    unpack-then-pack first second n ws b left (unpackedFor (saidOf o)) v out (leftOf answer out) (packedFor (saidOf answer)) small clean
-    (record { answer = unpacked-for (saidOf o); buffer = refl }) (unpacked-for (saidOf o) ∙ e)
-    (record { answer = packed-for (saidOf answer); buffer = refl }) room in
-    (sym (packed-for (saidOf answer)) ∙ k .0, k .1)
+unfolding unpackOf unpackCheck
+unpack-then-pack first second n ws w z b v e out room =
+    let list = unpackList first second n (length ws) (length (b .items)) (length (b .events)) (length (b .channels)) in
+    let t = said-accepted (unpackOf first second n ws b) v e in
+    let passed = first-passed list _ (t .0) (t .1) .0 in
+    let k = unpack-passed first second n (length ws) (length (b .items)) (length (b .events)) (length (b .channels)) (none-given list _ passed) in
+    let f : unpackOf first second n ws b ≡ accepted (record { says = n; leaves = unpacked (packingOf first) n ws b }) = none-given list _ passed in
+    let h = parts-of first second n (length ws) ws b (unpacked (packingOf first) n ws b) k refl in
+    rw f (packs-back first second n ws _ _ _ out (k .format) (k .count) (k .there) h room w z)

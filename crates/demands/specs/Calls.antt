@@ -10,8 +10,8 @@ use Rattle.fields.specs.Layout.{fieldCount, foundOf, contextOf}
 use Rattle.packet.specs.declared.Parts.{Parts}
 use Rattle.packet.specs.Read as Read
 use Rattle.trailer.specs.Trailer.{trailerOf, trailerWordOf, trailerPaper}
-use Rattle.writing.specs.Write.{writeOf, writtenPaper}
-use Rattle.payload.specs.Answers.{neededPaper, unpackedPaper, packedPaper, shownPaper}
+use Rattle.writing.specs.Write.{writeOf}
+use Rattle.payload.specs.Answers.{shownPaper}
 use Rattle.payload.specs.Count.{neededOf}
 use Rattle.payload.specs.Pack.{packOf}
 use Rattle.payload.specs.Signs.{signedOf}
@@ -57,15 +57,15 @@ calls =
     answers plain fieldCount
     ∷ answers checked contextOf
     ∷ answers foundPaper (λ (h : ℕ × List ℕ). foundOf (h .0) (h .1))
-    -- packet::read, write, trailer_parts, trailer_word
+    -- packet::read, writing::write, trailer::trailer_parts, trailer_word
     ∷ answers Read.paper Read.readOf
-    ∷ lends writtenPaper (λ (h : Parts × List ℕ × List ℕ × ℕ). writeOf (h .0) (h .1) (h .2) (h .3)) (λ h. h .2)
+    ∷ lends measured (λ (h : Parts × List ℕ × List ℕ × ℕ). writeOf (h .0) (h .1) (h .2) (h .3)) (λ h. h .2)
     ∷ answers plain trailerOf
     ∷ answers trailerPaper (λ (h : ℕ × ℕ × ℕ × ℕ). trailerWordOf (h .0) (h .1) (h .2) (h .3))
     -- payload::words_needed, unpack, pack, signed
-    ∷ answers neededPaper (λ (h : ℕ × ℕ × ℕ). neededOf (h .0) (h .1) (h .2))
-    ∷ lends unpackedPaper (λ (h : ℕ × ℕ × ℕ × List ℕ × Buffers). unpackOf (h .0) (h .1) (h .2) (h .3) (h .4)) (λ h. h .4)
-    ∷ lends packedPaper (λ (h : ℕ × ℕ × List ℕ × List ℕ × List ℕ × List ℕ). packOf (h .0) (h .1) (h .2) (h .3) (h .4) (h .5)) (λ h. h .5)
+    ∷ answers measured (λ (h : ℕ × ℕ × ℕ). neededOf (h .0) (h .1) (h .2))
+    ∷ lends measured (λ (h : ℕ × ℕ × ℕ × List ℕ × Buffers). unpackOf (h .0) (h .1) (h .2) (h .3) (h .4)) (λ h. h .4)
+    ∷ lends measured (λ (h : ℕ × ℕ × List ℕ × List ℕ × List ℕ × List ℕ). packOf (h .0) (h .1) (h .2) (h .3) (h .4) (h .5)) (λ h. h .5)
     ∷ answers shownPaper (λ (h : ℕ × ℕ). signedOf (h .0) (h .1))
     -- table::start, well_made
     ∷ lends measured (λ (h : List ℕ × List ℕ). startOf (h .0) (h .1)) (λ h. h .1)

@@ -10,8 +10,6 @@ pub mod CallsMade
 pub mod Recording
 -- the refusals of each call, in order
 pub mod Refusals
--- the numbers of each list, in the document's words
-pub mod Orders
 -- packed words, as a writer makes them
 pub mod Clean
 -- every public call, with its promise

@@ -15,12 +15,13 @@ use Rattle.words.specs.Word.{bits, has}
 use Rattle.words.specs.SetBits.{bitsOf, above}
 use Rattle.words.specs.Outcome.{accepted}
 use Rattle.words.specs.Part.{part}
-use Rattle.words.proofs.Cases.{passed, both-left, both-right, both-assoc}
+use Rattle.words.proofs.Cases.{both-left, both-right, both-assoc}
+use Rattle.words.proofs.RefusalLaws.{first-passed}
 use Rattle.words.proofs.SetBitLaws.{bits-split}
 use Rattle.words.proofs.PartLaws.{part-is}
 use Rattle.fields.specs.Sizes.{sizeOf, sizesOf, wordsOf}
 use Rattle.fields.specs.Rules.{ruleOf}
-use Rattle.fields.specs.Layout.{spanOf, obeyed, carried, indicatorOf, bodyWords, placeOf, fieldOf, insideOf, foundOf, lowBitsSet, otherLength, ruleBroken, contextOf}
+use Rattle.fields.specs.Layout.{spanOf, obeyed, carried, indicatorOf, bodyWords, placeOf, fieldOf, insideOf, foundOf, lowBitsSet, otherLength, ruleBroken, contextList, contextOf}
 use Rattle.fields.proofs.SizeLaws.{words-fixed}
 use Rattle.fields.proofs.RuleLaws.{rule-own}
 use Rattle.fields.proofs.WalkLaws.{span-cons, rules-cons}
@@ -36,13 +37,11 @@ pub record Fine (body : List ℕ) : Type 0 where
 pub context-fits : (body : List ℕ) → contextOf body ≡ accepted tt → Fine body
 unfolding contextOf lowBitsSet otherLength ruleBroken
 context-fits body e =
-    let first = passed (lowBitsSet body) _ _ tt e in
-    let second = passed (otherLength body) _ _ tt (first .1) in
-    let third = passed (ruleBroken body) _ _ tt (second .1) in
+    let a = first-passed (contextList body) _ tt e .0 in
     record {
-      low = eqb-true _ 0 (not-false _ (first .0));
-      whole = eqb-true (bodyWords body) (length body) (not-false _ (second .0));
-      obeys = not-false _ (third .0);
+      low = eqb-true _ 0 (not-false _ (a .0));
+      whole = eqb-true (bodyWords body) (length body) (not-false _ (a .1 .0));
+      obeys = not-false _ (a .1 .1 .0);
     }
 
 -- ---- fields before and after each other

@@ -9,7 +9,8 @@ use Rattle.words.specs.Numbers.{INDICATOR, LAYOUT, FIELD}
 use Rattle.words.specs.Tests.{pick, both}
 use Rattle.words.specs.Word.{bits, has}
 use Rattle.words.specs.SetBits.{bitsOf, above}
-use Rattle.words.specs.Outcome.{Outcome, refused, accepted}
+use Rattle.words.specs.Outcome.{Outcome, accepted}
+use Rattle.words.specs.Refusals.{Refusals, firstGiven}
 use Rattle.fields.specs.Sizes.{wordsOf}
 use Rattle.fields.specs.Rules.{ruleOf}
 
@@ -72,10 +73,9 @@ otherLength body = not (eqb (bodyWords body) (length body))
 unfoldable pub ruleBroken : List ℕ → Bool
 ruleBroken body = not (obeyed (carried (indicatorOf body)) (drop 1 body))
 
+abbrev pub contextList : List ℕ → Refusals
+contextList body = (INDICATOR, lowBitsSet body) ∷ (LAYOUT, otherLength body) ∷ (FIELD, ruleBroken body) ∷ []
+
 -- what a type 4 body is refused for
 unfoldable pub contextOf : List ℕ → Outcome Unit
-contextOf body =
-    pick (lowBitsSet body) (refused INDICATOR)
-    (pick (otherLength body) (refused LAYOUT)
-    (pick (ruleBroken body) (refused FIELD)
-    (accepted tt)))
+contextOf body = firstGiven (contextList body) (accepted tt)

@@ -5,12 +5,12 @@ use mathlib.Core.Bool.{Bool, not}
 use mathlib.Core.List.{List, [], _∷_, _++_}
 use lib.Dec.{eqb, ltb, leb}
 use lib.ListN.{length, getD}
-use Rattle.words.specs.Numbers.{EMPTY, TYPE, BITS, SHORT, CUT, CLASS, TIME, INDICATOR, LAYOUT, FIELD}
+use Rattle.words.specs.Numbers.{EMPTY, TYPE, BITS, SHORT, CUT, CLASS, TIME}
 use Rattle.words.specs.Tests.{both}
 use Rattle.words.specs.Word.{bits}
 use Rattle.words.specs.Outcome.{Outcome, refused, accepted}
-use Rattle.words.specs.Refusals.{Refusals, firstGiven}
-use Rattle.fields.specs.Layout.{lowBitsSet, otherLength, ruleBroken}
+use Rattle.words.specs.Refusals.{Refusals, firstGiven, onlyWhere}
+use Rattle.fields.specs.Layout.{contextList}
 use Rattle.packet.specs.Header.{typeOf, reservedOf, tsfOf, sizeOf}
 use Rattle.packet.specs.Parts.{requiredOf, classHigh, fractionOf, bodyOf, packetOf}
 use Rattle.packet.specs.declared.Packet.{Packet}
@@ -33,10 +33,9 @@ timeOver tsf fraction = both (eqb tsf 2) (leb (10 ^ 12) fraction)
 abbrev pub prologueList : ℕ → List ℕ → Refusals
 prologueList w ws = (CLASS, not (eqb (bits 31 24 (classHigh w ws)) 0)) ∷ (TIME, timeOver (tsfOf w) (fractionOf w ws)) ∷ []
 
--- of type 4, "bits 7-0 not zero"; "fields need more or fewer words than the body has"; "a field rule is broken"
+-- of type 4, INDICATOR, LAYOUT and FIELD of the body
 abbrev pub bodyList : ℕ → List ℕ → Refusals
-bodyList kind body =
-    (INDICATOR, both (eqb kind 4) (lowBitsSet body)) ∷ (LAYOUT, both (eqb kind 4) (otherLength body)) ∷ (FIELD, both (eqb kind 4) (ruleBroken body)) ∷ []
+bodyList kind body = onlyWhere (eqb kind 4) (contextList body)
 
 -- those that look at no body, of words whose header is w
 abbrev pub frontList : ℕ → List ℕ → Refusals

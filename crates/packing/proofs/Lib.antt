@@ -4,5 +4,3 @@
 pub mod WritingLaws
 -- what is known where nothing of packing is refused, and what it then leaves
 pub mod PackLaws
--- two outcomes that meet a promise are equal
-pub mod Uniqueness

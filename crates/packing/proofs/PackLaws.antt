@@ -1,7 +1,7 @@
 -- What is known where nothing of packing is refused, and the answers of `pack` by whether its checks pass.
-use mathlib.Core.Path.{_≡_, refl, ap}
+use mathlib.Core.Path.{_≡_, refl, sym, ap}
 use mathlib.Core.Bool.{Bool, false, not}
-use mathlib.Core.List.{List}
+use mathlib.Core.List.{List, [], _∷_}
 use mathlib.Core.Logic.{⊎-elim}
 use Prim.Native.Nat.{ℕ, _+_, _-_, _*_, _^_, _≤_, _<_}
 use native.Mathlib.Omega.{arith}
@@ -9,20 +9,22 @@ use lib.ListN.{length, getD, List·getD-eq-default}
 use lib.Arith.{lt-one}
 use lib.Dec.{ltb, eqb}
 use borrow.Author.Tests.{ltb-false, eqb-true, eq-eqb}
-use Rattle.words.specs.Tests.{pick}
-use Rattle.words.specs.Outcome.{Outcome, refused, accepted, Meets}
+use Rattle.words.specs.Tests.{either}
+use Rattle.words.specs.declared.Length.the-variants.{Accepted, Refused}
+use Rattle.words.specs.Outcome.{Outcome, refused, accepted, measured, Meets}
+use Rattle.words.specs.Refusals.{firstGiven}
 use Rattle.words.specs.Numbers.{VALUE, ROOM}
-use Rattle.words.proofs.Cases.{passed, le-or-lt}
+use Rattle.words.proofs.Cases.{le-or-lt}
+use Rattle.words.proofs.RefusalLaws.{first-passed, either-passed, first-refused, first-fine}
+use Rattle.words.proofs.MeetLaws.{meets-refused, meets-length}
 use Rattle.fields.specs.Format.{eventSize, channelSize, itemSize}
 use Rattle.bitstream.specs.Carried.{needed, wordOf}
 use Rattle.bitstream.specs.Filled.{filled}
 use Rattle.payload_format.specs.declared.inner.Packing.{Packing}
-use Rattle.packing.specs.declared.Packed.the-variants.{Accepted, Refused}
 use Rattle.payload_format.specs.Format.{formatBad, packingOf}
 use Rattle.payload_format.specs.Count.{countBad, wordsFor}
 use Rattle.payload_format.specs.Field.{fieldsOf, fitting}
-use Rattle.packing.specs.Pack.{packed, packCheck, packOf, Packable, Fitting}
-use Rattle.packing.specs.Answers.{packedPaper}
+use Rattle.packing.specs.Pack.{packed, packList, packCheck, packOf, Packable, Fitting}
 use Rattle.payload_format.proofs.FormatLaws.{legal, count-few, not-false}
 use Rattle.payload_format.proofs.FieldLaws.{fitting-each}
 
@@ -60,8 +62,7 @@ pub pack-counted : {first second : ℕ} {is es cs : List ℕ} {p : Packing} → 
     → (room : ℕ) (i e c : Bool) (w : ℕ)
     → i ≡ fitting (p .item) (length is) is → e ≡ fitting (p .event) (length es) es → c ≡ fitting (p .channel) (length cs) cs
     → w ≡ needed (p .carry) (p .field) (length is)
-    → packCheck first second is es cs room ≡ pick (not i) (refused VALUE)
-    (pick (not e) (refused VALUE) (pick (not c) (refused VALUE) (pick (ltb room w) (refused ROOM) (accepted tt))))
+    → packCheck first second is es cs room ≡ firstGiven ((VALUE, either (not i) (either (not e) (not c))) ∷ (ROOM, ltb room w) ∷ []) (accepted tt)
 unfolding packCheck packingOf wordsFor
 pack-counted {first} {second} {is} {es} {cs} {p} k room i e c w qi qe qc qw =
     rw (qi, qe, qc, qw, k .sizes, k .events, k .channels) (simp (k .format, k .count, eq-eqb (length is) (length is) refl))
@@ -80,27 +81,18 @@ module _ (first second : ℕ) (is es cs : List ℕ) (room : ℕ) where
   unfolding packCheck
   pack-passed e =
       let n : ℕ = length is in
-      let e₁ = passed (formatBad first second) 16 _ tt e in
-      let e₂ = passed (countBad first second n) 17 _ tt (e₁ .1) in
-      let e₃ = passed (not (eqb (length es) n)) 17 _ tt (e₂ .1) in
-      let e₄ = passed (not (eqb (length cs) n)) 17 _ tt (e₃ .1) in
-      let e₅ = passed (not (fitting (itemSize first) n is)) 14 _ tt (e₄ .1) in
-      let e₆ = passed (not (fitting (eventSize first) n es)) 14 _ tt (e₅ .1) in
-      let e₇ = passed (not (fitting (channelSize first) n cs)) 14 _ tt (e₆ .1) in
-      let e₈ = passed (ltb room (wordsFor first n)) 13 _ tt (e₇ .1) in
+      let a = first-passed (packList first second is es cs room) _ tt e .0 in
+      let many = either-passed (countBad first second n) _ (a .1 .0) in
+      let alike = either-passed (not (eqb (length es) n)) (not (eqb (length cs) n)) (many .1) in
+      let items = either-passed (not (fitting (itemSize first) n is)) _ (a .1 .1 .0) in
+      let tags = either-passed (not (fitting (eventSize first) n es)) (not (fitting (channelSize first) n cs)) (items .1) in
       record {
-        format = e₁ .0;
-        count = e₂ .0;
-        places = ltb-false room (wordsFor first n) (e₈ .0);
-        items = record { many = refl; each = fitting-each (itemSize first) n is (not-false (fitting (itemSize first) n is) (e₅ .0)) };
-        events = record {
-          many = eqb-true (length es) n (not-false (eqb (length es) n) (e₃ .0));
-          each = fitting-each (eventSize first) n es (not-false (fitting (eventSize first) n es) (e₆ .0));
-        };
-        channels = record {
-          many = eqb-true (length cs) n (not-false (eqb (length cs) n) (e₄ .0));
-          each = fitting-each (channelSize first) n cs (not-false (fitting (channelSize first) n cs) (e₇ .0));
-        };
+        format = a .0;
+        count = many .0;
+        places = ltb-false room (wordsFor first n) (a .1 .1 .1 .0);
+        items = record { many = refl; each = fitting-each (itemSize first) n is (not-false _ (items .0)) };
+        events = record { many = eqb-true (length es) n (not-false _ (alike .0)); each = fitting-each (eventSize first) n es (not-false _ (tags .0)) };
+        channels = record { many = eqb-true (length cs) n (not-false _ (alike .1)); each = fitting-each (channelSize first) n cs (not-false _ (tags .1)) };
       }
 
   pub packable : PackPassed first second is es cs room
@@ -119,12 +111,12 @@ module _ (first second : ℕ) (is es cs out : List ℕ) where
   check = packCheck first second is es cs (length out)
 
   -- a refusal, and an answer
-  pub pack-refused : (k : ℕ) → refused k ≡ check → Meets packedPaper (packOf first second is es cs out) out (Refused k) out
-  unfolding packOf
-  pack-refused k e = rw (← e) (record { answer = refl; buffer = refl })
+  pub pack-refused : (k : ℕ) → refused k ≡ check → Meets measured (packOf first second is es cs out) out (Refused k) out
+  unfolding packOf packCheck
+  pack-refused k e = meets-refused (first-refused (packList first second is es cs (length out)) tt k _ (sym e))
 
   pub pack-accepted : (m : ℕ) (after : List ℕ) → accepted tt ≡ check → m ≡ wordsFor first (length is)
       → after ≡ packed (packingOf first) (length is) is es cs out
-      → Meets packedPaper (packOf first second is es cs out) out (Accepted m) after
-  unfolding packOf
-  pack-accepted m after e w q = rw (← e) (record { answer = ap accepted w; buffer = q })
+      → Meets measured (packOf first second is es cs out) out (Accepted m) after
+  unfolding packOf packCheck
+  pack-accepted m after e w q = rw w (meets-length (first-fine (packList first second is es cs (length out)) tt tt _ (sym e)) q)

@@ -2,5 +2,3 @@
 
 -- what `pack` answers and leaves
 pub mod Pack
--- its number and values
-pub mod Answers

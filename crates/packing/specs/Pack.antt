@@ -2,11 +2,12 @@
 use Prim.Native.Nat.{ℕ, _^_, _≤_, _<_}
 use mathlib.Core.Path.{_≡_}
 use mathlib.Core.Bool.{not}
-use mathlib.Core.List.{List}
+use mathlib.Core.List.{List, [], _∷_}
 use lib.ListN.{length, getD}
 use lib.Dec.{eqb, ltb}
-use Rattle.words.specs.Tests.{pick}
-use Rattle.words.specs.Outcome.{Outcome, refused, accepted, after, Done}
+use Rattle.words.specs.Tests.{either}
+use Rattle.words.specs.Outcome.{Outcome, accepted, Done}
+use Rattle.words.specs.Refusals.{Refusals, firstGiven}
 use Rattle.words.specs.Numbers.{FORMAT, COUNT, VALUE, ROOM}
 use Rattle.fields.specs.Format.{eventSize, channelSize, itemSize}
 use Rattle.bitstream.specs.Carried.{wordOf, needed}
@@ -20,23 +21,25 @@ use Rattle.payload_format.specs.Field.{fieldsOf, fitting}
 abbrev pub packed : Packing → ℕ → List ℕ → List ℕ → List ℕ → List ℕ → List ℕ
 packed p n is es cs out = filled (needed (p .carry) (p .field) n) (wordOf (p .carry) (p .field) (fieldsOf p is es cs)) out
 
--- the refusals, by how many places the buffer has; n is the number of items
+-- the refusals, by how many places the buffer has
+abbrev pub packList : (first second : ℕ) (is es cs : List ℕ) (room : ℕ) → Refusals
+packList first second is es cs room =
+    let n = length is in
+    (FORMAT, formatBad first second)
+    -- "wrong number of items"
+    ∷ (COUNT, either (countBad first second n) (either (not (eqb (length es) n)) (not (eqb (length cs) n))))
+    -- "a number to be written .. does not fit its bits"
+    ∷ (VALUE, either (not (fitting (itemSize first) n is)) (either (not (fitting (eventSize first) n es)) (not (fitting (channelSize first) n cs))))
+    ∷ (ROOM, ltb room (wordsFor first n))
+    ∷ []
+
 unfoldable pub packCheck : (first second : ℕ) (is es cs : List ℕ) (room : ℕ) → Outcome Unit
-packCheck first second is es cs room =
-    pick (formatBad first second) (refused FORMAT)
-    (pick (countBad first second (length is)) (refused COUNT)
-    (pick (not (eqb (length es) (length is))) (refused COUNT)
-    (pick (not (eqb (length cs) (length is))) (refused COUNT)
-    (pick (not (fitting (itemSize first) (length is) is)) (refused VALUE)
-    (pick (not (fitting (eventSize first) (length is) es)) (refused VALUE)
-    (pick (not (fitting (channelSize first) (length is) cs)) (refused VALUE)
-    (pick (ltb room (wordsFor first (length is))) (refused ROOM)
-    (accepted tt))))))))
+packCheck first second is es cs room = firstGiven (packList first second is es cs room) (accepted tt)
 
 -- what `pack` answers, the words written, and what it leaves in the buffer
 unfoldable pub packOf : (first second : ℕ) (is es cs out : List ℕ) → Outcome (Done ℕ (List ℕ))
 packOf first second is es cs out =
-    after (packCheck first second is es cs (length out))
+    firstGiven (packList first second is es cs (length out))
     (accepted (record { says = wordsFor first (length is); leaves = packed (packingOf first) (length is) is es cs out }))
 
 -- ---- what the calls inside are given

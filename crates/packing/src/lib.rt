@@ -1,7 +1,6 @@
 // Packing: words from items and their tags, under a payload format.
-ghost use Rattle.words.specs.Outcome.{Meets};
+ghost use Rattle.words.specs.Outcome.{measured, Meets};
 ghost use Rattle.packing.specs.Pack.{packOf};
-ghost use Rattle.packing.specs.Answers.{packedPaper};
 
 mod checks;
 mod making;
@@ -11,12 +10,7 @@ use making::pack_fields;
 use payload_format::inner::packing_of;
 use payload_format::inner::words_of;
 use words::Check;
-
-// What `pack` answers: how many words were written, or the number of a refusal.
-pub enum Packed {
-    Accepted(usize),
-    Refused(u32),
-}
+use words::Length;
 
 // The words of the items with their event and channel tags, under a format: how many words there are, or the number of the first refusal of FORMAT,
 // COUNT, VALUE and ROOM. They fill the first places of out; the other places stay, and after a refusal all do.
@@ -27,15 +21,15 @@ pub fn pack(
     events: &[u8],
     channels: &[u16],
     out: &mut [u32],
-) -> Packed
-    ensures { λ r. ⌜ Meets packedPaper (packOf first second (now (items .entry)) (now (events .entry)) (now (channels .entry)) (now (out .entry))) (now (out .entry)) r (now (out .exit)) ⌝ }
+) -> Length
+    ensures { λ r. ⌜ Meets measured (packOf first second (now (items .entry)) (now (events .entry)) (now (channels .entry)) (now (out .entry))) (now (out .entry)) r (now (out .exit)) ⌝ }
 {
     let checked = pack_check(first, second, items, events, channels, out.len());
     if let Check::Refused(number) = checked {
-        return Packed::Refused(number);
+        return Length::Refused(number);
     }
     let p = packing_of(first);
     let n = items.len();
     pack_fields(p, n, items, events, channels, out);
-    Packed::Accepted(words_of(p.carry, p.field, n))
+    Length::Accepted(words_of(p.carry, p.field, n))
 }

@@ -17,7 +17,7 @@ use Rattle.words.specs.SetBits.{bitsOf}
 use Rattle.words.specs.Part.{part, put}
 use Rattle.words.specs.Laid.{Laid}
 use Rattle.words.proofs.LaidLaws.{then, laid-length}
-use Rattle.words.proofs.RefusalLaws.{meets-refused, meets-length}
+use Rattle.words.proofs.MeetLaws.{meets-refused, meets-length}
 use Rattle.words.proofs.PartLaws.{seen, lent-to, put-at, part-length, part-past, part-whole}
 use Rattle.fields.specs.Sizes.{sizeOf, sizesOf}
 use Rattle.record.specs.Held.{heldMask, holds, heldBits}

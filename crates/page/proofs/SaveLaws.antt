@@ -19,7 +19,8 @@ use Rattle.words.specs.Part.{part, put}
 use Rattle.words.specs.SetBits.{bitsOf}
 use Rattle.words.specs.Laid.{Laid}
 use Rattle.words.proofs.Cases.{accepted-same}
-use Rattle.words.proofs.RefusalLaws.{first-passed, first-refused, meets-refused, meets-length}
+use Rattle.words.proofs.RefusalLaws.{first-passed, first-refused}
+use Rattle.words.proofs.MeetLaws.{meets-refused, meets-length}
 use Rattle.words.proofs.LaidLaws.{then, laid-length}
 use Rattle.words.proofs.PartLaws.{seen, getD-part, part-length}
 use Rattle.fields.specs.Sizes.{sizesOf}

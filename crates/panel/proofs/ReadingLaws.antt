@@ -11,9 +11,10 @@ use lib.ListN.{length, take, drop}
 use Rattle.words.specs.Numbers.{ROOM}
 use Rattle.words.specs.Tests.{pick, when}
 use Rattle.words.specs.Part.{part, put}
-use Rattle.words.specs.Outcome.{refused, accepted, after, measured, Meets}
+use Rattle.words.specs.Outcome.{refused, accepted, measured, Meets}
 use Rattle.words.proofs.Cases.{when-most}
-use Rattle.words.proofs.RefusalLaws.{first-passed, either-passed, after-first, meets-refused, meets-length}
+use Rattle.words.proofs.RefusalLaws.{first-passed, either-passed, first-refused, first-fine}
+use Rattle.words.proofs.MeetLaws.{meets-refused, meets-length}
 use Rattle.words.proofs.PartLaws.{seen, part-part, part-length}
 use Rattle.fields.specs.Sizes.{sizeOf}
 use Rattle.record.specs.Held.{holds, slotAt}
@@ -42,26 +43,24 @@ asked-facts t s b e =
 
 -- ---- the public answers
 module _ (t : List ℕ) (s b : ℕ) where
-  reading-asked : readingOf t s b ≡ after (askedOf t s b) (accepted (recordShows b (recordAt s t)))
-  unfolding readingOf askedOf
-  reading-asked = sym (after-first (readingList t s b) tt _)
-
-  words-asked : (out : List ℕ) → heldWordsOf t s b out ≡ after (askedOf t s b) (copyOf (heldIn b (recordAt s t)) out)
-  unfolding heldWordsOf askedOf copyOf
-  words-asked out = sym (after-first (readingList t s b) tt _)
-
   pub reading-refused : (n : ℕ) → refused n ≡ askedOf t s b → readingPaper (dial.Refused n) ≡ readingOf t s b
-  reading-refused n e = rw (reading-asked, ← e)
+  unfolding readingOf askedOf
+  reading-refused n e = sym (first-refused (readingList t s b) tt n _ (sym e))
 
   pub reading-shown : (r : Dial) → accepted tt ≡ askedOf t s b → readingPaper r ≡ accepted (recordShows b (recordAt s t)) → readingPaper r ≡ readingOf t s b
-  reading-shown r e h = rw (reading-asked, ← e) h
+  unfolding readingOf askedOf
+  reading-shown r e h = h ∙ sym (first-fine (readingList t s b) tt tt _ (sym e))
 
   pub words-refused : (out : List ℕ) (n : ℕ) → refused n ≡ askedOf t s b → Meets measured (heldWordsOf t s b out) out (lengths.Refused n) out
-  words-refused out n e = meets-refused (rw (words-asked, ← e))
+  unfolding heldWordsOf askedOf
+  words-refused out n e = meets-refused (first-refused (readingList t s b) tt n _ (sym e))
 
   pub words-copied : (out last : List ℕ) (r : Length) → accepted tt ≡ askedOf t s b → Meets measured (copyOf (heldIn b (recordAt s t)) out) out r last
       → Meets measured (heldWordsOf t s b out) out r last
-  words-copied out last r e h = rw (words-asked, ← e) h
+  unfolding heldWordsOf askedOf copyOf
+  words-copied out last r e h =
+      let f : heldWordsOf t s b out ≡ copyOf (heldIn b (recordAt s t)) out = first-fine (readingList t s b) tt tt _ (sym e) in
+      rw f h
 
 -- ---- a field in a record
 pub shows-absent : (r : List ℕ) (b : ℕ) → isHeld b r ≡ false → accepted absent ≡ accepted (recordShows b r)

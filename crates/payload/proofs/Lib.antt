@@ -12,5 +12,5 @@ pub mod WindowLaws
 pub mod UnpackLaws
 -- the same of packing
 pub use Rattle.packing.proofs.PackLaws
--- two outcomes that meet a promise are equal
-pub mod Uniqueness
+-- two answers that meet the promise of `signed` are equal
+pub use Rattle.payload_format.proofs.Uniqueness

@@ -1,28 +1,29 @@
 -- What is known where nothing of unpacking is refused, and the answers of `unpack` by whether its checks pass.
 use mathlib.Core.Path.{_≡_, refl, sym, ap, _∙_}
 use mathlib.Core.Bool.{false, not}
-use mathlib.Core.List.{List}
+use mathlib.Core.List.{List, [], _∷_}
 use Prim.Native.Nat.{ℕ, _+_, _*_, _/_, _%_, _^_, _≤_, _<_}
 use native.Mathlib.Nat.{mod-one, div-one}
 use native.Mathlib.Omega.{arith}
 use lib.ListN.{length, getD}
 use lib.Dec.{ltb, eqb}
 use borrow.Author.Tests.{ltb-false, eqb-true}
-use Rattle.words.specs.Tests.{pick}
-use Rattle.words.specs.Outcome.{Outcome, refused, accepted, Meets}
+use Rattle.words.specs.Tests.{either}
+use Rattle.words.specs.declared.Length.the-variants.{Accepted, Refused}
+use Rattle.words.specs.Outcome.{Outcome, refused, accepted, measured, Meets}
+use Rattle.words.specs.Refusals.{Refusals, firstGiven}
 use Rattle.words.specs.Numbers.{COUNT, ROOM}
 use Rattle.words.specs.Word.{highFirst}
-use Rattle.words.proofs.Cases.{passed}
+use Rattle.words.proofs.RefusalLaws.{first-passed, either-passed, first-refused, first-fine}
+use Rattle.words.proofs.MeetLaws.{meets-refused, meets-length}
 use Rattle.bitstream.specs.Filled.{filled}
 use Rattle.bitstream.proofs.CarriedLaws.{enough, field-word, field-words}
 use Rattle.bitstream.proofs.FilledLaws.{filled-same}
 use Rattle.payload_format.specs.declared.inner.Packing.{Packing}
-use Rattle.payload.specs.declared.unpacking.Unpacked.the-variants.{Accepted, Refused}
 use Rattle.payload_format.specs.Format.{formatBad, packingOf, carriedBits}
 use Rattle.payload_format.specs.Count.{countBad, wordsFor}
 use Rattle.payload_format.specs.Field.{fieldIn, itemIn}
-use Rattle.payload.specs.Unpack.{Buffers, buffers, unpacked, unpackCheck, unpackOf, Unpackable}
-use Rattle.payload.specs.Answers.{unpackedPaper}
+use Rattle.payload.specs.Unpack.{Buffers, buffers, unpacked, unpackList, unpackCheck, unpackOf, Unpackable}
 use Rattle.payload_format.proofs.FormatLaws.{legal, count-few, not-false, carry-some}
 
 pub buffers-same : {is js es fs cs ds : List ℕ} → is ≡ js → es ≡ fs → cs ≡ ds → buffers is es cs ≡ buffers js fs ds
@@ -34,7 +35,8 @@ no-tags e n h l z = rw z (filled-same n (λ k. 0) (λ k. h k % 2 ^ 0) l (λ k q.
 
 -- the lines of `unpackCheck` that are left where FORMAT is not given, nor COUNT for n
 pub unpack-counted : (first second n words items events channels w : ℕ) → formatBad first second ≡ false → countBad first second n ≡ false → w ≡ wordsFor first n
-    → unpackCheck first second n words items events channels ≡ pick (not (eqb words w)) (refused COUNT) (pick (ltb items n) (refused ROOM) (pick (ltb events n) (refused ROOM) (pick (ltb channels n) (refused ROOM) (accepted tt))))
+    → unpackCheck first second n words items events channels
+    ≡ firstGiven ((COUNT, not (eqb words w)) ∷ (ROOM, either (ltb items n) (either (ltb events n) (ltb channels n))) ∷ []) (accepted tt)
 unfolding unpackCheck
 unpack-counted first second n words items events channels w f c e = rw e (simp (f, c))
 
@@ -87,22 +89,23 @@ pub record UnpackPassed (first second n words room-items room-events room-channe
 pub unpack-passed : (first second n m i e c : ℕ) → unpackCheck first second n m i e c ≡ accepted tt → UnpackPassed first second n m i e c
 unfolding unpackCheck
 unpack-passed first second n m i e c h =
-    let e₁ = passed (formatBad first second) 16 _ tt h in
-    let e₂ = passed (countBad first second n) 17 _ tt (e₁ .1) in
-    let e₃ = passed (not (eqb m (wordsFor first n))) 17 _ tt (e₂ .1) in
-    let e₄ = passed (ltb i n) 13 _ tt (e₃ .1) in
-    let e₅ = passed (ltb e n) 13 _ tt (e₄ .1) in
-    let e₆ = passed (ltb c n) 13 _ tt (e₅ .1) in
+    let a = first-passed (unpackList first second n m i e c) _ tt h .0 in
+    let count = either-passed (countBad first second n) (not (eqb m (wordsFor first n))) (a .1 .0) in
+    let items = either-passed (ltb i n) _ (a .1 .1 .0) in
+    let tags = either-passed (ltb e n) (ltb c n) (items .1) in
     record {
-      format = e₁ .0;
-      count = e₂ .0;
-      there = eqb-true m (wordsFor first n) (not-false (eqb m (wordsFor first n)) (e₃ .0));
-      items = ltb-false i n (e₄ .0);
-      events = ltb-false e n (e₅ .0);
-      channels = ltb-false c n (e₆ .0);
+      format = a .0;
+      count = count .0;
+      there = eqb-true m (wordsFor first n) (not-false _ (count .1));
+      items = ltb-false i n (items .0);
+      events = ltb-false e n (tags .0);
+      channels = ltb-false c n (tags .1);
     }
 
 module _ (first second n : ℕ) (ws : List ℕ) (b : Buffers) where
+  abbrev list : Refusals
+  list = unpackList first second n (length ws) (length (b .items)) (length (b .events)) (length (b .channels))
+
   abbrev check : Outcome Unit
   check = unpackCheck first second n (length ws) (length (b .items)) (length (b .events)) (length (b .channels))
 
@@ -120,10 +123,11 @@ module _ (first second n : ℕ) (ws : List ℕ) (b : Buffers) where
       )
 
   -- a refusal, and an answer
-  pub unpack-refused : (k : ℕ) → refused k ≡ check → Meets unpackedPaper (unpackOf first second n ws b) b (Refused k) b
-  unfolding unpackOf
-  unpack-refused k e = rw (← e) (record { answer = refl; buffer = refl })
+  pub unpack-refused : (k : ℕ) → refused k ≡ check → Meets measured (unpackOf first second n ws b) b (Refused k) b
+  unfolding unpackOf unpackCheck
+  unpack-refused k e = meets-refused (first-refused list tt k _ (sym e))
 
-  pub unpack-accepted : (after : Buffers) → accepted tt ≡ check → after ≡ unpacked (packingOf first) n ws b → Meets unpackedPaper (unpackOf first second n ws b) b (Accepted n) after
-  unfolding unpackOf
-  unpack-accepted after e q = rw (← e) (record { answer = refl; buffer = q })
+  pub unpack-accepted : (after : Buffers) → accepted tt ≡ check → after ≡ unpacked (packingOf first) n ws b
+      → Meets measured (unpackOf first second n ws b) b (Accepted n) after
+  unfolding unpackOf unpackCheck
+  unpack-accepted after e q = meets-length (first-fine list tt tt _ (sym e)) q

@@ -10,7 +10,6 @@ pub use Rattle.payload_format.specs.Field
 pub mod Unpack
 -- what `pack` answers and leaves
 pub use Rattle.packing.specs.Pack
--- what `signed` answers
+-- what `signed` answers, and its number and value
 pub use Rattle.payload_format.specs.Signs
--- each answer's number and values
-pub mod Answers
+pub use Rattle.payload_format.specs.Answers

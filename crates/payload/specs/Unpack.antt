@@ -1,11 +1,12 @@
 -- Document 01: "Unpack: FORMAT, COUNT, ROOM"; "Unpacking is given n and exactly the words needed".
 use Prim.Native.Nat.{ℕ, _*_, _≤_}
 use mathlib.Core.Bool.{not}
-use mathlib.Core.List.{List}
+use mathlib.Core.List.{List, [], _∷_}
 use lib.ListN.{length}
 use lib.Dec.{eqb, ltb}
-use Rattle.words.specs.Tests.{pick}
-use Rattle.words.specs.Outcome.{Outcome, refused, accepted, after, Done}
+use Rattle.words.specs.Tests.{either}
+use Rattle.words.specs.Outcome.{Outcome, accepted, Done}
+use Rattle.words.specs.Refusals.{Refusals, firstGiven}
 use Rattle.words.specs.Numbers.{FORMAT, COUNT, ROOM}
 use Rattle.bitstream.specs.Filled.{filled}
 use Rattle.payload_format.specs.declared.inner.Packing.{Packing}
@@ -31,20 +32,22 @@ unpacked p n ws b = record {
 }
 
 -- the refusals, by how many words there are and how many places in each buffer
+abbrev pub unpackList : (first second n words items events channels : ℕ) → Refusals
+unpackList first second n words items events channels =
+    (FORMAT, formatBad first second)
+    -- "wrong number of items or words"
+    ∷ (COUNT, either (countBad first second n) (not (eqb words (wordsFor first n))))
+    -- "a buffer to be written is too short"
+    ∷ (ROOM, either (ltb items n) (either (ltb events n) (ltb channels n)))
+    ∷ []
+
 unfoldable pub unpackCheck : (first second n words items events channels : ℕ) → Outcome Unit
-unpackCheck first second n words items events channels =
-    pick (formatBad first second) (refused FORMAT)
-    (pick (countBad first second n) (refused COUNT)
-    (pick (not (eqb words (wordsFor first n))) (refused COUNT)
-    (pick (ltb items n) (refused ROOM)
-    (pick (ltb events n) (refused ROOM)
-    (pick (ltb channels n) (refused ROOM)
-    (accepted tt))))))
+unpackCheck first second n words items events channels = firstGiven (unpackList first second n words items events channels) (accepted tt)
 
 -- what `unpack` answers, n, and what it leaves in the buffers
 unfoldable pub unpackOf : (first second n : ℕ) → List ℕ → Buffers → Outcome (Done ℕ Buffers)
 unpackOf first second n ws b =
-    after (unpackCheck first second n (length ws) (length (b .items)) (length (b .events)) (length (b .channels)))
+    firstGiven (unpackList first second n (length ws) (length (b .items)) (length (b .events)) (length (b .channels)))
     (accepted (record { says = n; leaves = unpacked (packingOf first) n ws b }))
 
 -- what the calls inside are given: n fields in the words ws, and room for n entries

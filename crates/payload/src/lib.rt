@@ -2,11 +2,8 @@
 mod unpacking;
 mod window;
 
-pub use packing::Packed;
 pub use packing::pack;
-pub use payload_format::Needed;
 pub use payload_format::Shown;
 pub use payload_format::signed;
 pub use payload_format::words_needed;
-pub use unpacking::Unpacked;
 pub use unpacking::unpack;

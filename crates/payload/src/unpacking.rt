@@ -4,11 +4,10 @@ ghost use Prim.Native.Nat.{ℕ, _+_, _*_, _≤_, _<_};
 ghost use mathlib.Core.List.{List};
 ghost use lib.ListN.{length, getD};
 ghost use Rattle.words.specs.Word.{highFirst};
-ghost use Rattle.words.specs.Outcome.{checked, Meets};
+ghost use Rattle.words.specs.Outcome.{checked, measured, Meets};
 ghost use Rattle.bitstream.specs.Filled.{filled};
 ghost use Rattle.payload.specs.Unpack.{buffers, unpacked, unpackCheck, unpackOf, Unpackable};
 ghost use Rattle.payload_format.specs.Field.{itemIn, fieldIn};
-ghost use Rattle.payload.specs.Answers.{unpackedPaper};
 use crate::window;
 use bitstream::inner::accumulator::Held;
 use bitstream::inner::accumulator::take_field;
@@ -19,12 +18,7 @@ use payload_format::inner::format_bad;
 use payload_format::inner::packing_of;
 use payload_format::inner::words_of;
 use words::Check;
-
-// What `unpack` answers: how many items, or the number of a refusal.
-pub enum Unpacked {
-    Accepted(usize),
-    Refused(u32),
-}
+use words::Length;
 
 // The first refusal of unpacking, by the numbers of words and of places.
 fn unpack_check(
@@ -273,8 +267,8 @@ pub fn unpack(
     items: &mut [u64],
     events: &mut [u8],
     channels: &mut [u16],
-) -> Unpacked
-    ensures { λ r. ⌜ Meets unpackedPaper (unpackOf first second n (now (words .entry)) (buffers (now (items .entry)) (now (events .entry)) (now (channels .entry)))) (buffers (now (items .entry)) (now (events .entry)) (now (channels .entry))) r (buffers (now (items .exit)) (now (events .exit)) (now (channels .exit))) ⌝ }
+) -> Length
+    ensures { λ r. ⌜ Meets measured (unpackOf first second n (now (words .entry)) (buffers (now (items .entry)) (now (events .entry)) (now (channels .entry)))) (buffers (now (items .entry)) (now (events .entry)) (now (channels .entry))) r (buffers (now (items .exit)) (now (events .exit)) (now (channels .exit))) ⌝ }
 {
     let checked = unpack_check(
         first,
@@ -286,8 +280,8 @@ pub fn unpack(
         channels.len(),
     );
     if let Check::Refused(number) = checked {
-        return Unpacked::Refused(number);
+        return Length::Refused(number);
     }
     unpack_fields(packing_of(first), n, words, items, events, channels);
-    Unpacked::Accepted(n)
+    Length::Accepted(n)
 }

@@ -1,9 +1,11 @@
 -- Document 01, 'Payload': how many items, and how many words. COUNT: "wrong number of items or words".
 use Prim.Native.Nat.{ℕ, _*_, _%_}
 use mathlib.Core.Bool.{Bool, true, not}
+use mathlib.Core.List.{[], _∷_}
 use lib.Dec.{eqb, ltb}
 use Rattle.words.specs.Tests.{pick}
-use Rattle.words.specs.Outcome.{Outcome, refused, accepted}
+use Rattle.words.specs.Outcome.{Outcome, accepted}
+use Rattle.words.specs.Refusals.{Refusals, firstGiven}
 use Rattle.words.specs.Numbers.{FORMAT, COUNT}
 use Rattle.fields.specs.Format.{realComplex, packingSize}
 use Rattle.bitstream.specs.Carried.{needed}
@@ -21,9 +23,9 @@ countBad first second n = pick (ltb 2097120 n) true (not (eqb (n % unitOf first 
 unfoldable pub wordsFor : ℕ → ℕ → ℕ
 wordsFor first n = needed (carriedBits first) (packingSize first) n
 
+abbrev pub neededList : ℕ → ℕ → ℕ → Refusals
+neededList first second n = (FORMAT, formatBad first second) ∷ (COUNT, countBad first second n) ∷ []
+
 -- what `words_needed` answers
 unfoldable pub neededOf : ℕ → ℕ → ℕ → Outcome ℕ
-neededOf first second n =
-    pick (formatBad first second) (refused FORMAT)
-    (pick (countBad first second n) (refused COUNT)
-    (accepted (wordsFor first n)))
+neededOf first second n = firstGiven (neededList first second n) (accepted (wordsFor first n))

@@ -3,7 +3,6 @@ pub mod inner;
 mod needed;
 mod signs;
 
-pub use needed::Needed;
 pub use needed::words_needed;
 pub use signs::Shown;
 pub use signs::signed;

@@ -18,10 +18,8 @@ use output::print_items;
 use output::print_refused;
 use output::print_signed;
 use output::print_words;
-use payload::Needed;
-use payload::Packed;
 use payload::Shown;
-use payload::Unpacked;
+use words::Length;
 
 // Op 1: first, second, n, the room of each buffer, m, then m words.
 fn unpack_case(k: u64) {
@@ -46,8 +44,8 @@ fn unpack_case(k: u64) {
         &mut channels[..room_channels],
     );
     match r {
-        Unpacked::Accepted(v) => print_accepted(k, b" unpacked ", v as u64),
-        Unpacked::Refused(e) => print_refused(k, e),
+        Length::Accepted(v) => print_accepted(k, b" unpacked ", v as u64),
+        Length::Refused(e) => print_refused(k, e),
     }
     print_items(room_items, &items);
     print_events(room_events, &events);
@@ -75,8 +73,8 @@ fn pack_case(k: u64) {
         &mut out[..room],
     );
     match r {
-        Packed::Accepted(w) => print_accepted(k, b" packed ", w as u64),
-        Packed::Refused(e) => print_refused(k, e),
+        Length::Accepted(w) => print_accepted(k, b" packed ", w as u64),
+        Length::Refused(e) => print_refused(k, e),
     }
     print_words(room, &out);
 }
@@ -100,8 +98,8 @@ fn needed_case(k: u64) {
     let n = wordio::inner::word() as usize;
     let r = payload::words_needed(first, second, n);
     match r {
-        Needed::Words(w) => print_accepted(k, b" words ", w as u64),
-        Needed::Refused(e) => print_refused(k, e),
+        Length::Accepted(w) => print_accepted(k, b" words ", w as u64),
+        Length::Refused(e) => print_refused(k, e),
     }
 }
 

@@ -96,7 +96,8 @@ module _ (w s : ℕ) (ws t : List ℕ) (p : Headed w ws) where
 -- ---- the answers of a packet on a table that is well made
 
 -- the packet is read, its stream is looked for, and it is heard
-pub step-read : (t ws : List ℕ) → stepOf t ws ≡ onward (readOf ws) (λ p. onward (soughtOf (p .parts .kind) (p .parts .identifier) t) (λ s. heardDone p s t ws))
+pub step-read : (t ws : List ℕ)
+    → stepOf t ws ≡ onward (readOf ws) (λ p. onward (soughtOf (p .parts .kind) (p .parts .identifier) t) (λ s. accepted (heardDone p s t ws)))
 unfolding stepOf readOf soughtOf
 step-read t ws =
     let p = packetOf (getD ws 0 0) ws in

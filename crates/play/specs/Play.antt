@@ -31,8 +31,8 @@ unfoldable pub tableAfter : Packet → ℕ → List ℕ → List ℕ → List �
 tableAfter p s ws t = withRecord s (recordAfter (p .parts .kind) (p .parts .count) (part (p .body) (p .length) ws) (recordAt s t)) t
 
 -- both together
-abbrev pub heardDone : Packet → ℕ → List ℕ → List ℕ → Outcome (Done Heard (List ℕ))
-heardDone p s t ws = accepted (record { says = heardOf p s t; leaves = tableAfter p s ws t })
+abbrev pub heardDone : Packet → ℕ → List ℕ → List ℕ → Done Heard (List ℕ)
+heardDone p s t ws = record { says = heardOf p s t; leaves = tableAfter p s ws t }
 
 -- ---- the refusals, in their order
 
@@ -62,11 +62,11 @@ soughtOf kind identifier t = firstGiven (streamList kind identifier t) (accepted
 
 -- a packet on a table that is known to be well made
 unfoldable pub stepOf : List ℕ → List ℕ → Outcome (Done Heard (List ℕ))
-stepOf t ws = let p = packetOf (getD ws 0 0) ws in firstGiven (stepList t ws) (heardDone p (streamOf (p .parts .identifier) t) t ws)
+stepOf t ws = let p = packetOf (getD ws 0 0) ws in firstGiven (stepList t ws) (accepted (heardDone p (streamOf (p .parts .identifier) t) t ws))
 
 -- a packet on a table
 unfoldable pub playOf : List ℕ → List ℕ → Outcome (Done Heard (List ℕ))
-playOf t ws = let p = packetOf (getD ws 0 0) ws in firstGiven (playList t ws) (heardDone p (streamOf (p .parts .identifier) t) t ws)
+playOf t ws = let p = packetOf (getD ws 0 0) ws in firstGiven (playList t ws) (accepted (heardDone p (streamOf (p .parts .identifier) t) t ws))
 
 -- ---- the numbers and values of answers
 

@@ -15,7 +15,8 @@ use Rattle.words.specs.Part.{part}
 use Rattle.words.specs.declared.Length.the-variants.{Accepted, Refused}
 use Rattle.words.specs.Outcome.{Done, accepted, measured, Meets}
 use Rattle.words.proofs.Cases.{accepted-same}
-use Rattle.words.proofs.RefusalLaws.{first-passed, meets-refused, meets-length}
+use Rattle.words.proofs.RefusalLaws.{first-passed}
+use Rattle.words.proofs.MeetLaws.{meets-refused, meets-length}
 use Rattle.words.proofs.PartLaws.{put-at, part-front, part-past, part-within}
 use Rattle.record.specs.Layout.{recordWords, identifierOf}
 use Rattle.record.specs.Good.{recordGood}

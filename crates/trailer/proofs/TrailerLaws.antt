@@ -1,18 +1,17 @@
 -- A trailer word taken apart and made again, both ways: the parts lie beside each other and fill the word.
 use mathlib.Core.Path.{_≡_, sym, ap, _∙_}
-use mathlib.Core.Bool.{not}
 use mathlib.Core.List.{List, [], _∷_}
 use Prim.Native.Nat.{ℕ, _/_, _%_, _^_, _<_}
 use native.Mathlib.Nat.{mod-lt, div-one}
 use native.Mathlib.Omega.{arith}
 use borrow.Author.Tests.{lt-ltb, ltb-true, not-false}
 use lib.Dec.{eqb, ltb, lit<}
-use Rattle.words.specs.Tests.{both}
 use Rattle.words.specs.Word.{bits, join, total}
 use Rattle.words.specs.Outcome.{accepted}
-use Rattle.words.proofs.Cases.{both-left, both-right, passed, accepted-same}
+use Rattle.words.proofs.Cases.{both-left, both-right, accepted-same}
+use Rattle.words.proofs.RefusalLaws.{first-passed}
 use Rattle.words.proofs.WordLaws.{fieldsFrom, join-split, split-from}
-use Rattle.trailer.specs.Trailer.{trailerOf, trailerWordOf}
+use Rattle.trailer.specs.Trailer.{trailerOf, trailerList, trailerWordOf}
 
 -- the parts of a word make the word
 pub trailer-again : (w : ℕ) → w < 2 ^ 32 → trailerWordOf (bits 31 20 w) (bits 19 8 w) (bits 7 7 w) (bits 6 0 w) ≡ accepted w
@@ -34,8 +33,8 @@ pub trailer-back : (enables indicators e associated w : ℕ) → trailerWordOf e
     → trailerOf w ≡ record { enables = enables; indicators = indicators; e = eqb e 1; associated = associated }
 unfolding trailerWordOf trailerOf join
 trailer-back enables indicators e associated w h =
-    let k = passed (not (both (ltb enables (2 ^ 12)) (both (ltb indicators (2 ^ 12)) (both (ltb e 2) (ltb associated (2 ^ 7)))))) _ _ w h in
-    let t = not-false _ (k .0) in
+    let k = first-passed (trailerList enables indicators e associated) _ w h in
+    let t = not-false _ (k .0 .0) in
     let u = both-right (ltb enables (2 ^ 12)) _ t in
     let v = both-right (ltb indicators (2 ^ 12)) _ u in
     let en = ltb-true enables (2 ^ 12) (both-left (ltb enables (2 ^ 12)) _ t) in

@@ -4,9 +4,10 @@ use mathlib.Core.Bool.{not}
 use mathlib.Core.List.{[], _∷_}
 use lib.Dec.{ltb}
 use Rattle.words.specs.Numbers.{VALUE}
-use Rattle.words.specs.Tests.{pick, both}
+use Rattle.words.specs.Tests.{both}
 use Rattle.words.specs.Word.{bits, has, join}
 use Rattle.words.specs.Outcome.{Outcome, refused, accepted}
+use Rattle.words.specs.Refusals.{Refusals, firstGiven}
 use Rattle.trailer.specs.declared.Trailer.{Trailer}
 use Rattle.trailer.specs.declared.TrailerWord.{TrailerWord}
 use Rattle.trailer.specs.declared.TrailerWord.the-variants.{Accepted, Refused}
@@ -15,10 +16,15 @@ use Rattle.trailer.specs.declared.TrailerWord.the-variants.{Accepted, Re
 unfoldable pub trailerOf : ℕ → Trailer
 trailerOf w = record { enables = bits 31 20 w; indicators = bits 19 8 w; e = has w 7; associated = bits 6 0 w }
 
--- the trailer word of four numbers: VALUE where one does not fit its bits
+-- "a number to be written .. does not fit its bits"
+abbrev pub trailerList : ℕ → ℕ → ℕ → ℕ → Refusals
+trailerList enables indicators e associated =
+    (VALUE, not (both (ltb enables (2 ^ 12)) (both (ltb indicators (2 ^ 12)) (both (ltb e 2) (ltb associated (2 ^ 7)))))) ∷ []
+
+-- the trailer word of four numbers
 unfoldable pub trailerWordOf : ℕ → ℕ → ℕ → ℕ → Outcome ℕ
 trailerWordOf enables indicators e associated =
-    pick (not (both (ltb enables (2 ^ 12)) (both (ltb indicators (2 ^ 12)) (both (ltb e 2) (ltb associated (2 ^ 7)))))) (refused VALUE)
+    firstGiven (trailerList enables indicators e associated)
     (accepted (join (7 ∷ 1 ∷ 12 ∷ 12 ∷ []) (associated ∷ e ∷ indicators ∷ enables ∷ [])))
 
 -- the number and values of an answer

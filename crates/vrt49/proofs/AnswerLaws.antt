@@ -1,5 +1,7 @@
--- What a call for C gives, by its answer. The idea: there are three ways to return. The buffer for the values is too short (`gives-room`); the call was refused,
--- and nothing is stored (`gives-refused`); it was accepted, and its values are stored (`gives-values`). Each is one law over plain variables, and one more for a
+-- What a call for C gives, by its answer. The idea: there are three ways to return. The buffer for the values is too short (`gives-room`); the call was
+-- refused,
+-- and nothing is stored (`gives-refused`); it was accepted, and its values are stored (`gives-values`). Each is one law over plain variables, and one more
+-- for a
 -- call that is lent other buffers beside (`beside-..`).
 use mathlib.Core.Path.{_≡_, refl, sym, ap, _∙_}
 use mathlib.Core.List.{List, _++_}
@@ -13,12 +15,9 @@ use Rattle.words.specs.Numbers.{ROOM}
 use Rattle.words.specs.Part.{part, put}
 use Rattle.words.specs.declared.Length.{Length}
 use Rattle.words.specs.Outcome.{Outcome, refused, accepted, numberOf, measured, Done, saidOf, leftOf, Meets}
-use Rattle.words.proofs.Cases.{accepted-same}
+use Rattle.words.proofs.MeetLaws.{said-refused, meets-accepted}
 use Rattle.words.proofs.PartLaws.{part-whole}
-use Rattle.vrt49.specs.Answers.{Gives, oneValue, front, answering, answeringBeside, given, Small}
-
-refused-same : {A : Type 0} {j k : ℕ} → _≡_ {A = Outcome A} (refused j) (refused k) → j ≡ k
-refused-same e = ap numberOf e
+use Rattle.vrt49.specs.Answers.{Gives, oneValue, front, answering, answeringBeside, lengthStored, Small}
 
 -- ---- an answer with values
 module _ {A B : Type 0} (n : ℕ) (values : A → List B) (want : Outcome A) (answer : List B) where
@@ -30,7 +29,8 @@ module _ {A B : Type 0} (n : ℕ) (values : A → List B) (want : Outcome A) (an
   unfolding answering
   gives-refused k h e = rw (le-ltb (length answer) n h, e) (record { number = refl; buffers = refl })
 
-  pub gives-values : (a : A) (after : List B) → n ≤ length answer → want ≡ accepted a → after ≡ front (values a) answer → Gives (answering n values want answer) answer 0 after
+  pub gives-values : (a : A) (after : List B) → n ≤ length answer → want ≡ accepted a → after ≡ front (values a) answer
+      → Gives (answering n values want answer) answer 0 after
   unfolding answering
   gives-values a after h e f = rw (le-ltb (length answer) n h, e) (record { number = refl; buffers = f })
 
@@ -40,14 +40,6 @@ module _ {A L : Type 0} where
   said-number : (want : Outcome (Done A L)) → numberOf (saidOf want) ≡ numberOf want
   said-number (refused k) = refl
   said-number (accepted d) = refl
-
-  said-refused : (want : Outcome (Done A L)) (k : ℕ) → saidOf want ≡ refused k → want ≡ refused k
-  said-refused (refused j) k e = ap refused (refused-same e)
-  said-refused (accepted d) k e = let z : _≡_ {A = ℕ} 0 1 = cc in absurd (omega arith)
-
-  pub said-accepted : (want : Outcome (Done A L)) (a : A) → saidOf want ≡ accepted a → (d : Done A L) × (want ≡ accepted d) × (d .says ≡ a)
-  said-accepted (refused j) a e = let z : _≡_ {A = ℕ} 0 1 = cc in absurd (omega arith)
-  said-accepted (accepted d) a e = (d, refl, accepted-same e)
 
 -- a call that has no values beside what it leaves: its number is that of its answer
 pub gives-number : {A L R : Type 0} (paper : R → Outcome A) (want : Outcome (Done A L)) (before left : L) (r : R) (k : ℕ) → Meets paper want before r left
@@ -72,8 +64,9 @@ module _ {A B L : Type 0} (n : ℕ) (values : A → List B) (want : Outcome (Don
         let f = said-refused want k (sym (m .answer) ∙ e) in
         rw (m .buffer, le-ltb (length answer) n h, f) (record { number = refl; buffers = refl })
 
-    pub beside-values : (a : A) (after : List B) → paper r ≡ accepted a → after ≡ front (values a) answer → Gives (answeringBeside n values want answer) (before, answer) 0 (left, after)
-    beside-values a after e g = let d = said-accepted want a (sym (m .answer) ∙ e) in stored-beside (d .0) a left after (d .1) (d .2) (m .buffer) h g
+    pub beside-values : (a : A) (after : List B) → paper r ≡ accepted a → after ≡ front (values a) answer
+        → Gives (answeringBeside n values want answer) (before, answer) 0 (left, after)
+    beside-values a after e g = let t = meets-accepted m e in stored-beside (t .done) a left after (t .wants) (t .says) (m .buffer) h g
 
 -- ---- a length that is given on
 
@@ -87,22 +80,24 @@ small-given e f = small-length _ (λ n k. f n (sym e ∙ k))
 
 pub small-beside : {L : Type 0} {want : Outcome (Done ℕ L)} {before left : L} {r : Length} → Meets measured want before r left
     → ((d : Done ℕ L) → want ≡ accepted d → d .says < 2 ^ 32) → Small (measured r)
-small-beside {want = want} m f = small-length _ (λ n e. let d = said-accepted want n (sym (m .answer) ∙ e) in rw (← d .2) (f (d .0) (d .1)))
+small-beside m f = small-length _ (λ n e. let t = meets-accepted m e in rw (← t .says) (f (t .done) (t .wants)))
 
-module _ (answer : List ℕ) (r : Length) (k : ℕ) (after : List ℕ) (h : 1 ≤ length answer) (g : Gives (given (measured r) answer) answer k after) where
-  pub length-given : {want : Outcome ℕ} → measured r ≡ want → Gives (answering 1 oneValue want answer) answer k after
-  unfolding answering given
-  length-given e = rw (le-ltb (length answer) 1 h, ← e) g
+-- it is stored, or the number of the refusal is given
+stored-length : {L : Type 0} (want : Outcome (Done ℕ L)) (answer : List ℕ) (k : ℕ) (before left : L) (after : List ℕ) → 1 ≤ length answer
+    → left ≡ leftOf want before
+    → Gives (lengthStored (saidOf want) answer) answer k after → Gives (answeringBeside 1 oneValue want answer) (before, answer) k (left, after)
+unfolding answeringBeside lengthStored
+stored-length (refused n) answer k before left after h e g = rw (le-ltb (length answer) 1 h, e, g .buffers) (record { number = g .number; buffers = refl })
+stored-length (accepted d) answer k before left after h e g = rw (le-ltb (length answer) 1 h, e, g .buffers) (record { number = g .number; buffers = refl })
+
+module _ (answer : List ℕ) (r : Length) (k : ℕ) (after : List ℕ) (h : 1 ≤ length answer) (g : Gives (lengthStored (measured r) answer) answer k after) where
+  pub length-given : (want : Outcome ℕ) → measured r ≡ want → Gives (answering 1 oneValue want answer) answer k after
+  unfolding answering lengthStored
+  length-given want e = rw (le-ltb (length answer) 1 h, ← e) g
 
   pub length-beside : {L : Type 0} (want : Outcome (Done ℕ L)) (before left : L) → Meets measured want before r left
       → Gives (answeringBeside 1 oneValue want answer) (before, answer) k (left, after)
-  unfolding answeringBeside given
-  length-beside (refused n) before left m =
-      let q = rw (m .answer) at g in
-      rw (le-ltb (length answer) 1 h) (record { number = q .number; buffers = rw (m .buffer, q .buffers) })
-  length-beside (accepted d) before left m =
-      let q = rw (m .answer) at g in
-      rw (le-ltb (length answer) 1 h) (record { number = q .number; buffers = rw (m .buffer, q .buffers) })
+  length-beside want before left m = stored-length want answer k before left after h (m .buffer) (rw (m .answer) at g)
 
 -- ---- values stored
 

@@ -3,29 +3,30 @@ use mathlib.Core.Path.{_≡_, refl, sym, ap, subst, _∙_}
 use mathlib.Core.List.{List, [], _∷_}
 use Prim.Native.Nat.{ℕ, _≤_}
 use borrow.Author.Tests.{ltb-false}
+use lib.Dec.{ltb}
 use types.Run.{OneOf, miss}
 use denote.Enum.Declared.{tagOf}
 use lib.ListN.{length}
 use lib.IntN.{ℤ}
 use lib.Ieee.{Float}
 use Rattle.words.specs.Outcome.{refused, accepted}
-use Rattle.words.proofs.Cases.{passed}
+use Rattle.words.specs.Refusals.{Refusals}
+use Rattle.words.proofs.RefusalLaws.{first-passed, either-passed, first-refused, first-fine}
 use Rattle.panel.proofs.Dial.{the-type}
 use Rattle.panel.specs.declared.Dial.{Dial}
 use Rattle.panel.specs.declared.Dial.the-variants as dial
 use Rattle.panel.specs.Readings.{readingOf, readingPaper}
 use Rattle.vrt49.specs.declared.readings.Values.{Values}
 use Rattle.vrt49.specs.Answers.{Gives, front}
-use Rattle.vrt49.specs.Readings.{zero, numbersIn, Panel, buffers, shown, panelRoom, readingShown, readingGives}
+use Rattle.vrt49.specs.Readings.{zero, numbersShown, Panel, buffers, shown, panelList, panelRoom, readingShown, readingGives}
 
 -- what the test of the buffers lets through
 pub panel-room : (answer hertz levels : ℕ) → panelRoom answer hertz levels ≡ accepted tt → (2 ≤ answer) × (1 ≤ hertz) × (2 ≤ levels)
 unfolding panelRoom
 panel-room answer hertz levels e =
-    let a = passed _ _ _ tt e in
-    let h = passed _ _ _ tt (a .1) in
-    let l = passed _ _ _ tt (h .1) in
-    (ltb-false answer 2 (a .0), ltb-false hertz 1 (h .0), ltb-false levels 2 (l .0))
+    let a = either-passed (ltb answer 2) _ (first-passed (panelList answer hertz levels) _ tt e .0 .0) in
+    let h = either-passed (ltb hertz 1) (ltb levels 2) (a .1) in
+    (ltb-false answer 2 (a .0), ltb-false hertz 1 (h .0), ltb-false levels 2 (h .1))
 
 -- the first six cases of an answer are no refusal
 abbrev shows : List ℕ
@@ -35,36 +36,45 @@ pub no-refusal : (d : Dial) → OneOf shows (tagOf the-type d) → (n : ℕ) →
 no-refusal d h n e = miss shows 6 tt (subst (λ (x : Dial). OneOf shows (tagOf the-type x)) e h)
 
 -- the numbers of an answer that is known
-pub numbers-told : (d e : Dial) (v : Values) → v ≡ numbersIn (readingPaper e) → d ≡ e → v ≡ numbersIn (readingPaper d)
-numbers-told d e v f g = f ∙ ap (λ (x : Dial). numbersIn (readingPaper x)) (sym g)
+pub numbers-told : (d e : Dial) (v : Values) → v ≡ numbersShown (readingPaper e) → d ≡ e → v ≡ numbersShown (readingPaper d)
+numbers-told d e v f g = f ∙ ap (λ (x : Dial). numbersShown (readingPaper x)) (sym g)
 
 pub numbers-frequency : (d : Dial) (hertz z : ℤ) (parts : ℕ) → hertz ≡ z → d ≡ dial.Frequency z parts
-    → record { kind = 1; parts = parts; hertz = hertz; first = zero; second = zero } ≡ numbersIn (readingPaper d)
+    → record { kind = 1; parts = parts; hertz = hertz; first = zero; second = zero } ≡ numbersShown (readingPaper d)
 numbers-frequency d hertz z parts f g = rw (f, g)
 
 -- the three stores
-pub numbers-stored : (v : Values) (answer answer′ : List ℕ) (hertz hertz′ : List ℤ) (levels levels′ : List Float) → answer′ ≡ front (v .kind ∷ v .parts ∷ []) answer
-    → hertz′ ≡ front (v .hertz ∷ []) hertz → levels′ ≡ front (v .first ∷ v .second ∷ []) levels → buffers answer′ hertz′ levels′ ≡ shown v (buffers answer hertz levels)
+pub numbers-stored : (v : Values) (answer answer′ : List ℕ) (hertz hertz′ : List ℤ) (levels levels′ : List Float)
+    → answer′ ≡ front (v .kind ∷ v .parts ∷ []) answer
+    → hertz′ ≡ front (v .hertz ∷ []) hertz → levels′ ≡ front (v .first ∷ v .second ∷ []) levels
+    → buffers answer′ hertz′ levels′ ≡ shown v (buffers answer hertz levels)
 unfolding shown
 numbers-stored v answer answer′ hertz hertz′ levels levels′ a h l = rw (a, h, l)
 
 module _ (t : List ℕ) (stream bit : ℕ) (p : Panel) where
+  abbrev list : Refusals
+  list = panelList (length (p .answer)) (length (p .hertz)) (length (p .levels))
+
   pub reading-room : (k : ℕ) → panelRoom (length (p .answer)) (length (p .hertz)) (length (p .levels)) ≡ refused k → Gives (readingGives t stream bit p) p k p
-  unfolding readingGives
-  reading-room k e = rw e (record { number = refl; buffers = refl })
+  unfolding readingGives panelRoom
+  reading-room k e =
+      let f : readingGives t stream bit p ≡ refused k = first-refused list tt k _ e in
+      rw f (record { number = refl; buffers = refl })
 
   module _ (room : panelRoom (length (p .answer)) (length (p .hertz)) (length (p .levels)) ≡ accepted tt) where
+    room-there : readingGives t stream bit p ≡ readingShown p (readingOf t stream bit)
+    unfolding readingGives panelRoom
+    room-there = first-fine list tt tt _ room
+
     pub reading-refused : (k : ℕ) → readingOf t stream bit ≡ refused k → Gives (readingGives t stream bit p) p k p
-    unfolding readingGives
-    reading-refused k e = rw (room, e) (record { number = refl; buffers = refl })
+    reading-refused k e = rw (room-there, e) (record { number = refl; buffers = refl })
 
     -- and of an answer d that is no refusal
-    pub reading-numbers : (d : Dial) (v : Values) (after : Panel) → readingPaper d ≡ readingOf t stream bit → ((n : ℕ) → d ≡ dial.Refused n → ⊥) → v ≡ numbersIn (readingPaper d)
-        → after ≡ shown v p → Gives (readingGives t stream bit p) p 0 after
-    unfolding readingGives
-    reading-numbers d v after e kept f g = rw (room, ← e, g, f) (told d kept)
+    pub reading-numbers : (d : Dial) (v : Values) (after : Panel) → readingPaper d ≡ readingOf t stream bit → ((n : ℕ) → d ≡ dial.Refused n → ⊥)
+        → v ≡ numbersShown (readingPaper d) → after ≡ shown v p → Gives (readingGives t stream bit p) p 0 after
+    reading-numbers d v after e kept f g = rw (room-there, ← e, g, f) (told d kept)
       where
-        told : (d : Dial) → ((n : ℕ) → d ≡ dial.Refused n → ⊥) → Gives (readingShown p (readingPaper d)) p 0 (shown (numbersIn (readingPaper d)) p)
+        told : (d : Dial) → ((n : ℕ) → d ≡ dial.Refused n → ⊥) → Gives (readingShown p (readingPaper d)) p 0 (shown (numbersShown (readingPaper d)) p)
         told (dial.Frequency h q) kept = record { number = refl; buffers = refl }
         told (dial.Level x) kept = record { number = refl; buffers = refl }
         told (dial.Gain s) kept = record { number = refl; buffers = refl }

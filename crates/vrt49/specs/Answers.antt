@@ -36,8 +36,8 @@ module _ {B : Type 0} where
       (onward want (λ d. accepted (record { says = tt; leaves = (d .leaves, front (values (d .says)) answer) })))
 
 -- a length, stored at the front of a buffer that has room
-unfoldable pub given : Outcome ℕ → List ℕ → Outcome (Done Unit (List ℕ))
-given want answer = onward want (λ n. accepted (record { says = tt; leaves = front (n ∷ []) answer }))
+unfoldable pub lengthStored : Outcome ℕ → List ℕ → Outcome (Done Unit (List ℕ))
+lengthStored want answer = onward want (λ n. accepted (record { says = tt; leaves = front (n ∷ []) answer }))
 
 -- a length fits a word
 abbrev pub Small : Outcome ℕ → Type 0

@@ -5,9 +5,10 @@ use mathlib.Core.List.{List, [], _∷_}
 use lib.Dec.{eqb, ltb}
 use lib.ListN.{length, getD}
 use Rattle.words.specs.Numbers.{COUNT, TYPE, VALUE}
-use Rattle.words.specs.Tests.{pick, when}
+use Rattle.words.specs.Tests.{when, either}
 use Rattle.words.specs.Word.{highFirst}
-use Rattle.words.specs.Outcome.{Outcome, refused, accepted, after, Done}
+use Rattle.words.specs.Outcome.{Outcome, accepted, Done}
+use Rattle.words.specs.Refusals.{Refusals, firstGiven}
 use Rattle.fields.specs.Layout.{foundOf}
 use Rattle.packet.specs.declared.Parts.{Parts}
 use Rattle.packet.specs.declared.Packet.{Packet}
@@ -23,7 +24,8 @@ use Rattle.vrt49.specs.Answers.{oneValue, answering, answeringBeside}
 -- words, trailer word
 abbrev pub packetValues : Packet → List ℕ
 packetValues p =
-    p .parts .kind ∷ when (p .parts .classed) 1 ∷ when (p .parts .trailed) 1 ∷ when (p .parts .tsm) 1 ∷ p .parts .tsi ∷ p .parts .tsf ∷ p .parts .count ∷ p .size
+    p .parts .kind ∷ when (p .parts .classed) 1 ∷ when (p .parts .trailed) 1 ∷ when (p .parts .tsm) 1 ∷ p .parts .tsi ∷ p .parts .tsf
+    ∷ p .parts .count ∷ p .size
     ∷ p .parts .identifier ∷ p .parts .oui ∷ p .parts .information ∷ p .parts .packet ∷ p .parts .seconds
     ∷ p .parts .fraction / 2 ^ 32 ∷ p .parts .fraction % 2 ^ 32 ∷ p .body ∷ p .length ∷ p .parts .trailer ∷ []
 
@@ -58,18 +60,19 @@ partsOf ws = record {
 }
 
 -- COUNT for another number of words; then TYPE and VALUE as in writing, VALUE also where C, T or TSM "does not fit its bits"
+abbrev pub wordsList : List ℕ → Refusals
+wordsList ws =
+    (COUNT, not (eqb (length ws) 15))
+    ∷ (TYPE, ltb 5 (getD ws 0 0))
+    ∷ (VALUE, either (ltb 1 (getD ws 1 0)) (either (ltb 1 (getD ws 2 0)) (ltb 1 (getD ws 3 0))))
+    ∷ []
+
 unfoldable pub wordsChecks : List ℕ → Outcome Unit
-wordsChecks ws =
-    pick (not (eqb (length ws) 15)) (refused COUNT)
-    (pick (ltb 5 (getD ws 0 0)) (refused TYPE)
-    (pick (ltb 1 (getD ws 1 0)) (refused VALUE)
-    (pick (ltb 1 (getD ws 2 0)) (refused VALUE)
-    (pick (ltb 1 (getD ws 3 0)) (refused VALUE)
-    (accepted tt)))))
+wordsChecks ws = firstGiven (wordsList ws) (accepted tt)
 
 -- what writing a packet whose parts are words answers and leaves
 unfoldable pub writeWordsOf : List ℕ → List ℕ → List ℕ → ℕ → Outcome (Done ℕ (List ℕ))
-writeWordsOf ws body out at = after (wordsChecks ws) (writeOf (partsOf ws) body out at)
+writeWordsOf ws body out at = firstGiven (wordsList ws) (writeOf (partsOf ws) body out at)
 
 -- ---- what the calls give
 

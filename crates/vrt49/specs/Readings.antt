@@ -7,8 +7,9 @@ use lib.ListN.{length}
 use lib.IntN.{ℤ, pos}
 use lib.Ieee.{Float, fin}
 use Rattle.words.specs.Numbers.{ROOM}
-use Rattle.words.specs.Tests.{pick}
-use Rattle.words.specs.Outcome.{Outcome, refused, accepted, after, onward, Done}
+use Rattle.words.specs.Tests.{either}
+use Rattle.words.specs.Outcome.{Outcome, refused, accepted, onward, Done}
+use Rattle.words.specs.Refusals.{Refusals, firstGiven}
 use Rattle.panel.specs.Readings.{Reading, frequency, level, gain, temperature, other, absent, readingOf}
 use Rattle.panel.specs.HeldWords.{heldWordsOf}
 use Rattle.vrt49.specs.declared.readings.Values.{Values}
@@ -34,9 +35,9 @@ numbersOf other = levelledOf 5 zero zero
 numbersOf absent = levelledOf 6 zero zero
 
 -- those of an answer; of a refusal they are not looked at
-abbrev pub numbersIn : Outcome Reading → Values
-numbersIn (refused n) = levelledOf 0 zero zero
-numbersIn (accepted r) = numbersOf r
+abbrev pub numbersShown : Outcome Reading → Values
+numbersShown (refused n) = levelledOf 0 zero zero
+numbersShown (accepted r) = numbersOf r
 
 -- ---- the three buffers that `vrt49_reading` is lent
 
@@ -54,13 +55,12 @@ shown v p = buffers (front (v .kind ∷ v .parts ∷ []) (p .answer)) (front (v 
 
 -- ---- what the calls give
 
--- ROOM, where a buffer is too short for its numbers
+-- "a buffer to be written is too short" for its numbers
+abbrev pub panelList : ℕ → ℕ → ℕ → Refusals
+panelList answer hertz levels = (ROOM, either (ltb answer 2) (either (ltb hertz 1) (ltb levels 2))) ∷ []
+
 unfoldable pub panelRoom : ℕ → ℕ → ℕ → Outcome Unit
-panelRoom answer hertz levels =
-    pick (ltb answer 2) (refused ROOM)
-    (pick (ltb hertz 1) (refused ROOM)
-    (pick (ltb levels 2) (refused ROOM)
-    (accepted tt)))
+panelRoom answer hertz levels = firstGiven (panelList answer hertz levels) (accepted tt)
 
 -- the numbers of a reading, in the buffers
 abbrev pub readingShown : Panel → Outcome Reading → Outcome (Done Unit Panel)
@@ -68,8 +68,7 @@ readingShown p want = onward want (λ r. accepted (record { says = tt; leaves = 
 
 unfoldable pub readingGives : List ℕ → ℕ → ℕ → Panel → Outcome (Done Unit Panel)
 readingGives t stream bit p =
-    after (panelRoom (length (p .answer)) (length (p .hertz)) (length (p .levels)))
-    (readingShown p (readingOf t stream bit))
+    firstGiven (panelList (length (p .answer)) (length (p .hertz)) (length (p .levels))) (readingShown p (readingOf t stream bit))
 
 unfoldable pub heldGives : List ℕ → ℕ → ℕ → List ℕ → List ℕ → Outcome (Done Unit (List ℕ × List ℕ))
 heldGives t stream bit out answer = answeringBeside 1 oneValue (heldWordsOf t stream bit out) answer

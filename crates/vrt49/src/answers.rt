@@ -5,7 +5,7 @@ ghost use Prim.Native.Nat.{_≤_};
 ghost use lib.ListN.{length};
 ghost use Rattle.words.specs.Tests.{when};
 ghost use Rattle.words.specs.Outcome.{measured};
-ghost use Rattle.vrt49.specs.Answers.{Gives, front, given, Small};
+ghost use Rattle.vrt49.specs.Answers.{Gives, front, lengthStored, Small};
 
 // A flag as a word.
 pub fn flag(set: bool) -> u32
@@ -43,7 +43,7 @@ pub fn store_signed(value: &mut [i64], z: i64)
 // Stores a length, and gives 0; or gives the number of the refusal.
 pub fn give_length(r: words::Length, answer: &mut [u32]) -> u32
     requires { ⌜ (1 ≤ length (now answer)) × Small (measured r) ⌝ }
-    ensures { λ k. ⌜ Gives (given (measured r) (now (answer .entry))) (now (answer .entry)) k (now (answer .exit)) ⌝ }
+    ensures { λ k. ⌜ Gives (lengthStored (measured r) (now (answer .entry))) (now (answer .entry)) k (now (answer .exit)) ⌝ }
 {
     match r {
         words::Length::Refused(n) => n,

@@ -2,9 +2,8 @@
 ghost use mathlib.Core.Path.{_≡_};
 ghost use Prim.Native.Nat.{_+_, _≤_, _<_};
 ghost use lib.ListN.{length, getD};
-ghost use Rattle.words.specs.Outcome.{numberOf, checked, Meets};
+ghost use Rattle.words.specs.Outcome.{numberOf, checked, measured, Meets};
 ghost use Rattle.fields.specs.Layout.{fieldCount, contextOf};
-ghost use Rattle.writing.specs.Write.{writtenPaper};
 ghost use Rattle.vrt49.specs.Answers.{Gives, front};
 ghost use Rattle.vrt49.specs.Packets.{packetValues, wordsChecks, partsOf, writeWordsOf, readGives, writeGives, trailerGives, trailerWordGives, findGives};
 
@@ -100,12 +99,12 @@ fn parts_of(parts: &[u32]) -> packet::Parts
 }
 
 // Writes a packet whose parts are words.
-fn write_words(parts: &[u32], body: &[u32], out: &mut [u32], at: usize) -> writing::Written
-    ensures { λ r. ⌜ Meets writtenPaper (writeWordsOf (now (parts .entry)) (now (body .entry)) (now (out .entry)) at) (now (out .entry)) r (now (out .exit)) ⌝ }
+fn write_words(parts: &[u32], body: &[u32], out: &mut [u32], at: usize) -> words::Length
+    ensures { λ r. ⌜ Meets measured (writeWordsOf (now (parts .entry)) (now (body .entry)) (now (out .entry)) at) (now (out .entry)) r (now (out .exit)) ⌝ }
 {
     let checked = check_words(parts);
     if let words::Check::Refused(n) = checked {
-        return writing::Written::Refused(n);
+        return words::Length::Refused(n);
     }
     writing::inner::write_given(parts_of(parts), parts, body, out, at)
 }
@@ -125,13 +124,7 @@ pub extern "C" fn vrt49_write(
     if answer.len() < 1 {
         return words::ROOM;
     }
-    match write_words(parts, body, out, at) {
-        writing::Written::Refused(n) => n,
-        writing::Written::Accepted(n) => {
-            answer[0] = n as u32;
-            0
-        }
-    }
+    crate::answers::give_length(write_words(parts, body, out, at), answer)
 }
 
 // A trailer word's parts; answers ROOM. Four values.

@@ -17,8 +17,8 @@ pub extern "C" fn vrt49_unpack(
     ensures { λ r. ⌜ Gives (unpackOf first second n (now (words .entry)) (buffers (now (items .entry)) (now (events .entry)) (now (channels .entry)))) (buffers (now (items .entry)) (now (events .entry)) (now (channels .entry))) r (buffers (now (items .exit)) (now (events .exit)) (now (channels .exit))) ⌝ }
 {
     match payload::unpack(first, second, n, words, items, events, channels) {
-        payload::Unpacked::Refused(number) => number,
-        payload::Unpacked::Accepted(_) => 0,
+        words::Length::Refused(number) => number,
+        words::Length::Accepted(_) => 0,
     }
 }
 
@@ -38,13 +38,10 @@ pub extern "C" fn vrt49_pack(
     if answer.len() < 1 {
         return words::ROOM;
     }
-    match payload::pack(first, second, items, events, channels, out) {
-        payload::Packed::Refused(n) => n,
-        payload::Packed::Accepted(n) => {
-            answer[0] = n as u32;
-            0
-        }
-    }
+    crate::answers::give_length(
+        payload::pack(first, second, items, events, channels, out),
+        answer,
+    )
 }
 
 // The words that n items need; answers ROOM, FORMAT or COUNT. One value.
@@ -55,13 +52,7 @@ pub extern "C" fn vrt49_words_needed(first: u32, second: u32, n: usize, answer: 
     if answer.len() < 1 {
         return words::ROOM;
     }
-    match payload::words_needed(first, second, n) {
-        payload::Needed::Refused(number) => number,
-        payload::Needed::Words(many) => {
-            answer[0] = many as u32;
-            0
-        }
-    }
+    crate::answers::give_length(payload::words_needed(first, second, n), answer)
 }
 
 // The two's complement value of an item; answers ROOM, FORMAT or VALUE. One value.

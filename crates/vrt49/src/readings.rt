@@ -6,7 +6,7 @@ ghost use lib.ListN.{length};
 ghost use Rattle.words.specs.Outcome.{checked};
 ghost use Rattle.panel.specs.Readings.{readingPaper};
 ghost use Rattle.vrt49.specs.Answers.{Gives, front};
-ghost use Rattle.vrt49.specs.Readings.{levelledOf, numbersIn, buffers, shown, panelRoom, readingGives, heldGives};
+ghost use Rattle.vrt49.specs.Readings.{levelledOf, numbersShown, buffers, shown, panelRoom, readingGives, heldGives};
 
 // A reading as numbers: its kind, the parts and the whole hertz of a frequency, and a level, a temperature, or the stages of a gain; zero what it has not.
 pub struct Values {
@@ -48,7 +48,7 @@ fn check_room(answer: usize, hertz: usize, levels: usize) -> words::Check
 
 // The numbers of a reading; those of a refusal are not looked at.
 fn numbers_of(dial: panel::Dial) -> Values
-    ensures { λ r. ⌜ r ≡ numbersIn (readingPaper dial) ⌝ }
+    ensures { λ r. ⌜ r ≡ numbersShown (readingPaper dial) ⌝ }
 {
     match dial {
         panel::Dial::Frequency { hertz, parts } => Values {

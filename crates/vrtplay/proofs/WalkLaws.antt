@@ -11,7 +11,7 @@ use lib.ListN.{length, drop, getD}
 use lib.Seq.{getD-drop}
 use Rattle.words.specs.Numbers.{STREAM}
 use Rattle.words.specs.Outcome.{Outcome, refused, accepted, measured, Done, saidOf, leftOf, Meets}
-use Rattle.words.proofs.Cases.{true-is-false}
+use Rattle.words.proofs.MeetLaws.{meets-accepted}
 use Rattle.packet.specs.declared.Packet.{Packet}
 use Rattle.packet.specs.Header.{sizeOf}
 use Rattle.packet.specs.Read.{readOf}
@@ -62,13 +62,7 @@ module _ (t ws left : List ℕ) (at : ℕ) (r : Happened) (w : wellMade t ≡ tr
 
 -- ---- a table that has started
 
-abbrev isAccepted : {A : Type 0} → Outcome A → Bool
-isAccepted (refused n) = false
-isAccepted (accepted a) = true
-
-begun-well : (o : Outcome (Done ℕ (List ℕ))) (ids t : List ℕ) (n : ℕ) → startOf ids t ≡ o → accepted n ≡ saidOf o → wellMade (leftOf o t) ≡ true
-begun-well (refused k) ids t n e a = absurd (true-is-false (ap isAccepted a))
-begun-well (accepted d) ids t n e a = start-well-made ids t d e .well
-
 pub started-well : (ids t left : List ℕ) (r : Length) (n : ℕ) → Meets measured (startOf ids t) t r left → r ≡ Accepted n → wellMade left ≡ true
-started-well ids t left r n m e = ap wellMade (m .buffer) ∙ begun-well (startOf ids t) ids t n refl (sym (ap measured e) ∙ m .answer)
+started-well ids t left r n m e =
+    let k = meets-accepted m (ap measured e) in
+    rw (k .leaves) (start-well-made ids t (k .done) (k .wants) .well)

@@ -1,4 +1,4 @@
--- Definitions that go by tests: the rule set for `search`, case splits, and what an accepted answer says of the tests before it.
+-- Definitions that go by tests: the rule set for `search`, case splits, tests joined, and what an accepted answer says.
 use mathlib.Core.Path.{_≡_, refl, sym}
 use mathlib.Core.Bool.{Bool, true, false}
 use mathlib.Core.List.{List, [], _∷_}
@@ -10,7 +10,7 @@ use borrow.Author.Needs.{needs}
 use borrow.Author.Tests.{lt-ltb, le-ltb, le-leb, lt-leb, eq-eqb, ne-eqb, eqb-true, eqb-false}
 use lib.Dec.{eqb}
 use Rattle.words.specs.Tests.{pick, when, both, sameWords}
-use Rattle.words.specs.Outcome.{Outcome, refused, accepted, after, onward}
+use Rattle.words.specs.Outcome.{Outcome, refused, accepted, onward}
 
 -- for `search`: `search cases` closes most returns of a function that goes by tests on numbers
 pub ruleset cases = (needs, eq-eqb, ne-eqb, lt-ltb, le-ltb, le-leb, lt-leb)
@@ -92,25 +92,11 @@ pub when-most : (t : Bool) (n : ℕ) → when t n ≤ n
 when-most true n = le-refl n
 when-most false n = zero-le
 
--- ---- chains of refusals
+-- ---- answers
 module _ {A : Type 0} where
-  -- one test of a chain was passed
-  pub passed : (t : Bool) (n : ℕ) (o : Outcome A) (a : A) → pick t (refused n) o ≡ accepted a → (t ≡ false) × (o ≡ accepted a)
-  passed true n o a e = let z : _≡_ {A = ℕ} 0 1 = cc in absurd (omega arith)
-  passed false n o a e = (refl, e)
-
-  -- some checks before an accepted answer found nothing
-  pub after-passed : {B : Type 0} (o : Outcome B) (rest : Outcome A) (a : A) → after o rest ≡ accepted a → (b : B) × (o ≡ accepted b) × (rest ≡ accepted a)
-  after-passed (refused n) rest a e = let z : _≡_ {A = ℕ} 0 1 = cc in absurd (omega arith)
-  after-passed (accepted b) rest a e = (b, refl, e)
-
-  -- what follows some checks matters only where they found nothing
-  pub after-same : {B : Type 0} (o : Outcome B) (r s : Outcome A) → ((b : B) → o ≡ accepted b → r ≡ s) → after o r ≡ after o s
-  after-same (refused n) r s e = refl
-  after-same (accepted b) r s e = e b refl
-
   -- the answer before an accepted rest was accepted
-  pub onward-passed : {B : Type 0} (o : Outcome B) (rest : B → Outcome A) (a : A) → onward o rest ≡ accepted a → (b : B) × (o ≡ accepted b) × (rest b ≡ accepted a)
+  pub onward-passed : {B : Type 0} (o : Outcome B) (rest : B → Outcome A) (a : A) → onward o rest ≡ accepted a
+      → (b : B) × (o ≡ accepted b) × (rest b ≡ accepted a)
   onward-passed (refused n) rest a e = let z : _≡_ {A = ℕ} 0 1 = cc in absurd (omega arith)
   onward-passed (accepted b) rest a e = (b, refl, e)
 

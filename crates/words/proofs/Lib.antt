@@ -1,9 +1,11 @@
 -- The laws that the crates above cite, each beside its kin.
 
--- what `search` is handed for a definition that goes by tests; chains of refusals; tests joined
+-- what `search` is handed for a definition that goes by tests; tests joined; accepted answers
 pub mod Cases
 -- lists of refusals
 pub mod RefusalLaws
+-- the promise of a call that is lent words: how it is met, and what it tells
+pub mod MeetLaws
 -- two answers that meet one promise are equal
 pub mod Once
 -- a word and its fields

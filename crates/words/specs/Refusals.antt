@@ -2,7 +2,7 @@
 use Prim.Native.Nat.{ℕ}
 use mathlib.Core.Bool.{Bool}
 use mathlib.Core.List.{List, [], _∷_}
-use Rattle.words.specs.Tests.{pick}
+use Rattle.words.specs.Tests.{pick, both}
 use Rattle.words.specs.Outcome.{Outcome, refused}
 
 -- a call's refusals in their order: each number, and whether it applies
@@ -13,6 +13,11 @@ Refusals = List (ℕ × Bool)
 abbrev pub firstGiven : {A : Type 0} → Refusals → Outcome A → Outcome A
 firstGiven [] answer = answer
 firstGiven (r ∷ rest) answer = pick (r .1) (refused (r .0)) (firstGiven rest answer)
+
+-- refusals that apply only where a test holds
+abbrev pub onlyWhere : Bool → Refusals → Refusals
+onlyWhere t [] = []
+onlyWhere t (r ∷ rest) = (r .0, both t (r .1)) ∷ onlyWhere t rest
 
 -- the numbers, in their order
 abbrev pub numbersIn : Refusals → List ℕ

@@ -1,4 +1,4 @@
--- Tests, and the value that a test picks. A refusal of document 01 is one line, `pick test (refused n) rest`.
+-- Tests, and the value that a test picks.
 use Prim.Native.Nat.{ℕ}
 use mathlib.Core.Bool.{Bool, true, false}
 use mathlib.Core.List.{List, [], _∷_}

@@ -3,7 +3,7 @@
 use packet::Parsed;
 use packet::Parts;
 use trailer::TrailerWord;
-use writing::Written;
+use words::Length;
 
 // The line of a buffer: its words where they are few, and else their sum.
 fn show_buffer(words: &[u32]) {
@@ -18,14 +18,14 @@ fn show_buffer(words: &[u32]) {
 }
 
 // The line of what was answered; whether it was accepted.
-fn show_written(answer: Written) -> bool {
+fn show_written(answer: Length) -> bool {
     match answer {
-        Written::Accepted(n) => {
+        Length::Accepted(n) => {
             wordio::inner::named(b"wrote", n as u64);
             wordio::inner::text(b"\n");
             true
         }
-        Written::Refused(n) => {
+        Length::Refused(n) => {
             wordio::inner::named(b"refused", n as u64);
             wordio::inner::text(b"\n");
             false

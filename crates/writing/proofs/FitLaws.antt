@@ -1,18 +1,37 @@
 -- What the checks of writing tell once they found nothing: each number fits its bits, and there is room.
-use mathlib.Core.Path.{_≡_}
-use mathlib.Core.Bool.{true, false, not}
+use mathlib.Core.Path.{_≡_, sym, ap, _∙_}
+use mathlib.Core.Bool.{true, false}
 use mathlib.Core.List.{List}
 use Prim.Native.Nat.{ℕ, _+_, _≤_, _<_}
 use native.Mathlib.Omega.{arith}
 use borrow.Author.Tests.{ltb-true, ltb-false, not-false}
-use lib.Dec.{eqb, ltb}
+use lib.Dec.{ltb}
 use lib.ListN.{length}
-use Rattle.words.specs.Tests.{both}
-use Rattle.words.specs.Outcome.{accepted}
-use Rattle.words.proofs.Cases.{both-left, both-right, passed, after-passed}
+use Rattle.words.specs.Outcome.{accepted, after}
+use Rattle.words.specs.Refusals.{firstGiven}
+use Rattle.words.proofs.Cases.{both-left, both-right}
+use Rattle.words.proofs.RefusalLaws.{first-passed, none-given, after-first, first-fine}
 use Rattle.packet.specs.declared.Parts.{Parts}
-use Rattle.packet.specs.Read.{timeOver, bodyChecks}
-use Rattle.writing.specs.Write.{sizeFor, codesFit, flagsFit, classFits, partsFit, partsChecks, measureChecks, roomChecks, writeChecks}
+use Rattle.packet.specs.Parts.{requiredOf}
+use Rattle.packet.specs.Read.{timeOver, bodyList, bodyChecks}
+use Rattle.writing.specs.Write.{
+  headerWord,
+  sizeFor,
+  codesFit,
+  flagsFit,
+  classFits,
+  partsFit,
+  partsList,
+  measureList,
+  roomList,
+  writeList,
+  partsChecks,
+  measureChecks,
+  roomChecks,
+  writeChecks,
+  writtenDone,
+  writeOf,
+}
 
 -- the numbers of parts that fit
 pub record Fits (p : Parts) : Type 0 where
@@ -39,44 +58,58 @@ parts-fit p e =
 pub parts-passed : (p : Parts) → partsChecks p ≡ accepted tt → (p .kind < 6) × (partsFit p ≡ true)
 unfolding partsChecks
 parts-passed p e =
-    let t = passed (ltb 5 (p .kind)) _ _ tt e in
-    let v = passed (not (partsFit p)) _ _ tt (t .1) in
-    (omega (arith, ltb-false 5 (p .kind) (t .0)), not-false _ (v .0))
+    let a = first-passed (partsList p) _ tt e .0 in
+    (omega (arith, ltb-false 5 (p .kind) (a .0)), not-false _ (a .1 .0))
+
+-- the list of writing is that of each group, one after the other
+pub write-groups : (p : Parts) (body out : List ℕ) (at : ℕ) → let n = length body in
+    writeOf p body out at
+    ≡ after (partsChecks p)
+    (after (measureChecks p n) (after (bodyChecks (p .kind) body) (after (roomChecks (length out) at (sizeFor p n)) (accepted (writtenDone p body out at)))))
+unfolding writeOf partsChecks measureChecks bodyChecks roomChecks
+write-groups p body out at =
+    let n = length body in
+    let context = bodyList (p .kind) body in
+    sym
+    (after-first (partsList p) tt _
+    ∙ ap (firstGiven (partsList p))
+    (after-first (measureList p n) tt _
+    ∙ ap (firstGiven (measureList p n))
+    (after-first context tt _ ∙ ap (firstGiven context) (after-first (roomList (length out) at (sizeFor p n)) tt _))))
 
 -- each group of checks found nothing
 pub nothing-refused : (p : Parts) (body : List ℕ) (room at size : ℕ) → partsChecks p ≡ accepted tt → measureChecks p (length body) ≡ accepted tt
     → bodyChecks (p .kind) body ≡ accepted tt → size ≡ sizeFor p (length body) → roomChecks room at size ≡ accepted tt → writeChecks p body room at ≡ accepted tt
-unfolding writeChecks
-nothing-refused p body room at size parts measure context e fits = rw (parts, measure, context, ← e, fits)
+unfolding writeChecks partsChecks measureChecks bodyChecks roomChecks
+nothing-refused p body room at size parts measure context e fits =
+    first-fine (partsList p) tt tt _ parts
+    ∙ first-fine (measureList p (length body)) tt tt _ measure
+    ∙ first-fine (bodyList (p .kind) body) tt tt _ context
+    ∙ rw (← e) fits
 
 -- a packet that may be written
 pub record Writable (p : Parts) (body : List ℕ) (room at : ℕ) : Type 0 where
   pub kind : p .kind < 6
   pub fit : partsFit p ≡ true
-  pub indicator : both (eqb (p .kind) 4) (eqb (length body) 0) ≡ false
+  pub whole : requiredOf (headerWord p 0) ≤ sizeFor p (length body)
   pub small : sizeFor p (length body) < 65536
   pub time : timeOver (p .tsf) (p .fraction) ≡ false
   pub context : bodyChecks (p .kind) body ≡ accepted tt
   pub inside : at + sizeFor p (length body) ≤ room
 
 pub writable : (p : Parts) (body : List ℕ) (room at : ℕ) → writeChecks p body room at ≡ accepted tt → Writable p body room at
-unfolding writeChecks measureChecks roomChecks
+unfolding writeChecks bodyChecks
 writable p body room at e =
     let n = length body in
-    let a = after-passed (partsChecks p) _ tt e in
-    let m = after-passed (measureChecks p n) _ tt (a .2) in
-    let c = after-passed (bodyChecks (p .kind) body) _ tt (m .2) in
-    let k = parts-passed p (a .1) in
-    let s = passed (both (eqb (p .kind) 4) (eqb n 0)) _ _ tt (m .1) in
-    let z = passed (ltb 65535 (sizeFor p n)) _ _ tt (s .1) in
-    let t = passed (timeOver (p .tsf) (p .fraction)) _ _ tt (z .1) in
-    let r = passed (ltb room (at + sizeFor p n)) _ _ tt (c .2) in
+    let a = first-passed (writeList p body room at) _ tt e .0 in
+    let m = a .1 .1 in
+    let c = m .1 .1 .1 in
     record {
-      kind = k .0;
-      fit = k .1;
-      indicator = s .0;
-      small = omega (arith, ltb-false 65535 (sizeFor p n) (z .0));
-      time = t .0;
-      context = c .1;
-      inside = ltb-false room (at + sizeFor p n) (r .0);
+      kind = omega (arith, ltb-false 5 (p .kind) (a .0));
+      fit = not-false _ (a .1 .0);
+      whole = ltb-false _ _ (m .0);
+      small = omega (arith, ltb-false 65535 (sizeFor p n) (m .1 .0));
+      time = m .1 .1 .0;
+      context = none-given (bodyList (p .kind) body) _ (c .0, (c .1 .0, (c .1 .1 .0, tt)));
+      inside = ltb-false room (at + sizeFor p n) (c .1 .1 .1 .0);
     }

@@ -3,18 +3,19 @@
 use mathlib.Core.Path.{_≡_, refl, sym, ap, _∙_}
 use mathlib.Core.Bool.{Bool, true, false, not}
 use mathlib.Core.List.{List, [], _∷_}
-use Prim.Native.Nat.{ℕ, _+_, _*_, _/_, _%_, _^_, _<_}
+use Prim.Native.Nat.{ℕ, zero, suc, _+_, _*_, _/_, _%_, _^_, _<_}
 use native.Mathlib.Omega.{arith}
+use borrow.Author.Tests.{ne-eqb, lt-ltb, le-ltb}
 use lib.Dec.{eqb, ltb, lit<}
 use lib.ListN.{getD}
 use lib.Pow.{mod-pow-add, shr-shr}
-use Rattle.words.specs.Tests.{pick, when}
+use Rattle.words.specs.Tests.{pick, when, both}
 use Rattle.words.specs.Word.{has, join, split}
 use Rattle.words.proofs.Cases.{true-is-false}
 use Rattle.words.proofs.WordLaws.{fieldsFrom, split-join, split-from}
 use Rattle.packet.specs.declared.Parts.{Parts}
 use Rattle.packet.specs.Header.{typeOf, classed, trailed, tsmOf, reservedOf, tsiOf, tsfOf, countOf, sizeOf}
-use Rattle.packet.specs.Parts.{streamed, hasSeconds, hasFraction, classAt, secondsAt, fractionAt, bodyAt}
+use Rattle.packet.specs.Parts.{streamed, hasSeconds, hasFraction, classAt, secondsAt, fractionAt, bodyAt, requiredOf}
 use Rattle.writing.specs.Write.{bit, headerWidths, headerWord, sizeFor, flagsFit}
 use Rattle.writing.proofs.FitLaws.{Fits}
 
@@ -127,3 +128,19 @@ module _ (p : Parts) (size : ℕ) (kind : p .kind < 6) (fits : Fits p) (small : 
   pub size-for-is : (n : ℕ) → sizeFor p n ≡ bodyAt (headerWord p size) + n + when (trailed (headerWord p size)) 1
   unfolding sizeFor
   size-for-is n = rw (body-same, trailed-is p size kind fits small, trailed-is p 0 kind fits (lit< tt))
+
+  pub required-is : requiredOf (headerWord p size) ≡ requiredOf (headerWord p 0)
+  unfolding requiredOf
+  required-is =
+      rw (body-same, type-is p size kind fits small, trailed-is p size kind fits small)
+      (rw (type-is p 0 kind fits (lit< tt), trailed-is p 0 kind fits (lit< tt)))
+
+-- "size below the required parts": a type 4 body without its indicator word, and nothing else
+short-when : (t : Bool) (a n b : ℕ) → ltb (a + n + b) (a + b + when t 1) ≡ both t (eqb n 0)
+short-when true a zero b = lt-ltb (a + 0 + b) (a + b + 1) (omega arith)
+short-when true a (suc n) b = le-ltb (a + suc n + b) (a + b + 1) (omega arith) ∙ sym (ne-eqb (suc n) 0 (λ e. omega arith))
+short-when false a n b = le-ltb (a + n + b) (a + b + 0) (omega arith)
+
+pub short-is : (p : Parts) (n : ℕ) → typeOf (headerWord p 0) ≡ p .kind → ltb (sizeFor p n) (requiredOf (headerWord p 0)) ≡ both (eqb (p .kind) 4) (eqb n 0)
+unfolding sizeFor requiredOf
+short-is p n e = rw e (short-when (eqb (p .kind) 4) _ n _)

@@ -6,5 +6,3 @@ pub mod FitLaws
 pub mod LayLaws
 -- a header that was made of parts, read again
 pub mod HeaderLaws
--- two answers that meet the promise are equal
-pub mod Uniqueness

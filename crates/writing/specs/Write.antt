@@ -4,18 +4,17 @@ use Prim.Native.Nat.{ℕ, _+_, _/_, _%_, _^_}
 use mathlib.Core.Path.{_≡_}
 use mathlib.Core.Bool.{Bool, true, false, not}
 use mathlib.Core.List.{List, [], _∷_, _++_}
-use lib.Dec.{eqb, ltb}
+use lib.Dec.{ltb}
 use lib.ListN.{length, take, drop, getD}
 use Rattle.words.specs.Numbers.{TYPE, VALUE, SHORT, SIZE, TIME, ROOM}
 use Rattle.words.specs.Tests.{pick, when, both}
 use Rattle.words.specs.Word.{join}
-use Rattle.words.specs.Outcome.{Outcome, refused, accepted, after, Done}
+use Rattle.words.specs.Outcome.{Outcome, accepted, Done}
+use Rattle.words.specs.Refusals.{Refusals, firstGiven}
 use Rattle.packet.specs.Header.{classed, trailed}
-use Rattle.packet.specs.Parts.{streamed, hasSeconds, hasFraction, bodyAt}
-use Rattle.packet.specs.Read.{timeOver, bodyChecks}
+use Rattle.packet.specs.Parts.{streamed, hasSeconds, hasFraction, bodyAt, requiredOf}
+use Rattle.packet.specs.Read.{timeOver, bodyList}
 use Rattle.packet.specs.declared.Parts.{Parts}
-use Rattle.writing.specs.declared.Written.{Written}
-use Rattle.writing.specs.declared.Written.the-variants.{Accepted, Refused}
 
 -- ---- the words of a packet
 
@@ -110,45 +109,47 @@ partsFit p =
 
 -- ---- the refusals, in their order
 
--- TYPE and VALUE
-unfoldable pub partsChecks : Parts → Outcome Unit
-partsChecks p =
-    pick (ltb 5 (p .kind)) (refused TYPE)
-    (pick (not (partsFit p)) (refused VALUE)
-    (accepted tt))
+-- "type above 5"; "a number to be written .. does not fit its bits or type"
+abbrev pub partsList : Parts → Refusals
+partsList p = (TYPE, ltb 5 (p .kind)) ∷ (VALUE, not (partsFit p)) ∷ []
 
--- SHORT, where a type 4 body has no indicator word; SIZE: "a packet to be written .. exceeds 65,535 words"; TIME
-unfoldable pub measureChecks : Parts → ℕ → Outcome Unit
-measureChecks p n =
-    pick (both (eqb (p .kind) 4) (eqb n 0)) (refused SHORT)
-    (pick (ltb 65535 (sizeFor p n)) (refused SIZE)
-    (pick (timeOver (p .tsf) (p .fraction)) (refused TIME)
-    (accepted tt)))
+-- of a body of n words: "size below the required parts"; "a packet to be written .. exceeds 65,535 words"; "TSF is 2 and the fraction is 10^12 or more"
+abbrev pub measureList : Parts → ℕ → Refusals
+measureList p n =
+    (SHORT, ltb (sizeFor p n) (requiredOf (headerWord p 0))) ∷ (SIZE, ltb 65535 (sizeFor p n)) ∷ (TIME, timeOver (p .tsf) (p .fraction)) ∷ []
 
--- ROOM: "A start past the end is ROOM"
-unfoldable pub roomChecks : ℕ → ℕ → ℕ → Outcome Unit
-roomChecks room at size = pick (ltb room (at + size)) (refused ROOM) (accepted tt)
+-- "A start past the end is ROOM"
+abbrev pub roomList : ℕ → ℕ → ℕ → Refusals
+roomList room at size = (ROOM, ltb room (at + size)) ∷ []
 
 -- all of them; INDICATOR, LAYOUT and FIELD are those of reading
+abbrev pub writeList : Parts → List ℕ → ℕ → ℕ → Refusals
+writeList p body room at =
+    let n = length body in
+    partsList p ++ measureList p n ++ bodyList (p .kind) body ++ roomList room at (sizeFor p n)
+
+-- what each step of writing finds
+unfoldable pub partsChecks : Parts → Outcome Unit
+partsChecks p = firstGiven (partsList p) (accepted tt)
+
+unfoldable pub measureChecks : Parts → ℕ → Outcome Unit
+measureChecks p n = firstGiven (measureList p n) (accepted tt)
+
+unfoldable pub roomChecks : ℕ → ℕ → ℕ → Outcome Unit
+roomChecks room at size = firstGiven (roomList room at size) (accepted tt)
+
 unfoldable pub writeChecks : Parts → List ℕ → ℕ → ℕ → Outcome Unit
-writeChecks p body room at =
-    after (partsChecks p)
-    (after (measureChecks p (length body))
-    (after (bodyChecks (p .kind) body)
-    (roomChecks room at (sizeFor p (length body)))))
+writeChecks p body room at = firstGiven (writeList p body room at) (accepted tt)
 
 -- ---- what writing answers and leaves: the number of words written, and the buffer with the packet at its place
 
-unfoldable pub writeOf : Parts → List ℕ → List ℕ → ℕ → Outcome (Done ℕ (List ℕ))
-writeOf p body out at =
+abbrev pub writtenDone : Parts → List ℕ → List ℕ → ℕ → Done ℕ (List ℕ)
+writtenDone p body out at =
     let size = sizeFor p (length body) in
-    after (writeChecks p body (length out) at)
-    (accepted (record { says = size; leaves = take at out ++ packetWords p body ++ drop (at + size) out }))
+    record { says = size; leaves = take at out ++ packetWords p body ++ drop (at + size) out }
 
--- the number and values of an answer
-abbrev pub writtenPaper : Written → Outcome ℕ
-writtenPaper (Refused n) = refused n
-writtenPaper (Accepted n) = accepted n
+unfoldable pub writeOf : Parts → List ℕ → List ℕ → ℕ → Outcome (Done ℕ (List ℕ))
+writeOf p body out at = firstGiven (writeList p body (length out) at) (accepted (writtenDone p body out at))
 
 -- ---- what the calls inside are given: fifteen words, those from the eighth on the parts that are written as they are
 pub record Given (q : List ℕ) (p : Parts) : Type 0 where

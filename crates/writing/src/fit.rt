@@ -2,7 +2,8 @@
 ghost use mathlib.Core.Path.{_≡_};
 ghost use Prim.Native.Nat.{_+_, _≤_};
 ghost use Rattle.words.specs.Outcome.{checked};
-ghost use Rattle.writing.specs.Write.{sizeFor, codesFit, flagsFit, classFits, partsChecks, measureChecks, roomChecks};
+ghost use Rattle.packet.specs.Header.{typeOf};
+ghost use Rattle.writing.specs.Write.{headerWord, sizeFor, codesFit, flagsFit, classFits, partsChecks, measureChecks, roomChecks};
 
 // Whether TSI, TSF and the count fit their bits.
 fn codes_fit(tsi: u32, tsf: u32, count: u32) -> bool
@@ -50,7 +51,7 @@ pub fn check_parts(p: packet::Parts) -> words::Check
 
 // SHORT, SIZE and TIME, of a packet of a size with a body of n words. No packet is refused for both of the first two.
 pub fn check_measure(p: packet::Parts, n: usize, size: usize) -> words::Check
-    requires { ⌜ (size ≡ sizeFor p n) × (size ≤ n + 8) ⌝ }
+    requires { ⌜ (size ≡ sizeFor p n) × (size ≤ n + 8) × (typeOf (headerWord p 0) ≡ p .kind) ⌝ }
     ensures { λ r. ⌜ checked r ≡ measureChecks p n ⌝ }
 {
     if 65535 < size {

@@ -3,19 +3,13 @@ mod fit;
 pub mod inner;
 mod laying;
 
-ghost use Rattle.words.specs.Outcome.{Meets};
-ghost use Rattle.writing.specs.Write.{writeOf, writtenPaper};
-
-// What writing answers: the number of words written, or the number of the refusal.
-pub enum Written {
-    Accepted(usize),
-    Refused(u32),
-}
+ghost use Rattle.words.specs.Outcome.{measured, Meets};
+ghost use Rattle.writing.specs.Write.{writeOf};
 
 // Writes a packet, its body given as words, into the part of a buffer that starts at a word of the caller's choice, and answers how many words
 // it has; or answers the first of TYPE, VALUE, SHORT, SIZE, TIME, INDICATOR, LAYOUT, FIELD and ROOM that applies, and leaves the buffer as it was.
-pub fn write(parts: packet::Parts, body: &[u32], out: &mut [u32], at: usize) -> Written
-    ensures { λ r. ⌜ Meets writtenPaper (writeOf parts (now (body .entry)) (now (out .entry)) at) (now (out .entry)) r (now (out .exit)) ⌝ }
+pub fn write(parts: packet::Parts, body: &[u32], out: &mut [u32], at: usize) -> words::Length
+    ensures { λ r. ⌜ Meets measured (writeOf parts (now (body .entry)) (now (out .entry)) at) (now (out .entry)) r (now (out .exit)) ⌝ }
 {
     let fraction = parts.fraction;
     let q = [

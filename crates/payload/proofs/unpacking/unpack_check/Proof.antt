@@ -3,9 +3,11 @@
 use Rattle.payload_format.proofs.FormatLaws.{legal, count-few, words-for}
 use mathlib.Core.Bool.{not}
 use mathlib.Core.Path.{_≡_, sym, _∙_}
+use mathlib.Core.List.{[], _∷_}
 use lib.Dec.{eqb, ltb}
-use Rattle.words.specs.Tests.{pick}
-use Rattle.words.specs.Outcome.{refused, accepted}
+use Rattle.words.specs.Tests.{either}
+use Rattle.words.specs.Outcome.{accepted}
+use Rattle.words.specs.Refusals.{firstGiven}
 use Rattle.words.specs.Numbers.{COUNT, ROOM}
 use Rattle.words.proofs.Cases.{cases}
 use Rattle.payload.specs.Unpack.{unpackCheck}
@@ -40,8 +42,9 @@ counted-here : (c : tie.After-words-of) →
     let a = start .args in
     let n = a .n in
     unpackCheck (a .first) (a .second) n (a .words) (a .items) (a .events) (a .channels)
-    ≡ pick (not (eqb (a .words) (c .words-of .result))) (refused COUNT)
-    (pick (ltb (a .items) n) (refused ROOM) (pick (ltb (a .events) n) (refused ROOM) (pick (ltb (a .channels) n) (refused ROOM) (accepted tt))))
+    ≡ firstGiven
+    ((COUNT, not (eqb (a .words) (c .words-of .result))) ∷ (ROOM, either (ltb (a .items) n) (either (ltb (a .events) n) (ltb (a .channels) n))) ∷ [])
+    (accepted tt)
 counted-here c =
     let start : tie.Start = search in
     let at-format-bad : tie.After-format-bad = search in

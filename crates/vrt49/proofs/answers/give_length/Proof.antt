@@ -4,7 +4,7 @@ use mathlib.Core.List.{[], _∷_}
 use native.Mathlib.Omega.{arith}
 use Rattle.words.specs.declared.Length.{Length}
 use Rattle.words.specs.Outcome.{measured}
-use Rattle.vrt49.specs.Answers.{given, Small}
+use Rattle.vrt49.specs.Answers.{lengthStored, Small}
 use Rattle.vrt49.proofs.AnswerLaws.{stored-front}
 use borrow.Author.Needs.{needs}
 use Rattle.vrt49.proofs.answers.give_length.Statement.{statement}
@@ -25,14 +25,14 @@ slice-write-answer : tie.Need-slice-write-answer
 slice-write-answer c = search needs
 
 returns : tie.Need-returns
-unfolding given
+unfolding lengthStored
 returns c = rw (c .before .r .given .1) (record { number = refl; buffers = refl })
 
 same-length : tie.Need-same-length
 same-length c = search needs
 
 returns-2 : tie.Need-returns-2
-unfolding given
+unfolding lengthStored
 returns-2 c = rw (c .before .r2 .given .1) (record { number = refl; buffers = stored-front (_ ∷ []) _ (c .before .before .before .pre .0) })
 
 pub give-length-spec : {M : Type 1} → statement M

@@ -32,7 +32,8 @@ write-given-requires c κs =
     let checked-words : tie.After-check-words = search in
     let known : tie.After-shared-slice-known = search in
     let start : tie.Start = search in
-    parts-given (start .args .parts .now) _ (fifteen _ (sym (checked-words .check-words .ensures) ∙ ap checked (told .enum-told .given .1))) (omega (arith, known .shared-slice-known .given 13)) (made .parts-of .ensures)
+    parts-given (start .args .parts .now) _ (fifteen _ (sym (checked-words .check-words .ensures) ∙ ap checked (told .enum-told .given .1)))
+    (omega (arith, known .shared-slice-known .given 13)) (made .parts-of .ensures)
 
 same-length : tie.Need-same-length
 same-length c = search needs
@@ -40,7 +41,8 @@ same-length c = search needs
 returns-2 : tie.Need-returns-2
 returns-2 c =
     let k = c .before .before .before .before in
-    words-written _ _ _ _ _ _ _ (sym (k .before .before .before .check-words .ensures) ∙ ap checked (k .before .enum-told .given .1)) (k .parts-of .ensures) (c .before .before .write-given .ensures)
+    words-written _ _ _ _ _ _ _ (sym (k .before .before .before .check-words .ensures) ∙ ap checked (k .before .enum-told .given .1))
+    (k .parts-of .ensures) (c .before .before .write-given .ensures)
 
 pub write-words-spec : {M : Type 1} → statement M
 write-words-spec =

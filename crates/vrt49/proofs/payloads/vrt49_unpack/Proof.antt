@@ -1,8 +1,7 @@
 -- `vrt49_unpack` meets its promise: the number of the answer, and the buffers that `unpack` leaves.
 use mathlib.Core.Path.{ap}
-use Rattle.words.specs.Outcome.{numberOf}
-use Rattle.payload.specs.declared.unpacking.Unpacked.{Unpacked}
-use Rattle.payload.specs.Answers.{unpackedPaper}
+use Rattle.words.specs.Outcome.{numberOf, measured}
+use Rattle.words.specs.declared.Length.{Length}
 use Rattle.vrt49.proofs.AnswerLaws.{gives-number}
 use borrow.Author.Needs.{needs}
 use Rattle.vrt49.proofs.payloads.vrt49_unpack.Statement.{statement}
@@ -11,12 +10,12 @@ use Rattle.vrt49.proofs.payloads.vrt49_unpack.Tie as tie
 returns : tie.Need-returns
 returns c =
     let at-unpack : tie.After-unpack = search in
-    gives-number unpackedPaper _ _ _ _ _ (at-unpack .unpack .ensures) (ap (λ (r : Unpacked). numberOf (unpackedPaper r)) (c .before .number .given .1))
+    gives-number measured _ _ _ _ _ (at-unpack .unpack .ensures) (ap (λ (r : Length). numberOf (measured r)) (c .before .number .given .1))
 
 returns-2 : tie.Need-returns-2
 returns-2 c =
     let at-unpack : tie.After-unpack = search in
-    gives-number unpackedPaper _ _ _ _ _ (at-unpack .unpack .ensures) (ap (λ (r : Unpacked). numberOf (unpackedPaper r)) (c .enum-told .given .1))
+    gives-number measured _ _ _ _ _ (at-unpack .unpack .ensures) (ap (λ (r : Length). numberOf (measured r)) (c .enum-told .given .1))
 
 pub vrt49-unpack-spec : {M : Type 1} → statement M
 vrt49-unpack-spec =

@@ -3,7 +3,7 @@ use mathlib.Core.Path.{ap}
 use Rattle.play.specs.Play.{paper}
 use Rattle.vrt49.specs.Tables.{playGives}
 use Rattle.vrt49.proofs.AnswerLaws.{beside-room, beside-refused, beside-values}
-use Rattle.vrt49.proofs.SmallLaws.{said, SmallHeard, heard-small}
+use Rattle.vrt49.proofs.SmallLaws.{heard-small}
 use borrow.Author.Needs.{needs}
 use Rattle.vrt49.proofs.tables.vrt49_play.Statement.{statement}
 use Rattle.vrt49.proofs.tables.vrt49_play.Tie as tie
@@ -15,7 +15,7 @@ returns c = beside-room _ _ _ _ _ (c .if1 .taken)
 store-heard-requires : tie.Need-store-heard-requires
 store-heard-requires c κs =
     let k : tie.After-play = search in
-    let s = said SmallHeard (k .play .ensures) (ap paper (c .before .before .h .given .1)) (heard-small _ _) in
+    let s = heard-small _ _ _ _ _ (k .play .ensures) (c .before .before .h .given .1) in
     (k .before .before .if1 .left, s .0, s .1)
 
 returns-2 : tie.Need-returns-2

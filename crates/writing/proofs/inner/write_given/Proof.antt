@@ -4,9 +4,9 @@ use native.Mathlib.Omega.{arith}
 use denote.Ref.{now}
 use lib.ListN.{length}
 use Rattle.words.specs.Outcome.{accepted, checked}
-use Rattle.writing.specs.Write.{sizeFor, partsChecks, writeChecks, writeOf}
-use Rattle.writing.proofs.FitLaws.{parts-passed, parts-fit, nothing-refused}
-use Rattle.writing.proofs.HeaderLaws.{trailed-is}
+use Rattle.writing.specs.Write.{sizeFor, partsChecks}
+use Rattle.writing.proofs.FitLaws.{parts-passed, parts-fit, write-groups, nothing-refused}
+use Rattle.writing.proofs.HeaderLaws.{type-is, trailed-is}
 use borrow.Author.Needs.{needs}
 use Rattle.writing.proofs.inner.write_given.Statement.{statement}
 use Rattle.writing.proofs.inner.write_given.Tie as tie
@@ -18,8 +18,7 @@ enum-known-found : tie.Need-enum-known-found
 enum-known-found c = search needs
 
 returns : tie.Need-returns
-unfolding writeOf writeChecks
-returns c = rw (← c .before .before .before .check-parts .ensures, c .before .found .given .1) (record { answer = refl; buffer = refl })
+returns c = rw (write-groups, ← c .before .before .before .check-parts .ensures, c .before .found .given .1) (record { answer = refl; buffer = refl })
 
 enum-told : tie.Need-enum-told
 enum-told c = search needs
@@ -43,16 +42,17 @@ unfolding sizeFor
 sized c = c .size-for .ensures .0 ∙ rw (c .before .header-word .ensures .0)
 
 check-measure-requires : tie.Need-check-measure-requires
-check-measure-requires c κs = (sized c, c .size-for .ensures .2)
+check-measure-requires c κs =
+    let k = parts-passed _ (passes (c .before .before)) in
+    (sized c, c .size-for .ensures .2, type-is _ 0 (k .0) (parts-fit _ (k .1)) (omega arith))
 
 enum-known-measure : tie.Need-enum-known-measure
 enum-known-measure c = search needs
 
 returns-2 : tie.Need-returns-2
-unfolding writeOf writeChecks
 returns-2 c =
     let m = c .before .before .before in
-    rw (passes (m .before .before .before), ← m .check-measure .ensures, c .before .measure .given .1) (record { answer = refl; buffer = refl })
+    rw (write-groups, passes (m .before .before .before), ← m .check-measure .ensures, c .before .measure .given .1) (record { answer = refl; buffer = refl })
 
 enum-told-2 : tie.Need-enum-told-2
 enum-told-2 c = search needs
@@ -64,11 +64,10 @@ enum-known-context : tie.Need-enum-known-context
 enum-known-context c = search needs
 
 returns-3 : tie.Need-returns-3
-unfolding writeOf writeChecks
 returns-3 c =
     let x = c .before .before .before in
     let m = x .before .before .before in
-    rw (passes (m .before .before .before), ← m .check-measure .ensures, x .before .enum-told2 .given .1, ← x .check-body .ensures, c .before .context .given .1)
+    rw (write-groups, passes (m .before .before .before), ← m .check-measure .ensures, x .before .enum-told2 .given .1, ← x .check-body .ensures, c .before .context .given .1)
     (record { answer = refl; buffer = refl })
 
 enum-told-3 : tie.Need-enum-told-3
@@ -81,12 +80,11 @@ enum-known-room : tie.Need-enum-known-room
 enum-known-room c = search needs
 
 returns-4 : tie.Need-returns-4
-unfolding writeOf writeChecks
 returns-4 c =
     let r = c .before .before .before in
     let x = r .before .before .before in
     let m = x .before .before .before in
-    rw (passes (m .before .before .before), ← m .check-measure .ensures, x .before .enum-told2 .given .1, ← x .check-body .ensures, r .before .enum-told3 .given .1, ← sized (m .before), ← r .check-room .ensures, c .before .room .given .1)
+    rw (write-groups, passes (m .before .before .before), ← m .check-measure .ensures, x .before .enum-told2 .given .1, ← x .check-body .ensures, r .before .enum-told3 .given .1, ← sized (m .before), ← r .check-room .ensures, c .before .room .given .1)
     (record { answer = refl; buffer = refl })
 
 enum-told-4 : tie.Need-enum-told-4
@@ -108,13 +106,12 @@ same-length : tie.Need-same-length
 same-length c = search needs
 
 returns-5 : tie.Need-returns-5
-unfolding writeOf writeChecks
 returns-5 c =
     let l = c .before .before in
     let r = l .before .before .before .before in
     let x = r .before .before .before in
     let m = x .before .before .before in
-    rw (passes (m .before .before .before), ← m .check-measure .ensures, x .before .enum-told2 .given .1, ← x .check-body .ensures, r .before .enum-told3 .given .1, ← sized (m .before), ← r .check-room .ensures, l .before .before .enum-told4 .given .1)
+    rw (write-groups, passes (m .before .before .before), ← m .check-measure .ensures, x .before .enum-told2 .given .1, ← x .check-body .ensures, r .before .enum-told3 .given .1, ← sized (m .before), ← r .check-room .ensures, l .before .before .enum-told4 .given .1)
     (record { answer = refl; buffer = l .lay .ensures })
 
 pub write-given-spec : {M : Type 1} → statement M
