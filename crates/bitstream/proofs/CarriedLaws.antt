@@ -62,6 +62,10 @@ pub enough : (c f n : ℕ) → 0 < c → f * n ≤ needed c f n * c
 unfolding needed
 enough c f n h = omega (arith, div-add-mod' (f * n + (c - 1)) c, mod-lt (f * n + (c - 1)) h)
 
+pub none-over : (c f n : ℕ) → 0 < c → needed c f n * c < f * n + c
+unfolding needed
+none-over c f n h = omega (arith, div-add-mod' (f * n + (c - 1)) c)
+
 pub needed-even : (c f n a : ℕ) → 0 < c → c * a + 0 ≡ f * n → needed c f n ≡ a
 unfolding needed
 needed-even c f n a pc e =
@@ -90,17 +94,20 @@ field-back c f m n g ws pc l e k h b =
     ∙ whole f g k b
 
 -- the stream of the fields g is that of the words, up to the end of field n - 1
-spans-back : (c f n : ℕ) (g : ℕ → ℕ) (ws : List ℕ) → 0 < f → ((k : ℕ) → k < n → g k ≡ fieldOf c f ws k) → (p m : ℕ) → p + m ≤ n * f → span f g p m ≡ span c (carried c ws) p m
+spans-back : (c f n : ℕ) (g : ℕ → ℕ) (ws : List ℕ) → 0 < f → ((k : ℕ) → k < n → g k ≡ fieldOf c f ws k)
+    → (p m : ℕ) → p + m ≤ n * f → span f g p m ≡ span c (carried c ws) p m
 unfolding fieldOf
 spans-back c f n g ws pf e p m l = same f n g (λ k. span c (carried c ws) (f * k) f) pf e p m l ∙ regroup c f (carried c ws) pf p m
 
 -- word j comes back where the bits past the last field are 0, and those that carry nothing
-pub word-back : (c f n : ℕ) (g : ℕ → ℕ) (ws : List ℕ) (j : ℕ) → 0 < f → 0 < c → c ≤ 32 → ((k : ℕ) → k < n → g k ≡ fieldOf c f ws k) → ((k : ℕ) → n ≤ k → g k ≡ 0)
+pub word-back : (c f n : ℕ) (g : ℕ → ℕ) (ws : List ℕ) (j : ℕ) → 0 < f → 0 < c → c ≤ 32
+    → ((k : ℕ) → k < n → g k ≡ fieldOf c f ws k) → ((k : ℕ) → n ≤ k → g k ≡ 0)
     → ((i : ℕ) → f * n ≤ i → bit c (carried c ws) i ≡ 0) → getD ws j 0 < 2 ^ 32 → getD ws j 0 % 2 ^ (32 - c) ≡ 0 → wordOf c f g j ≡ getD ws j 0
 unfolding wordOf
 word-back c f n g ws j pf pc mc e z pad b u =
     let G : ℕ → ℕ = carried c ws in
-    let past : (p m : ℕ) → n * f ≤ p → span f g p m ≡ span c G p m = λ p m l. blank f n g pf z p m l ∙ sym (zero-bits c G (f * n) pad p m (omega (arith, mul-comm f n))) in
+    let past : (p m : ℕ) → n * f ≤ p → span f g p m ≡ span c G p m =
+    λ p m l. blank f n g pf z p m l ∙ sym (zero-bits c G (f * n) pad p m (omega (arith, mul-comm f n))) in
     let all : span f g (c * j) c ≡ span c G (c * j) c =
     ⊎-elim
     (λ (l : c * j + c ≤ n * f). spans-back c f n g ws pf e (c * j) c l)

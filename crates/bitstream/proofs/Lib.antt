@@ -6,7 +6,7 @@ pub mod SpanLaws
 pub mod AccumulatorLaws
 -- words of which some bits carry packing fields
 pub mod CarriedLaws
--- a list whose first places are filled
+-- a list of which some places are filled
 pub mod FilledLaws
 -- bits taken from words, and put into words, by an accumulator
 pub mod ReadLaws

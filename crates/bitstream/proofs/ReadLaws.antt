@@ -1,19 +1,21 @@
 -- Bits taken from words. The idea: `Ahead` says which bits of the words' stream an accumulator holds. A word's bits put behind them keep it
--- (`refilled`), and bits taken from the left move it on (`took`); a field of more than 32 bits is taken in two parts (`took-twice`).
+-- (`refilled`), and bits taken from the left move it on (`took`); a field of more than 32 bits is taken in two parts (`took-wide`).
 use mathlib.Core.Path.{_≡_, refl, sym, ap, ap₂, _∙_}
 use mathlib.Core.List.{List}
 use Prim.Native.Nat.{ℕ, _+_, _-_, _*_, _/_, _%_, _^_, _≤_, _<_}
 use native.Mathlib.Nat.{mul-comm, mul-add}
 use native.Mathlib.Omega.{arith}
+use lib.ListN.{length}
 use lib.Arith.{digits-lt}
-use lib.Pow.{pow-add, shr-shr, field}
+use lib.Pow.{pow-add, pow-mono, shr-shr, field}
 use Rattle.bitstream.specs.Stream.{span}
 use Rattle.bitstream.specs.Carried.{carried}
 use Rattle.bitstream.proofs.SpanLaws.{split, whole, none}
-use Rattle.bitstream.proofs.AccumulatorLaws.{appended, taken, left}
+use Rattle.bitstream.proofs.AccumulatorLaws.{append-below, appended, taken, left}
+use Rattle.bitstream.proofs.CarriedLaws.{room-at}
 use Rattle.bitstream.specs.declared.inner.accumulator.Held.{Held}
 use Rattle.bitstream.specs.declared.inner.accumulator.Taken.{Taken}
-use Rattle.bitstream.specs.Accumulator.{Ahead, AheadBy, Takeable, Refilled, Took, TookItem, heldOf}
+use Rattle.bitstream.specs.Accumulator.{Ahead, AheadBy, Takeable, Refilled, Took, TookItem, FieldTakeable, heldOf}
 
 -- nothing is held yet
 pub ahead-none : (c : ℕ) (ws : List ℕ) (p : ℕ) → p ≡ 0 → Ahead c ws (record { acc = 0; have = 0; at = 0 }) p
@@ -29,6 +31,13 @@ ahead-by : {c : ℕ} {ws : List ℕ} {s : Held} {p : ℕ} → Ahead c ws s p →
 ahead-by {s = s} a =
     let z : s .have - 0 ≡ s .have = omega arith in
     record { over = omega arith; place = omega (arith, a .place); held = rw z (a .held) }
+
+-- ---- w bits are counted
+pub next-there : (c w : ℕ) (s : Held) (ws : List ℕ) → Takeable c w s ws → s .have < w → s .at < length ws
+next-there c w s ws t l = t .there l
+
+pub refill-below : (c w : ℕ) (s : Held) (ws : List ℕ) (d : ℕ) → Takeable c w s ws → d < 2 ^ c → (s .acc * 2 ^ c) % 2 ^ 64 + d < 2 ^ 64
+refill-below c w s ws d t b = append-below (s .acc) d c 64 (omega arith) b
 
 pub refilled-same : (c w : ℕ) (s : Held) (ws : List ℕ) → Takeable c w s ws → w ≤ s .have → Refilled c w s ws s
 refilled-same c w s ws t l = record { enough = l; most = t .few; place = refl; keeps = λ u p h a. a }
@@ -52,6 +61,7 @@ refilled c w s ws d t l e b = record {
       };
 }
 
+-- ---- bits are taken
 pub took : (c w : ℕ) (s h : Held) (ws : List ℕ) (v : ℕ) → s .have < c → Refilled c w s ws h → v ≡ h .acc / 2 ^ (h .have - w) % 2 ^ w → v < 2 ^ w
     → Took c w s ws (record { value = v; acc = h .acc; have = h .have - w; at = h .at })
 took c w s h ws v l r e b = record {
@@ -96,7 +106,8 @@ took-item c f u s h ws v l r e = record {
       );
 }
 
-pub took-twice : (c f a b : ℕ) (s : Held) (ws : List ℕ) (x y : Taken) → f ≡ a + b → Took c a s ws x → Took c b (heldOf x) ws y
+-- ---- a field of more than 32 bits, in two parts
+took-twice : (c f a b : ℕ) (s : Held) (ws : List ℕ) (x y : Taken) → f ≡ a + b → Took c a s ws x → Took c b (heldOf x) ws y
     → Took c f s ws (record { value = x .value * 2 ^ b + y .value; acc = y .acc; have = y .have; at = y .at })
 took-twice c f a b s ws x y e t u = record {
   below = rw (e, pow-add 2 a b) (digits-lt (t .below) (u .below));
@@ -111,3 +122,46 @@ took-twice c f a b s ws x y e t u = record {
         rw q at (j .1),
       );
 }
+
+module _ (c f : ℕ) (s : Held) (ws : List ℕ) (t : FieldTakeable c f s ws) where
+  pub narrow-takeable : f ≤ 32 → Takeable c f s ws
+  narrow-takeable l = record {
+    some = t .some;
+    most = t .most;
+    size = t .size;
+    part = omega (arith, t .narrow l);
+    few = omega (arith, t .few);
+    there = λ q. room-at c (s .at) (s .have) f (length ws) (t .some) q (t .there);
+  }
+
+  module _ (l : 32 < f) where
+    pub front-takeable : Takeable c (f - 32) s ws
+    front-takeable =
+        let e = t .wide l in
+        record {
+          some = t .some;
+          most = t .most;
+          size = omega (arith, t .size);
+          part = omega (arith, t .size);
+          few = omega (arith, t .few);
+          there = λ q. room-at c (s .at) (s .have) (f - 32) (length ws) (t .some) q (omega (arith, t .there));
+        }
+
+    pub back-takeable : (x : Taken) → Took c (f - 32) s ws x → Takeable c 32 (heldOf x) ws
+    back-takeable x u =
+        let e = t .wide l in
+        record {
+          some = t .some;
+          most = t .most;
+          size = omega arith;
+          part = omega arith;
+          few = omega (arith, u .few);
+          there = λ q. room-at c (x .at) (x .have) 32 (length ws) (t .some) q (omega (arith, t .there, u .place));
+        }
+
+    pub front-small : (x : Taken) → Took c (f - 32) s ws x → x .value < 2 ^ 32
+    front-small x u = omega (arith, u .below, pow-mono {i = f - 32} {j = 32} (omega (arith, t .size)))
+
+    pub took-wide : (x y : Taken) → Took c (f - 32) s ws x → Took c 32 (heldOf x) ws y
+        → Took c f s ws (record { value = x .value * 2 ^ 32 + y .value; acc = y .acc; have = y .have; at = y .at })
+    took-wide x y = took-twice c f (f - 32) 32 s ws x y (omega arith)

@@ -2,7 +2,8 @@
 -- quotient and its right part a remainder by 2 ^ k (`first`, `last`). Callers cite these laws and never unfold `span`.
 use mathlib.Core.Path.{_≡_, refl, sym, ap, ap₂, _∙_}
 use Prim.Native.Nat.{ℕ, zero, suc, _+_, _-_, _*_, _/_, _%_, _^_, _≤_, _<_}
-use native.Mathlib.Nat.{le-div-iff-mul-le, zero-div, add-zero, add-suc, add-assoc, mul-assoc, add-mul, mul-one, mod-one, mod-lt, mod-eq-of-lt, pow-suc, mul-comm, div-add-mod', div-lt-iff-lt-mul, div-one, zero-lt-suc}
+use native.Mathlib.Nat.{le-div-iff-mul-le, zero-div, add-zero, add-suc, add-assoc, mul-assoc, add-mul, mul-one, mod-one, mod-lt}
+use native.Mathlib.Nat.{mod-eq-of-lt, pow-suc, mul-comm, div-add-mod', div-lt-iff-lt-mul, div-one, zero-lt-suc}
 use native.Mathlib.Omega.{arith}
 use native.Mathlib.Numerals.{add-one}
 use lib.Arith.{digits-lt, digits-div, digits-mod}
@@ -17,7 +18,7 @@ halves w h =
     ap (λ (x : ℕ). 2 ^ x) e ∙ p ∙ omega arith
 
 -- ---- cut and joined
-pub bit-below : (b : ℕ) (g : ℕ → ℕ) (i : ℕ) → bit b g i < 2
+bit-below : (b : ℕ) (g : ℕ → ℕ) (i : ℕ) → bit b g i < 2
 unfolding bit
 bit-below b g i = mod-lt (g (i / b) / 2 ^ (b - (i % b + 1))) (zero-lt-suc 1)
 
@@ -121,7 +122,7 @@ zero-bits b g q z p zero l = refl
 zero-bits b g q z p (suc n) l = ap₂ (λ (x y : ℕ). x * 2 + y) (zero-bits b g q z p n l) (z (p + n) (omega arith))
 
 -- ---- the same stream in digits of another width
-pub regroup-bit : (b c : ℕ) (g : ℕ → ℕ) (i : ℕ) → 0 < c → bit c (λ j. span b g (c * j) c) i ≡ bit b g i
+regroup-bit : (b c : ℕ) (g : ℕ → ℕ) (i : ℕ) → 0 < c → bit c (λ j. span b g (c * j) c) i ≡ bit b g i
 unfolding bit
 regroup-bit b c g i pc =
     let l : i % c < c = mod-lt i pc in

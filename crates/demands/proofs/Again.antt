@@ -22,11 +22,11 @@ use Rattle.words.proofs.WordLaws.{fieldsFrom, join-split, split-from}
 use Rattle.packet.specs.declared.Parts.{Parts}
 use Rattle.packet.specs.declared.Packet.{Packet}
 use Rattle.packet.specs.Header.{typeOf, classed, trailed, tsmOf, reservedOf, tsiOf, tsfOf, countOf, sizeOf}
-use Rattle.packet.specs.Parts.{streamed, hasSeconds, hasFraction, classAt, secondsAt, fractionAt, bodyAt, requiredOf, bodyLength, wordIf, classHigh,
-classLow, fractionOf, partsOf, bodyOf, packetOf}
+use Rattle.packet.specs.Parts.{streamed, hasSeconds, hasFraction, classAt, secondsAt, fractionAt, bodyAt, requiredOf, bodyLength, wordIf, classHigh}
+use Rattle.packet.specs.Parts.{classLow, fractionOf, partsOf, bodyOf, packetOf}
 use Rattle.packet.specs.Read.{headerList, prologueList, headerChecks, timeOver, prologueChecks, bodyChecks, readOf}
-use Rattle.writing.specs.Write.{bit, headerWidths, headerWord, sizeFor, given, classWord, headWords, classWords, timeWords, prologueWords,
-trailerWords, packetWords, codesFit, flagsFit, classFits, partsFit, writeList, partsChecks, measureChecks, roomChecks, writeChecks, writeOf}
+use Rattle.writing.specs.Write.{bit, headerWidths, headerWord, sizeFor, given, classWord, headWords, classWords, timeWords, prologueWords}
+use Rattle.writing.specs.Write.{trailerWords, packetWords, codesFit, flagsFit, classFits, partsFit, writeList, partsChecks, measureChecks, roomChecks, writeChecks, writeOf}
 use Rattle.packet.proofs.RoomLaws.{Room, room}
 use Rattle.packet.proofs.ReadLaws.{Passed, sized, read-accepts}
 use Rattle.writing.proofs.FitLaws.{parts-fit, nothing-refused}
@@ -55,7 +55,7 @@ pub header-again : (w : ℕ) (ws : List ℕ) → w < 2 ^ 32 → reservedOf w ≡
 unfolding headerWord partsOf reservedOf trailed tsmOf total
 header-again w ws h e =
     let f = flags-again (ltb (typeOf w) 4) (w / 2 ^ 26 % 2) (w / 2 ^ 25 % 2) (w / 2 ^ 24 % 2) (mod-lt _ (lit< tt)) (mod-lt _ (lit< tt))
-        (rw (two-bits w 24, two-bits w 25) at e) in
+    (rw (two-bits w 24, two-bits w 25) at e) in
     let c : bit (classed w) ≡ w / 2 ^ 27 % 2 = bit-again (w / 2 ^ 27 % 2) (mod-lt _ (lit< tt)) in
     let size : sizeOf w ≡ w / 2 ^ 0 % 2 ^ 16 = rw (div-one w) in
     let same : sizeOf w ∷ countOf w ∷ tsfOf w ∷ tsiOf w ∷ bit (tsmOf w) ∷ 0 ∷ bit (trailed w) ∷ bit (classed w) ∷ typeOf w ∷ [] ≡ fieldsFrom 0 headerWidths w =
@@ -112,16 +112,22 @@ flags-read false t m = refl
 
 class-read : (t : Bool) (high low : ℕ) → classFits t (bits 23 0 high) (bits 31 16 low) (bits 15 0 low) ≡ true
 unfolding classFits
-class-read true high low = rw
-    (lt-ltb (bits 23 0 high) (2 ^ 24) (mod-lt _ (lit< tt)), lt-ltb (bits 31 16 low) (2 ^ 16) (mod-lt _ (lit< tt)),
-    lt-ltb (bits 15 0 low) (2 ^ 16) (mod-lt _ (lit< tt)))
+class-read true high low = rw (
+  lt-ltb (bits 23 0 high) (2 ^ 24) (mod-lt _ (lit< tt)),
+  lt-ltb (bits 31 16 low) (2 ^ 16) (mod-lt _ (lit< tt)),
+  lt-ltb (bits 15 0 low) (2 ^ 16) (mod-lt _ (lit< tt)),
+)
 class-read false high low = refl
 
 pub parts-read : (w : ℕ) (ws : List ℕ) → partsFit (partsOf w ws) ≡ true
 unfolding partsFit partsOf codesFit flagsFit trailed tsmOf
 parts-read w ws =
-    rw (lt-ltb (tsiOf w) 4 (mod-lt _ (lit< tt)), lt-ltb (tsfOf w) 4 (mod-lt _ (lit< tt)), lt-ltb (countOf w) 16 (mod-lt _ (lit< tt)),
-    flags-read (ltb (typeOf w) 4) (has w 26) (has w 24))
+    rw (
+      lt-ltb (tsiOf w) 4 (mod-lt _ (lit< tt)),
+      lt-ltb (tsfOf w) 4 (mod-lt _ (lit< tt)),
+      lt-ltb (countOf w) 16 (mod-lt _ (lit< tt)),
+      flags-read (ltb (typeOf w) 4) (has w 26) (has w 24),
+    )
     (class-read (classed w) (classHigh w ws) (classLow w ws))
 
 -- ---- the words of an accepted packet, written again
@@ -157,7 +163,7 @@ module _ (ws : List ℕ) (small : (i : ℕ) → getD ws i 0 < 2 ^ 32) (p : Packe
   unfolding classWords partsOf secondsAt classHigh classLow
   class-words-again =
       let c = class-again (classHigh w ws) (classLow w ws) (word-small (classed w) (classAt w) ws small)
-          (word-small (classed w) (classAt w + 1) ws small) class-clear in
+      (word-small (classed w) (classAt w + 1) ws small) class-clear in
       rw (c .0, c .1) (two-more ws (classAt w) (classed w) (lies .class))
 
   time-words-again : take (secondsAt w) ws ++ timeWords w P ≡ take (bodyAt w) ws

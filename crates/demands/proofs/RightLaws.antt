@@ -24,8 +24,8 @@ use Rattle.table.proofs.StartLaws.{fresh-record, start-well-made}
 use Rattle.play.specs.declared.Heard.{Heard}
 use Rattle.play.specs.Play.{playOf}
 use Rattle.play.proofs.KeepLaws.{play-keeps}
-use Rattle.demands.specs.Trace.{Arrival, Trace, heardBy, traceOf, own, valueCarried, orElse, lastCarried, countedTypes, countsOf, countRule,
-answerTo, answersAfter}
+use Rattle.demands.specs.Trace.{Arrival, Trace, heardBy, traceOf, own, valueCarried, orElse, lastCarried, countedTypes, countsOf, countRule}
+use Rattle.demands.specs.Trace.{answerTo, answersAfter}
 use Rattle.demands.specs.Demands.{ours, heldIn, Right, pastOf, playAll, saidAll}
 use Rattle.demands.proofs.RuleLaws.{own-append, last-more, counts-append, added-by-last, rule-more}
 use Rattle.demands.proofs.HearingLaws.{Fine, heard-fine, Listed, recordOn, doneOn, play-is, listed-on, record-whole, record-own, record-other}
@@ -136,7 +136,7 @@ module _ (ids : List ℕ) (before : List (List ℕ)) (t : List ℕ) (r : Right i
   answer-heard (accepted a) f =
       let g = f a refl in
       let added : addedBy (a .kind) (a .count) (recordAt (a .stream) t) ≡ addedOf
-          (lastOf (countRule (countsOf (a .kind) (own (a .stream) (traceOf ids before))))) (a .count) =
+      (lastOf (countRule (countsOf (a .kind) (own (a .stream) (traceOf ids before))))) (a .count) =
       ap (λ (ws : List ℕ). addedOf (lastOf ws) (a .count)) (r .counts (a .stream) (g .stream) (a .kind) (g .kind)) in
       rw (added, added-by-last (countsOf (a .kind) (own (a .stream) (traceOf ids before))) (a .count))
 

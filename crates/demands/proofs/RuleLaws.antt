@@ -15,8 +15,8 @@ use Rattle.words.specs.Tests.{pick}
 use Rattle.words.specs.Outcome.{refused, accepted}
 use Rattle.record.specs.Counts.{missedOf, addedOf, countedOf}
 use Rattle.fields.specs.Layout.{fieldOf}
-use Rattle.demands.specs.Trace.{Arrival, Trace, own, carries, valueCarried, orElse, lastCarried, NoneCarried, LastCarried, countsOf, lastCount,
-missedAfter, missed, lastPlusOne, countRule, addedAfter}
+use Rattle.demands.specs.Trace.{Arrival, Trace, own, carries, valueCarried, orElse, lastCarried, NoneCarried, LastCarried, countsOf, lastCount}
+use Rattle.demands.specs.Trace.{missedAfter, missed, lastPlusOne, countRule, addedAfter}
 use Rattle.demands.specs.Demands.{LastMeant}
 
 -- ---- a stream's own packets
@@ -69,8 +69,15 @@ from-silent b [] h = refl
 from-silent b (a ∷ later) h = rw (from-silent b later (h .1), h .0)
 
 further : (b : ℕ) (a : Arrival) (packets : List Arrival) (v : List ℕ) → LastCarried b packets v → LastCarried b (a ∷ packets) v
-further b a packets v x = record { before = a ∷ x .before; last = x .last; later = x .later; cut = ap (λ (l : List Arrival). a ∷ l) (x .cut);
-    does = x .does; value = x .value; silent = x .silent }
+further b a packets v x = record {
+  before = a ∷ x .before;
+  last = x .last;
+  later = x .later;
+  cut = ap (λ (l : List Arrival). a ∷ l) (x .cut);
+  does = x .does;
+  value = x .value;
+  silent = x .silent;
+}
 
 found : (b : ℕ) (a : Arrival) (later : List Arrival) (v : List ℕ) (o : Option (List ℕ)) → lastCarried b later ≡ o
     → ((w : List ℕ) → lastCarried b later ≡ some w → LastCarried b later w) → orElse o (valueCarried b a) ≡ some v → LastCarried b (a ∷ later) v

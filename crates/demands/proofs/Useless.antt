@@ -16,8 +16,8 @@ use Rattle.fields.specs.Rules.{ruleOf}
 use Rattle.fields.specs.Layout.{spanOf, obeyed, bodyWords, placeOf, fieldOf, lowBitsSet, otherLength, ruleBroken, contextOf}
 use Rattle.packet.specs.declared.Packet.{Packet}
 use Rattle.packet.specs.Header.{trailed, tsmOf, reservedOf}
-use Rattle.packet.specs.Parts.{streamed, hasSeconds, hasFraction, classAt, secondsAt, fractionAt, bodyAt, requiredOf, bodyLength, wordIf, classHigh,
-classLow, fractionOf, partsOf, bodyOf, packetOf}
+use Rattle.packet.specs.Parts.{streamed, hasSeconds, hasFraction, classAt, secondsAt, fractionAt, bodyAt, requiredOf, bodyLength, wordIf, classHigh}
+use Rattle.packet.specs.Parts.{classLow, fractionOf, partsOf, bodyOf, packetOf}
 use Rattle.packet.specs.Read.{headerChecks, sizeChecks, timeOver, prologueChecks, bodyChecks, readOf}
 use Rattle.record.specs.Layout.{orderOf, countOf, seenOf}
 use Rattle.record.specs.Counts.{missedOf}

@@ -8,7 +8,7 @@ use native.Mathlib.Omega.{arith}
 use lib.ListN.{length, getD, List·getD-eq-default}
 use lib.Arith.{lt-one}
 use lib.Dec.{ltb, eqb}
-use borrow.Author.Tests.{ltb-false, eqb-true, eq-eqb}
+use borrow.Author.Tests.{ltb-false, eqb-true, eq-eqb, not-false}
 use Rattle.words.specs.Tests.{either}
 use Rattle.words.specs.declared.Length.the-variants.{Accepted, Refused}
 use Rattle.words.specs.Outcome.{Outcome, refused, accepted, measured, Meets}
@@ -25,7 +25,7 @@ use Rattle.payload_format.specs.Format.{formatBad, packingOf}
 use Rattle.payload_format.specs.Count.{countBad, wordsFor}
 use Rattle.payload_format.specs.Field.{fieldsOf, fitting}
 use Rattle.packing.specs.Pack.{packed, packList, packCheck, packOf, Packable, Fitting}
-use Rattle.payload_format.proofs.FormatLaws.{legal, count-few, not-false}
+use Rattle.payload_format.proofs.FormatLaws.{legal, count-few}
 use Rattle.payload_format.proofs.FieldLaws.{fitting-each}
 
 -- a list whose entries have no bits is 0 everywhere

@@ -2,7 +2,7 @@
 -- the next field is there (`reading-can`), is field k (`reading-field`), and leaves the same of field k + 1 (`reading-next`).
 use mathlib.Core.Path.{_≡_}
 use mathlib.Core.List.{List}
-use Prim.Native.Nat.{ℕ, _+_, _*_, _/_, _^_, _≤_, _<_}
+use Prim.Native.Nat.{ℕ, _+_, _-_, _*_, _/_, _^_, _≤_, _<_}
 use native.Mathlib.Nat.{mul-add, mul-le-mul-left}
 use native.Mathlib.Omega.{arith}
 use lib.ListN.{length}
@@ -13,6 +13,7 @@ use Rattle.bitstream.specs.Accumulator.{Ahead, AheadBy, Takeable, Took, TookIte
 use Rattle.bitstream.proofs.CarriedLaws.{room-at}
 use Rattle.bitstream.proofs.ReadLaws.{ahead-none, ahead-by-none}
 use Rattle.payload_format.specs.declared.inner.Packing.{Packing}
+use Rattle.payload_format.specs.Format.{Legal}
 use Rattle.payload.specs.Unpack.{Unpackable}
 
 -- ---- a loop over the fields: k of them are taken
@@ -56,6 +57,10 @@ pub record ReadingItems (c f u : ℕ) (ws : List ℕ) (s : Held) (k : ℕ) : Typ
 pub items-start : (c f u : ℕ) (ws : List ℕ) → 0 < c → ReadingItems c f u ws (record { acc = 0; have = u; at = 0 }) 0
 items-start c f u ws h = record { few = omega arith; ahead = ahead-by-none c ws u (f * 0) (omega arith) }
 
+-- an item takes some of its field
+pub item-some : (p : Packing) → Legal p → p .field - p .item < p .field
+item-some p l = omega arith
+
 pub items-can : (p : Packing) (n room u : ℕ) (ws : List ℕ) (s : Held) (k : ℕ) → Unpackable p n ws room → u < p .field → p .field ≤ 32 → k < n
     → ReadingItems (p .carry) (p .field) u ws s k → Takeable (p .carry) (p .field + u) s ws
 items-can p n room u ws s k v l h m r =
@@ -66,14 +71,18 @@ items-can p n room u ws s k v l h m r =
       size = omega arith;
       part = omega (arith, v .legal .narrow h, r .ahead .over);
       few = omega (arith, r .few);
-      there = λ q. room-at (p .carry) (s .at) (s .have) (p .field + u) (length ws) (v .legal .some) q (omega (arith, g, mul-add (p .field) k 1, v .there, r .ahead .place));
+      there = λ q.
+          room-at (p .carry) (s .at) (s .have) (p .field + u) (length ws) (v .legal .some) q
+          (omega (arith, g, mul-add (p .field) k 1, v .there, r .ahead .place));
     }
 
-pub items-value : {c f u : ℕ} {ws : List ℕ} {s : Held} {k : ℕ} {t : Taken} → ReadingItems c f u ws s k → TookItem c f u s ws t → t .value ≡ fieldOf c f ws k / 2 ^ u
+pub items-value : {c f u : ℕ} {ws : List ℕ} {s : Held} {k : ℕ} {t : Taken} → ReadingItems c f u ws s k → TookItem c f u s ws t
+    → t .value ≡ fieldOf c f ws k / 2 ^ u
 unfolding fieldOf
 items-value {f = f} {k = k} r t = t .keeps (f * k) (r .few) (r .ahead) .0
 
-pub items-next : {c f u : ℕ} {ws : List ℕ} {s : Held} {k : ℕ} {t : Taken} → ReadingItems c f u ws s k → TookItem c f u s ws t → ReadingItems c f u ws (heldOf t) (k + 1)
+pub items-next : {c f u : ℕ} {ws : List ℕ} {s : Held} {k : ℕ} {t : Taken} → ReadingItems c f u ws s k → TookItem c f u s ws t
+    → ReadingItems c f u ws (heldOf t) (k + 1)
 items-next {c} {f} {u} {ws} {s} {k} {t} r i =
     let e : f * k + f ≡ f * (k + 1) = omega (arith, mul-add f k 1) in
     record { few = i .few; ahead = rw e at (i .keeps (f * k) (r .few) (r .ahead) .1) }

@@ -1,5 +1,6 @@
 -- Document 01: "Unpack: FORMAT, COUNT, ROOM"; "Unpacking is given n and exactly the words needed".
-use Prim.Native.Nat.{ℕ, _*_, _≤_}
+use Prim.Native.Nat.{ℕ, _+_, _*_, _≤_, _<_}
+use mathlib.Core.Path.{_≡_}
 use mathlib.Core.Bool.{not}
 use mathlib.Core.List.{List, [], _∷_}
 use lib.ListN.{length}
@@ -8,7 +9,7 @@ use Rattle.words.specs.Tests.{either}
 use Rattle.words.specs.Outcome.{Outcome, accepted, Done}
 use Rattle.words.specs.Refusals.{Refusals, firstGiven}
 use Rattle.words.specs.Numbers.{FORMAT, COUNT, ROOM}
-use Rattle.bitstream.specs.Filled.{filled}
+use Rattle.bitstream.specs.Filled.{filled, filledFrom}
 use Rattle.payload_format.specs.declared.inner.Packing.{Packing}
 use Rattle.payload_format.specs.Format.{formatBad, packingOf, Legal}
 use Rattle.payload_format.specs.Count.{countBad, wordsFor}
@@ -50,9 +51,27 @@ unpackOf first second n ws b =
     firstGiven (unpackList first second n (length ws) (length (b .items)) (length (b .events)) (length (b .channels)))
     (accepted (record { says = n; leaves = unpacked (packingOf first) n ws b }))
 
--- what the calls inside are given: n fields in the words ws, and room for n entries
+-- ---- what the calls inside are given, and leave
+
+-- the parts of the fields from a up to n, in the places from a up to n; the other entries stay
+abbrev pub unpackedFrom : Packing → ℕ → ℕ → List ℕ → Buffers → Buffers
+unpackedFrom p a n ws b = record {
+  items = filledFrom a n (λ k. itemIn p (fieldIn p ws k)) (b .items);
+  events = filledFrom a n (λ k. eventIn p (fieldIn p ws k)) (b .events);
+  channels = filledFrom a n (λ k. channelIn p (fieldIn p ws k)) (b .channels);
+}
+
+-- n fields in the words ws, which are just as many as hold them, and room for n entries
 pub record Unpackable (p : Packing) (n : ℕ) (ws : List ℕ) (room : ℕ) : Type 0 where
   pub legal : Legal p
   pub few : n ≤ 2097120
   pub there : p .field * n ≤ length ws * p .carry
+  pub none-over : length ws * p .carry < p .field * n + p .carry
   pub places : n ≤ room
+
+-- the same where all 32 bits of a word carry fields, of at most 32 bits, so that field k is read by its place; and there is a field
+pub record Placed (p : Packing) (n : ℕ) (ws : List ℕ) (room : ℕ) : Type 0 where
+  pub given : Unpackable p n ws room
+  pub whole : p .carry ≡ 32
+  pub narrow : p .field ≤ 32
+  pub some : 0 < n

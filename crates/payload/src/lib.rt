@@ -1,4 +1,6 @@
 // Packed samples: items and their tags in the words of a payload, under a payload format.
+mod plain;
+mod tagged;
 mod unpacking;
 mod window;
 

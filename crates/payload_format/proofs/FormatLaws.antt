@@ -1,28 +1,29 @@
 -- What is known of a format that FORMAT does not refuse, and of a number of items that COUNT does not refuse.
 use mathlib.Core.Path.{_≡_, refl, _∙_}
 use mathlib.Core.Bool.{Bool, true, false, not}
+use mathlib.Core.List.{[], _∷_}
 use Prim.Native.Nat.{ℕ, _+_, _*_, _/_, _≤_, _<_}
 use native.Mathlib.Nat.{div-mul-le-self, le-div-iff-mul-le, mul-le-mul-right}
 use native.Mathlib.Omega.{arith}
 use lib.Dec.{ltb, leb, eqb}
-use borrow.Author.Tests.{ltb-false, leb-true}
-use Rattle.words.specs.Tests.{pick}
+use borrow.Author.Tests.{ltb-false, leb-true, not-false}
+use Rattle.words.specs.Tests.{pick, either}
+use Rattle.words.specs.Outcome.{Outcome, accepted, onward}
+use Rattle.words.specs.Refusals.{Refusals, firstGiven}
+use Rattle.words.specs.Numbers.{FORMAT, COUNT}
 use Rattle.words.specs.Word.{bits}
-use Rattle.words.proofs.Cases.{both-right, true-is-false}
+use Rattle.words.proofs.Cases.{both-right, true-is-false, accepted-same}
+use Rattle.words.proofs.RefusalLaws.{first-passed}
 use Rattle.fields.specs.Format.{realComplex, itemCode, eventSize, channelSize, packingSize, itemSize, formatOk, codeKnown, codeFits}
 use Rattle.payload_format.specs.declared.inner.Packing.{Packing}
 use Rattle.payload_format.specs.Format.{linkEfficient, formatBad, carriedBits, packingOf, Legal}
 use Rattle.bitstream.specs.Carried.{needed}
-use Rattle.payload_format.specs.Count.{countBad, wordsFor}
+use Rattle.payload_format.specs.Count.{countBad, wordsFor, neededList, neededOf}
 
 -- one line of a chain of tests was passed
 line : (t b : Bool) → pick t true b ≡ false → (t ≡ false) × (b ≡ false)
 line true b e = absurd (true-is-false e)
 line false b e = (refl, e)
-
-pub not-false : (t : Bool) → not t ≡ false → t ≡ true
-not-false true e = refl
-not-false false e = absurd (true-is-false e)
 
 -- ---- the bits that carry fields
 pub field-some : (first : ℕ) → 1 ≤ packingSize first
@@ -106,3 +107,23 @@ count-few first second n e = ltb-false 2097120 n (line (ltb 2097120 n) _ e .0)
 pub words-for : (first n m : ℕ) (p : Packing) → p ≡ packingOf first → m ≡ needed (p .carry) (p .field) n → m ≡ wordsFor first n
 unfolding packingOf wordsFor
 words-for first n m p q e = e ∙ rw q
+
+-- ---- FORMAT and COUNT are asked once, by `words_needed`
+
+-- a list that begins with FORMAT and COUNT of n, and has another test of COUNT beside it: what `words_needed` answers, and then the rest
+pub needed-first : {A : Type 0} (first second n : ℕ) (more : Bool) (rest : Refusals) (answer : Outcome A)
+    → firstGiven ((FORMAT, formatBad first second) ∷ (COUNT, either (countBad first second n) more) ∷ rest) answer
+    ≡ onward (neededOf first second n) (λ w. firstGiven ((COUNT, more) ∷ rest) answer)
+unfolding neededOf
+needed-first first second n more rest answer = by-tests (formatBad first second) (countBad first second n)
+  where
+    by-tests : (f c : Bool) → firstGiven ((FORMAT, f) ∷ (COUNT, either c more) ∷ rest) answer
+        ≡ onward (firstGiven ((FORMAT, f) ∷ (COUNT, c) ∷ []) (accepted (wordsFor first n))) (λ w. firstGiven ((COUNT, more) ∷ rest) answer)
+    by-tests true c = refl
+    by-tests false true = refl
+    by-tests false false = refl
+
+-- the number that it accepts with
+pub needed-words : (first second n m : ℕ) → neededOf first second n ≡ accepted m → wordsFor first n ≡ m
+unfolding neededOf
+needed-words first second n m e = accepted-same (first-passed (neededList first second n) _ m e .1)

@@ -3,7 +3,7 @@ use mathlib.Core.Path.{_≡_, refl, sym}
 use mathlib.Core.List.{List}
 use Prim.Native.Nat.{ℕ, _^_, _<_}
 use native.Mathlib.Omega.{arith}
-use borrow.Author.Tests.{eqb-true, ltb-false}
+use borrow.Author.Tests.{eqb-true, ltb-false, not-false}
 use lib.Dec.{ltb}
 use lib.ListN.{length, getD}
 use lib.Pow.{high, low}
@@ -12,7 +12,6 @@ use Rattle.words.specs.declared.Length.the-variants.{Refused}
 use Rattle.words.specs.Outcome.{refused, accepted, measured, Meets}
 use Rattle.words.proofs.RefusalLaws.{first-passed, either-passed, first-refused, first-fine}
 use Rattle.words.proofs.MeetLaws.{meets-refused}
-use Rattle.payload.proofs.FormatLaws.{not-false}
 use Rattle.packet.specs.declared.Parts.{Parts}
 use Rattle.writing.specs.Write.{Given, writeOf}
 use Rattle.vrt49.specs.Packets.{partsOf, wordsList, wordsChecks, writeWordsOf}

@@ -5,7 +5,7 @@ use mathlib.Core.List.{List, []}
 use Prim.Native.Nat.{ℕ, _+_, _-_, _*_, _%_, _^_, _≤_, _<_}
 use native.Mathlib.Nat.{le-trans, mod-lt, mul-le-mul, div-le-self}
 use native.Mathlib.Omega.{arith}
-use borrow.Author.Tests.{ltb-false}
+use borrow.Author.Tests.{ltb-false, not-false}
 use lib.ListN.{length, getD, length-take, length-drop}
 use Rattle.words.specs.Tests.{pick}
 use Rattle.words.specs.Part.{part}
@@ -24,7 +24,7 @@ use Rattle.packet.proofs.ReadLaws.{read-accepts}
 use Rattle.payload.specs.Format.{carriedBits}
 use Rattle.payload.specs.Count.{countBad, wordsFor, neededList, neededOf}
 use Rattle.payload.specs.Pack.{packList, packOf}
-use Rattle.payload.proofs.FormatLaws.{not-false, field-most, carry-most, count-few}
+use Rattle.payload.proofs.FormatLaws.{field-most, carry-most, count-few}
 use Rattle.fields.specs.Sizes.{sizeOf}
 use Rattle.record.specs.Held.{slotAt}
 use Rattle.record.specs.Layout.{headWords, slotWords, slotIn, slotsOf, slotOf}

@@ -1,17 +1,19 @@
--- `bits` meets its promise.
-use mathlib.Core.Path.{_∙_}
+-- `bits` meets its promise: `bits-are` says what a word and the next hold.
+use Prim.Native.Nat.{ℕ, _^_, _<_}
 use native.Mathlib.Omega.{arith}
+use lib.ListN.{getD}
+use denote.Ref.{now}
 use borrow.Author.Needs.{needs}
 use Rattle.payload.proofs.WindowLaws.{bits-are}
 use Rattle.payload.proofs.window.bits.Statement.{statement}
 use Rattle.payload.proofs.window.bits.Tie as tie
 
-returns : tie.Need-returns
-returns c =
-    let joined : tie.After-join = search in
-    let known : tie.After-shared-slice-known = search in
-    let start : tie.Start = search in
-    joined .join .ensures ∙ bits-are (start .args .words .now) (λ j. omega (arith, known .shared-slice-known .given j)) (start .args .b)
+words-small : (c : tie.After-shared-slice-known) (j : ℕ) → getD (now (c .before .args .words)) j 0 < 2 ^ 32
+words-small c j = omega (arith, c .shared-slice-known .given j)
 
 pub bits-spec : {M : Type 1} → statement M
-bits-spec = tie.close (tie.spec (λ c. search needs) (λ c. search needs) (λ c. search needs) (λ c. search needs) (λ c. search needs) (λ c. search needs) (λ c. search needs) (λ c κs. search needs) returns)
+bits-spec =
+    tie.close
+    (tie.spec
+    (λ c. search needs) (λ c. search needs) (λ c. search needs) (λ c. search needs) (λ c. search needs) (λ c. search needs) (λ c. search needs)
+    (λ c κs. search needs) (λ c. search (bits-are, words-small)))

@@ -1,23 +1,22 @@
 -- `carried_at` meets its promise: a word is below 2 ^ 32, so the bits that it carries are below 2 ^ c (`carried-below`).
+use Prim.Native.Nat.{_^_, _<_}
+use mathlib.Core.Path.{refl}
+use native.Mathlib.Omega.{arith}
+use lib.ListN.{getD}
+use denote.Ref.{now}
 use Rattle.bitstream.specs.Carried.{carried}
 use Rattle.bitstream.proofs.CarriedLaws.{carried-below}
-use native.Mathlib.Omega.{arith}
-use mathlib.Core.Path.{refl}
 use borrow.Author.Needs.{needs}
 use Rattle.bitstream.proofs.inner.accumulator.carried_at.Statement.{statement}
 use Rattle.bitstream.proofs.inner.accumulator.carried_at.Tie as tie
 
-cast-result : tie.Need-cast-result
-cast-result c = omega (arith, c .shared-slice-known .given (c .before .args .at))
+word-small : (c : tie.After-shared-slice-known) → getD (now (c .before .args .words)) (c .before .args .at) 0 < 2 ^ 32
+word-small c = omega (arith, c .shared-slice-known .given (c .before .args .at))
 
 returns : tie.Need-returns
 unfolding carried
-returns c = (
-  refl,
-  carried-below (c .before .args .c) (c .before .args .words .now) (c .before .args .at) (c .before .pre .1)
-      (omega (arith, c .shared-slice-known .given (c .before .args .at))),
-)
+returns c = (refl, search (carried-below, word-small))
 
 pub carried-at-spec : {M : Type 1} → statement M
 carried-at-spec =
-    tie.close (tie.spec (λ c. search needs) (λ c. search needs) cast-result (λ c. search needs) (λ c. search needs) returns)
+    tie.close (tie.spec (λ c. search needs) (λ c. search needs) (λ c. omega (arith, word-small c)) (λ c. search needs) (λ c. search needs) returns)

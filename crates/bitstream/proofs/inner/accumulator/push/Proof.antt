@@ -1,32 +1,22 @@
 -- `push` meets its promise: `pushed-more` where no word is filled, and else `pushed-word`.
-use Rattle.bitstream.proofs.AccumulatorLaws.{append-below}
-use Rattle.bitstream.proofs.WriteLaws.{pushed-more, pushed-word}
+use Prim.Native.Nat.{_<_}
 use native.Mathlib.Omega.{arith}
+use lib.ListN.{length}
+use denote.Ref.{now}
+use Rattle.bitstream.proofs.WriteLaws.{joint-below, place-there, pushed-more, pushed-word}
 use borrow.Author.Needs.{needs}
 use Rattle.bitstream.proofs.inner.accumulator.push.Statement.{statement}
 use Rattle.bitstream.proofs.inner.accumulator.push.Tie as tie
 
-add-acc : tie.Need-add-acc
-add-acc c = record { fits = append-below _ _ _ 64 (omega arith) (c .before .pre .fits) }
-
-returns : tie.Need-returns
-returns c = pushed-more _ _ _ _ _ (c .before .before .before .pre) (c .if1 .taken)
-
-mul-out : tie.Need-mul-out
-mul-out c = let l = c .before .before .before .pre .room (c .if1 .left) in search needs
-
-slice-write-out : tie.Need-slice-write-out
-slice-write-out c = c .before .before .before .pre .room (c .if1 .left)
-
-add-t13 : tie.Need-add-t13
-add-t13 c = let l = c .before .before .before .pre .room (c .if1 .left) in omega arith
-
-returns-2 : tie.Need-returns-2
-returns-2 c = pushed-word _ _ _ _ _ (c .before .before .before .pre) (c .if1 .left)
+there : (c : tie.Else1) →
+    let start : tie.Start = search in
+    start .args .s .at < length (now (start .args .out))
+there c = search place-there
 
 pub push-spec : {M : Type 1} → statement M
 push-spec =
     tie.close
     (tie.spec
-    (λ c. search needs) add-acc (λ c. search needs) returns (λ c. search needs) (λ c. search needs) (λ c. search needs) (λ c. search needs) mul-out
-    slice-write-out add-t13 (λ c. search needs) returns-2)
+    (λ c. search needs) (λ c. search joint-below) (λ c. search needs) (λ c. search pushed-more) (λ c. search needs) (λ c. search needs)
+    (λ c. search needs) (λ c. search needs) (λ c. omega (arith, there (search))) (λ c. search there) (λ c. omega (arith, there (search)))
+    (λ c. search needs) (λ c. search pushed-word))

@@ -4,13 +4,8 @@ use borrow.Author.Needs.{needs}
 use Rattle.bitstream.proofs.inner.accumulator.take_item.Statement.{statement}
 use Rattle.bitstream.proofs.inner.accumulator.take_item.Tie as tie
 
-returns : tie.Need-returns
-returns c =
-    let start : tie.Start = search in
-    took-item _ _ _ _ _ _ _ (start .pre .1) (c .before .before .before .refill .ensures) (c .low .ensures .0)
-
 pub take-item-spec : {M : Type 1} → statement M
 take-item-spec =
     tie.close
     (tie.spec
-    (λ c. search needs) (λ c κs. search needs) (λ c. search needs) (λ c. search needs) (λ c. search needs) (λ c κs. search needs) returns)
+    (λ c. search needs) (λ c κs. search needs) (λ c. search needs) (λ c. search needs) (λ c. search needs) (λ c κs. search needs) (λ c. search took-item))
