@@ -2,11 +2,19 @@
 pub use crate::identifiers::list_good;
 ghost use mathlib.Core.Path.{_≡_};
 ghost use Prim.Native.Nat.{_^_, _<_};
-ghost use Rattle.table.specs.Layout.{streamsOf};
+ghost use Rattle.table.specs.Layout.{streamsOf, base};
 
 // S, the number of streams; 0 of no words.
 pub fn streams(table: &[u32]) -> usize
     ensures { λ r. ⌜ (r ≡ streamsOf (now (table .entry))) × (r < 2 ^ 32) ⌝ }
 {
     words::inner::word_at(table, 0) as usize
+}
+
+// Where the record of stream s begins; that of stream S would begin where the layout ends.
+pub fn record_at(s: usize) -> usize
+    requires { ⌜ s < 2 ^ 32 ⌝ }
+    ensures { λ r. ⌜ (r ≡ base s) × (r < 2 ^ 39) ⌝ }
+{
+    1 + record::inner::RECORD_WORDS * s
 }
