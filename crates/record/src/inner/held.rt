@@ -1,7 +1,7 @@
 // The fields that a record holds, each in its slot.
 ghost use mathlib.Core.Path.{_≡_};
 ghost use mathlib.Core.Bool.{true};
-ghost use Prim.Native.Nat.{_+_, _≤_, _<_};
+ghost use Prim.Native.Nat.{_≤_, _<_};
 ghost use lib.Bits.{bitAnd};
 ghost use lib.ListN.{length};
 ghost use Rattle.words.specs.Outcome.{accepted};

@@ -1,18 +1,11 @@
--- `made` meets its promise: the table's test decides.
-use mathlib.Core.Path.{sym, _∙_}
+-- `check_table` meets its promise: the table's test decides.
 use Rattle.play.specs.Play.{madeOf}
 use borrow.Author.Needs.{needs}
-use Rattle.play.proofs.streams.made.Statement.{statement}
-use Rattle.play.proofs.streams.made.Tie as tie
+use Rattle.play.proofs.streams.check_table.Statement.{statement}
+use Rattle.play.proofs.streams.check_table.Tie as tie
 
-returns : tie.Need-returns
+pub check-table-spec : {M : Type 1} → statement M
 unfolding madeOf
-returns c = rw (sym (c .before .well-made .ensures) ∙ c .if1 .taken)
-
-returns-2 : tie.Need-returns-2
-unfolding madeOf
-returns-2 c = rw (sym (c .before .well-made .ensures) ∙ c .if1 .left)
-
-pub made-spec : {M : Type 1} → statement M
-made-spec =
-    tie.close (tie.spec (λ c κs. search needs) returns returns-2)
+check-table-spec =
+    tie.close
+    (tie.spec (λ c κs. search needs) (λ c. rw (← c .before .well-made .ensures, c .if1 .taken)) (λ c. rw (← c .before .well-made .ensures, c .if1 .left)))
