@@ -1,5 +1,5 @@
--- What play keeps. The idea: an accepted packet replaces one record by a good one of the same identifier (`well-with`), so the table stays well made, its list
--- and the other records stay, and so do the words past the layout.
+-- What play keeps. The idea: an accepted packet replaces one record by a good one of the same identifier (`well-with`), so the table stays well made, with its
+-- list and the words past its layout.
 use mathlib.Core.Path.{_≡_, refl, sym, ap, _∙_}
 use mathlib.Core.Bool.{true}
 use mathlib.Core.Logic.{⊎-elim}
@@ -8,7 +8,7 @@ use Prim.Native.Nat.{ℕ, _<_}
 use lib.ListN.{length, drop}
 use Rattle.words.specs.Part.{part}
 use Rattle.words.specs.Outcome.{Outcome, refused, accepted, Done, leftOf}
-use Rattle.words.proofs.Cases.{true-or-false, after-passed, onward-passed, accepted-same}
+use Rattle.words.proofs.Cases.{true-or-false, onward-passed, accepted-same}
 use Rattle.fields.specs.Layout.{contextOf}
 use Rattle.packet.specs.declared.Packet.{Packet}
 use Rattle.packet.specs.Read.{readOf}
@@ -19,12 +19,12 @@ use Rattle.record.proofs.PacketLaws.{after-length, after-identifier, after-good
 use Rattle.table.specs.Layout.{streamsOf, base, Has, recordAt, withRecord}
 use Rattle.table.specs.Identifiers.{declared}
 use Rattle.table.specs.Well.{wellMade}
-use Rattle.table.proofs.RecordLaws.{record-length, record-identifier, with-length, record-with, record-with-other, streams-with, past-with}
+use Rattle.table.proofs.RecordLaws.{record-length, record-identifier, with-length, streams-with, past-with}
 use Rattle.table.proofs.WellLaws.{well-whole, well-record, layout-has, list-with, well-with}
 use Rattle.play.specs.declared.Heard.{Heard}
-use Rattle.play.specs.Play.{soughtOf, heardOf, tableAfter, madeOf, stepOf, playOf}
+use Rattle.play.specs.Play.{soughtOf, heardOf, tableAfter, stepOf, playOf}
 use Rattle.play.proofs.StreamLaws.{sought-below}
-use Rattle.play.proofs.PlayLaws.{made-well, play-step, play-refuses}
+use Rattle.play.proofs.PlayLaws.{play-step, play-refuses}
 
 -- ---- an accepted packet: what was read, and its stream
 pub record Taken (t ws : List ℕ) (d : Done Heard (List ℕ)) : Type 0 where
@@ -41,7 +41,14 @@ step-taken t ws d e =
     let a = onward-passed (readOf ws) _ d e in
     let b = onward-passed (soughtOf (a .0 .parts .kind) (a .0 .parts .identifier) t) _ d (a .2) in
     let f = accepted-same (b .2) in
-    record { packet = a .0; stream = b .0; reads = a .1; seeks = b .1; says = ap (λ (x : Done Heard (List ℕ)). x .says) f; leaves = ap (λ (x : Done Heard (List ℕ)). x .leaves) f }
+    record {
+      packet = a .0;
+      stream = b .0;
+      reads = a .1;
+      seeks = b .1;
+      says = ap (λ (x : Done Heard (List ℕ)). x .says) f;
+      leaves = ap (λ (x : Done Heard (List ℕ)). x .leaves) f;
+    }
 
 -- ---- what it keeps
 module _ (t ws : List ℕ) (w : wellMade t ≡ true) (d : Done Heard (List ℕ)) (k : Taken t ws d) where
@@ -79,31 +86,24 @@ module _ (t ws : List ℕ) (w : wellMade t ≡ true) (d : Done Heard (List ℕ))
   unfolding tableAfter
   leaves-is = sym (k .leaves)
 
-  pub taken-well : wellMade (d .leaves) ≡ true
+  taken-well : wellMade (d .leaves) ≡ true
   taken-well =
       ap wellMade leaves-is
       ∙ well-with s new t w below new-length new-identifier
       (after-good (p .parts .kind) (p .parts .count) body (recordAt s t) old-length fields-fine (count-small ws p (k .reads)) (well-record t w s below))
 
-  pub taken-length : length (d .leaves) ≡ length t
+  taken-length : length (d .leaves) ≡ length t
   taken-length = ap length leaves-is ∙ with-length s new t has-it new-length
 
   -- the list
-  pub taken-streams : streamsOf (d .leaves) ≡ streamsOf t
+  taken-streams : streamsOf (d .leaves) ≡ streamsOf t
   taken-streams = ap streamsOf leaves-is ∙ streams-with s new t has-it new-length
 
-  pub taken-list : (u : ℕ) → declared (d .leaves) u ≡ declared t u
+  taken-list : (u : ℕ) → declared (d .leaves) u ≡ declared t u
   taken-list u = ap (λ (x : List ℕ). declared x u) leaves-is ∙ list-with s new t w below new-length new-identifier u
 
-  -- its stream's record, and the others
-  pub taken-record : recordAt (k .stream) (d .leaves) ≡ recordAfter (k .packet .parts .kind) (k .packet .parts .count) (part (k .packet .body) (k .packet .length) ws) (recordAt (k .stream) t)
-  taken-record = ap (recordAt s) leaves-is ∙ record-with s new t has-it new-length
-
-  pub taken-other : (u : ℕ) → (u ≡ k .stream → ⊥) → recordAt u (d .leaves) ≡ recordAt u t
-  taken-other u n = ap (recordAt u) leaves-is ∙ record-with-other s new t has-it new-length u n
-
   -- the words past the layout
-  pub taken-past : drop (base (streamsOf t)) (d .leaves) ≡ drop (base (streamsOf t)) t
+  taken-past : drop (base (streamsOf t)) (d .leaves) ≡ drop (base (streamsOf t)) t
   taken-past = ap (drop (base (streamsOf t))) leaves-is ∙ past-with s new t has-it new-length (streamsOf t) below
 
 -- ---- play, whatever it answers
@@ -122,7 +122,13 @@ kept-by : (o : Outcome (Done Heard (List ℕ))) (t ws : List ℕ) → wellMade t
 kept-by (refused n) t ws w e = nothing-changed t
 kept-by (accepted d) t ws w e =
     let k = step-taken t ws d e in
-    record { well = λ _. taken-well t ws w d k; whole = taken-length t ws w d k; streams = taken-streams t ws w d k; list = taken-list t ws w d k; past = taken-past t ws w d k }
+    record {
+      well = λ _. taken-well t ws w d k;
+      whole = taken-length t ws w d k;
+      streams = taken-streams t ws w d k;
+      list = taken-list t ws w d k;
+      past = taken-past t ws w d k;
+    }
 
 pub step-keeps : (t ws : List ℕ) → wellMade t ≡ true → Kept t (leftOf (stepOf t ws) t)
 step-keeps t ws w = kept-by (stepOf t ws) t ws w refl
@@ -131,17 +137,3 @@ step-keeps t ws w = kept-by (stepOf t ws) t ws w refl
 pub play-keeps : (t ws : List ℕ) → Kept t (leftOf (playOf t ws) t)
 play-keeps t ws =
     ⊎-elim (λ w. rw (play-step t ws w) (step-keeps t ws w)) (λ w. rw (play-refuses t ws w) (nothing-changed t)) (true-or-false (wellMade t))
-
--- an accepted packet was read and has a stream, and the table was well made
-pub play-taken : (t ws : List ℕ) (d : Done Heard (List ℕ)) → playOf t ws ≡ accepted d → (wellMade t ≡ true) × Taken t ws d
-unfolding playOf
-play-taken t ws d e =
-    let a = after-passed (madeOf t) (stepOf t ws) d e in
-    (made-well t (a .1), step-taken t ws d (a .2))
-
--- another stream's record is not touched
-pub play-other : (t ws : List ℕ) (d : Done Heard (List ℕ)) → playOf t ws ≡ accepted d → (u : ℕ) → (u ≡ d .says .stream → ⊥) → recordAt u (d .leaves) ≡ recordAt u t
-unfolding heardOf
-play-other t ws d e u n =
-    let k = play-taken t ws d e in
-    taken-other t ws (k .0) d (k .1) u (λ i. n (i ∙ ap (λ (h : Heard). h .stream) (k .1 .says)))

@@ -1,5 +1,5 @@
--- Playing a packet. The idea: the record of the packet's stream is lent, so the table afterwards is `withRecord` of the record afterwards (`lent-heard`), which is
--- what hearing the packet leaves (`heard-data`, `heard-context`); a refusal leaves the table, since `leftOf` does.
+-- Playing a packet. The idea: the record of the packet's stream is lent, so the table afterwards is `withRecord` of the record afterwards (`lent-leaves`), and
+-- that is what hearing the packet leaves (`heard-data`, `heard-context`).
 use mathlib.Core.Path.{_≡_, refl, sym, ap, _∙_}
 use mathlib.Core.Bool.{true, false, not}
 use mathlib.Core.List.{List, [], _++_}

@@ -1,5 +1,5 @@
--- A run of packets. The idea: after n turns of the run the entries so far, then the walk that is left, are the whole walk (`Running`), and a turn takes one packet
--- of it (`turned`, `stopped`). A run with room for one entry has the entry of the packet at its place, and EMPTY's where no word is left (`one-entered`).
+-- A run of packets. The idea: after n turns of the run the entries so far, then the walk that is left, are the whole walk (`Running`), and a turn takes one
+-- packet of it (`turned`, `stopped`). A run with room for one entry has that of the packet at its place, and EMPTY's where no word is left (`one-entered`).
 use mathlib.Core.Path.{_≡_, refl, sym, ap, _∙_}
 use mathlib.Core.Bool.{Bool, true, false}
 use mathlib.Core.Logic.{⊎-elim}
@@ -65,7 +65,8 @@ walk-over zero ws at t h = refl
 walk-over (suc n) ws at t h = rw (le-leb (length ws) at h)
 
 pub walk-more : (k n : ℕ) (ws : List ℕ) (at : ℕ) (t : List ℕ) → k ≡ suc n → at < length ws
-    → walkOf k ws at t ≡ before (entryAt t ws at) (pick (goesOn (saidAt t ws at)) (walkOf n ws (nextOf t ws at) (leftAt t ws at)) (ended (nextOf t ws at) (leftAt t ws at)))
+    → walkOf k ws at t
+    ≡ before (entryAt t ws at) (pick (goesOn (saidAt t ws at)) (walkOf n ws (nextOf t ws at) (leftAt t ws at)) (ended (nextOf t ws at) (leftAt t ws at)))
 unfolding walkOf
 walk-more k n ws at t e h = rw (e, lt-leb (length ws) at h)
 
@@ -89,7 +90,8 @@ pub record Running (most : ℕ) (ws : List ℕ) (from : ℕ) (t₀ buffer₀ t b
   pub wrote : buffer ≡ entries ++ drop (entryWords * n) buffer₀
   pub is : walkOf most ws from t₀ ≡ onto n entries rest
 
-pub running-start : (most : ℕ) (ws : List ℕ) (from : ℕ) (t buffer : List ℕ) → wellMade t ≡ true → Running most ws from t buffer t buffer 0 (walkOf (most - 0) ws from t)
+pub running-start : (most : ℕ) (ws : List ℕ) (from : ℕ) (t buffer : List ℕ) → wellMade t ≡ true
+    → Running most ws from t buffer t buffer 0 (walkOf (most - 0) ws from t)
 running-start most ws from t buffer w =
     let e : most ≡ most - 0 = omega arith in
     record {
@@ -112,8 +114,8 @@ module _ {most from at n : ℕ} {ws t₀ buffer₀ t buffer : List ℕ} (p : Run
   running-full h = let e : most - n ≡ 0 = omega arith in rw (e, walk-zero ws at t) at p
 
 -- nothing is left
-pub running-end : {most from at n : ℕ} {ws t₀ buffer₀ t buffer : List ℕ} → Running most ws from t₀ buffer₀ t buffer n (ended at t) → most ≡ length buffer₀ / entryWords
-    → WalkDone (wholeWalk t₀ ws from buffer₀) buffer₀ (record { packets = n; next = at }) t buffer
+pub running-end : {most from at n : ℕ} {ws t₀ buffer₀ t buffer : List ℕ} → Running most ws from t₀ buffer₀ t buffer n (ended at t)
+    → most ≡ length buffer₀ / entryWords → WalkDone (wholeWalk t₀ ws from buffer₀) buffer₀ (record { packets = n; next = at }) t buffer
 unfolding wholeWalk
 running-end {most} {from} {at} {n} {ws} {t₀} {buffer₀} {t} {buffer} p room =
     let e : walkOf (length buffer₀ / entryWords) ws from t₀ ≡ record { packets = n; next = at; table = t; entries = p .entries } =

@@ -19,7 +19,7 @@ pub enter-spec : {M : Type 1} → statement M
 enter-spec =
     tie.close
     (tie.spec
-    (λ c κs. search needs) (λ c. search needs) (λ c. search needs) (λ c κs. search needs) (λ c κs. search needs) (λ c. search (entered-unread, unread-front))
-    (λ c. search has-header) (λ c κs. search needs) (λ c κs. search (headed-data, not-four)) (λ c. search needs) (λ c. search needs)
-    (λ c κs. search (has-body, is-whole)) (λ c. search needs) (λ c. search needs) (λ c κs. search needs) (λ c κs. search needs)
-    (λ c. search (entered-unread, unread-body)) (λ c κs. search (headed, is-four)) (λ c. search needs) (λ c. search needs))
+    (λ c κs. search needs) (λ c. search needs) (λ c. search needs) (λ c κs. search needs) (λ c κs. search needs)
+    (λ c. search (entered-unread, unread-front)) (λ c. search has-header) (λ c κs. search needs) (λ c κs. search (headed-data, not-four))
+    (λ c. search needs) (λ c. search needs) (λ c κs. search (has-body, is-whole)) (λ c. search needs) (λ c. search needs) (λ c κs. search needs)
+    (λ c κs. search needs) (λ c. search (entered-unread, unread-body)) (λ c κs. search (headed, is-four)) (λ c. search needs) (λ c. search needs))

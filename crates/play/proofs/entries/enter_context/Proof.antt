@@ -9,6 +9,5 @@ pub enter-context-spec : {M : Type 1} → statement M
 enter-context-spec =
     tie.close
     (tie.spec
-    (λ c κs. search needs) (λ c. search needs) (λ c. search needs) (λ c κs. search needs) (λ c κs. search needs) (λ c κs. search needs)
-    (λ c. search needs) (λ c. search entered-unsought) (λ c κs. search found-below) (λ c κs. search found-few)
-    (λ c. search needs) (λ c. search (entered-heard, found)))
+    (λ c κs. search needs) (λ c. search needs) (λ c. search needs) (λ c κs. search needs) (λ c κs. search needs) (λ c κs. search needs) (λ c. search needs)
+    (λ c. search entered-unsought) (λ c κs. search found-below) (λ c κs. search found-few) (λ c. search needs) (λ c. search (entered-heard, found)))

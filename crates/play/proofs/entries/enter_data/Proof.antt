@@ -10,6 +10,6 @@ pub enter-data-spec : {M : Type 1} → statement M
 enter-data-spec =
     tie.close
     (tie.spec
-    (λ c κs. search needs) (λ c. search needs) (λ c. search needs) (λ c κs. search needs) (λ c κs. search needs) (λ c κs. search needs)
-    (λ c. search needs) (λ c. search entered-unsought) (λ c κs. search (found-below, found-data)) (λ c κs. search found-few)
-    (λ c. search needs) (λ c. search (entered-heard, heard-data, found)))
+    (λ c κs. search needs) (λ c. search needs) (λ c. search needs) (λ c κs. search needs) (λ c κs. search needs) (λ c κs. search needs) (λ c. search needs)
+    (λ c. search entered-unsought) (λ c κs. search (found-below, found-data)) (λ c κs. search found-few) (λ c. search needs)
+    (λ c. search (entered-heard, heard-data, found)))

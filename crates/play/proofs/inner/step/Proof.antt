@@ -8,4 +8,5 @@ use Rattle.play.proofs.inner.step.Tie as tie
 pub step-spec : {M : Type 1} → statement M
 step-spec =
     tie.close
-    (tie.spec (λ c κs. search needs) (λ c κs. search needs) (λ c. omega (arith, entered-small)) (λ c. search needs) (λ c. search entered-stepped))
+    (tie.spec
+    (λ c κs. search needs) (λ c κs. search needs) (λ c. omega (arith, entered-small)) (λ c. search needs) (λ c. search entered-stepped))

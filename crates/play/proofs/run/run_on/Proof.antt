@@ -21,8 +21,7 @@ pub run-on-spec : {M : Type 1} → statement M
 run-on-spec =
     tie.close
     (tie.spec
-    Inv-loop μ-loop (λ c. search running-start) (λ c. search) (λ c. search) (λ c. search (running-end, running-over))
-    (λ c. search needs) (λ c. search needs) (λ c. search needs) (λ c. search needs) (λ c κs. search needs) (λ c. search needs)
-    (λ c κs. search (needs, entered-small)) (λ c. search needs) (λ c. omega (arith, entered-small))
-    (λ c. search stopped-same) (λ c. search stopped-long) (λ c. search (running-end, stopped)) (λ c. search needs) (λ c. search turned)
-    (λ c. search) (λ c. search) (λ c. search (running-end, running-full)))
+    Inv-loop μ-loop (λ c. search running-start) (λ c. search) (λ c. search) (λ c. search (running-end, running-over)) (λ c. search needs)
+    (λ c. search needs) (λ c. search needs) (λ c. search needs) (λ c κs. search needs) (λ c. search needs) (λ c κs. search (needs, entered-small))
+    (λ c. search needs) (λ c. omega (arith, entered-small)) (λ c. search stopped-same) (λ c. search stopped-long) (λ c. search (running-end, stopped))
+    (λ c. search needs) (λ c. search turned) (λ c. search) (λ c. search) (λ c. search (running-end, running-full)))

@@ -8,4 +8,5 @@ pub check-table-spec : {M : Type 1} → statement M
 unfolding madeOf
 check-table-spec =
     tie.close
-    (tie.spec (λ c κs. search needs) (λ c. rw (← c .before .well-made .ensures, c .if1 .taken)) (λ c. rw (← c .before .well-made .ensures, c .if1 .left)))
+    (tie.spec
+    (λ c κs. search needs) (λ c. rw (← c .before .well-made .ensures, c .if1 .taken)) (λ c. rw (← c .before .well-made .ensures, c .if1 .left)))

@@ -11,7 +11,7 @@ pub hear-context-spec : {M : Type 1} → statement M
 hear-context-spec =
     tie.close
     (tie.spec
-    (λ c κs. search needs) (λ c κs. omega (arith, well-few)) (λ c. search needs) (λ c κs. search needs) (λ c κs. search headed-sized)
-    (λ c. search needs) (λ c. search needs) (λ c. search needs) (λ c. search lent-inside) (λ c. search needs) (λ c. search needs)
-    (λ c. search body-starts) (λ c. search body-ends) (λ c κs. (search lent-length, search lent-good, search needs, search body-good))
-    (λ c. search needs) (λ c. search heard-context))
+    (λ c κs. search needs) (λ c κs. omega (arith, well-few)) (λ c. search needs) (λ c κs. search needs) (λ c κs. search headed-sized) (λ c. search needs)
+    (λ c. search needs) (λ c. search needs) (λ c. search lent-inside) (λ c. search needs) (λ c. search needs) (λ c. search body-starts)
+    (λ c. search body-ends) (λ c κs. (search lent-length, search lent-good, search needs, search body-good)) (λ c. search needs)
+    (λ c. search heard-context))
