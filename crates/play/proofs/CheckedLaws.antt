@@ -1,5 +1,6 @@
--- What the checks of a packet's front and body found, as a caller has it: the answer, what it ensures, and the case that it is.
+-- What the checks of the table and of a packet's front and body found, as a caller has it: the answer, what it ensures, and the case that it is.
 use mathlib.Core.Path.{_≡_, refl}
+use mathlib.Core.Bool.{true}
 use mathlib.Core.List.{List}
 use Prim.Native.Nat.{ℕ, _≤_, _<_}
 use lib.ListN.{length, getD}
@@ -10,8 +11,15 @@ use Rattle.packet.specs.Header.{typeOf, sizeOf}
 use Rattle.packet.specs.Parts.{requiredOf, bodyOf}
 use Rattle.packet.specs.Read.{bodyChecks, frontChecks, readOf}
 use Rattle.packet.proofs.FrontLaws.{front-refuses, front-some, front-sized, front-data, body-refuses}
+use Rattle.table.specs.Well.{wellMade}
+use Rattle.play.specs.Play.{madeOf}
 use Rattle.play.specs.Entered.{Headed}
 use Rattle.play.proofs.StreamLaws.{body-headed}
+use Rattle.play.proofs.PlayLaws.{made-well}
+
+module _ (t : List ℕ) (made : Check) (e : checked made ≡ madeOf t) where
+  pub is-well : made ≡ Fine → wellMade t ≡ true
+  is-well f = made-well t (cc)
 
 module _ (ws : List ℕ) (front : Check) (e : checked front ≡ frontChecks ws) where
   pub unread-front : (n : ℕ) → front ≡ Refused n → readOf ws ≡ refused n

@@ -1,58 +1,188 @@
--- The entry of one packet. The idea: what is refused or heard of a packet, written as an entry's words, is `entryOf` of what play says; the words that the walk
--- goes on by are none exactly where it stops, since a refusal of reading is never STREAM (`read-number`) and a packet that is read has a word.
-use mathlib.Core.Path.{_≡_, ap, _∙_}
-use mathlib.Core.Bool.{false, not}
+-- The entry of one packet. The idea: what is refused or heard of a packet, as an entry's numbers, is `entryOf` of what play says; and it says no less, since a
+-- refusal has a number (`read-some`), and a walk goes on behind a packet that was read, which has a word (`Whole`, `step-whole`).
+use mathlib.Core.Path.{_≡_, refl, ap, subst, _∙_}
+use mathlib.Core.Bool.{Bool, true, false, not}
+use mathlib.Core.Logic.{⊎-elim}
 use mathlib.Core.List.{List}
-use Prim.Native.Nat.{ℕ}
+use Prim.Native.Nat.{ℕ, _+_, _-_, _^_, _<_}
+use native.Mathlib.Nat.{mod-lt}
 use native.Mathlib.Omega.{arith}
-use borrow.Author.Tests.{ne-eqb}
+use borrow.Author.Needs.{needs}
+use borrow.Author.Tests.{eq-eqb, ne-eqb}
 use lib.Dec.{eqb}
-use lib.ListN.{getD}
+use lib.ListN.{length, take, drop, getD}
+use Rattle.words.specs.declared.Check.{Check}
+use Rattle.words.specs.declared.Check.the-variants as Check
 use Rattle.words.specs.Numbers.{STREAM}
-use Rattle.words.specs.Tests.{when}
-use Rattle.words.specs.Outcome.{refused, accepted}
+use Rattle.words.specs.Tests.{pick, when}
+use Rattle.words.specs.Outcome.{Outcome, refused, accepted, after, onward, numberOf, checked, Done, saidOf, Meets}
+use Rattle.words.specs.Refusals.{firstGiven}
+use Rattle.words.proofs.Cases.{same-or-not}
+use Rattle.words.proofs.RefusalLaws.{Numbered, number-among, first-refused}
+use Rattle.fields.proofs.PlaceLaws.{rest-whole, first-word}
+use Rattle.packet.specs.declared.Packet.{Packet}
 use Rattle.packet.specs.Header.{typeOf, sizeOf}
 use Rattle.packet.specs.Parts.{partsOf, packetOf}
-use Rattle.packet.specs.Read.{readOf}
+use Rattle.packet.specs.Read.{readList, readOf}
 use Rattle.packet.proofs.ReadLaws.{size-some, size-said, read-number}
-use Rattle.play.specs.Play.{heardOf, stepOf}
-use Rattle.play.specs.Run.{entryOf}
-use Rattle.play.specs.Entered.{Headed, soughtIn, HeardAs, Entered}
+use Rattle.table.specs.Well.{wellMade}
+use Rattle.play.specs.declared.Heard.{Heard}
+use Rattle.play.specs.declared.Played.{Played}
+use Rattle.play.specs.declared.Played.the-variants as Played
+use Rattle.play.specs.declared.run.Entry.{Entry}
+use Rattle.play.specs.declared.streams.Sought.{Sought}
+use Rattle.play.specs.declared.streams.Sought.the-variants.{Unknown}
+use Rattle.play.specs.Play.{tableList, soughtOf, heardOf, tableAfter, stepOf, madeOf, playOf, paper, soughtPaper}
+use Rattle.play.specs.Run.{goesOn, saidAt, leftAt, nextOf, Stepped, entryOf, entryAt, wordsOf}
+use Rattle.play.specs.Entered.{Headed, soughtIn, HeardAs, Entered, saidBy}
 use Rattle.play.proofs.StreamLaws.{sought-number}
-use Rattle.play.proofs.PlayLaws.{step-read}
+use Rattle.play.proofs.PlayLaws.{made-well, step-read, play-step}
 
-entered-refused : (t ws : List ℕ) (n m k : ℕ) → stepOf t ws ≡ refused n → m ≡ n → k ≡ when (eqb n STREAM) (sizeOf (getD ws 0 0)) → not (eqb k 0) ≡ eqb n STREAM
-    → Entered t ws (record { number = m; size = k; kind = 0; stream = 0; missing = 0 }) t
-unfolding entryOf
-entered-refused t ws n m k e i j o = record { entry = rw (e, i, j); next = rw e j; on = rw e o; table = rw e }
+-- ---- a refusal of reading has a number
 
-pub entered-unread : (t ws : List ℕ) (n m : ℕ) → readOf ws ≡ refused n → m ≡ n → Entered t ws (record { number = m; size = 0; kind = 0; stream = 0; missing = 0 }) t
-entered-unread t ws n m e i =
-    let o : eqb n STREAM ≡ false = ne-eqb n STREAM (λ z. omega (arith, read-number ws n e)) in
-    entered-refused t ws n m 0 (rw (step-read, e)) i (rw o) (rw o)
+read-some : (ws : List ℕ) (n : ℕ) → readOf ws ≡ refused n → 0 < n
+unfolding readOf
+read-some ws n e = subst (Numbered (λ k. 0 < k)) e (number-among (λ k. 0 < k) (readList (getD ws 0 0) ws) _ (search needs) tt)
 
-module _ (t ws : List ℕ) (w : ℕ) (p : Headed w ws) where
-  headed-size : (size : ℕ) → size ≡ sizeOf w → size ≡ sizeOf (getD ws 0 0)
-  headed-size size j = j ∙ ap sizeOf (p .header)
+-- ---- what is said of a packet of a size: a refusal has a number, and where a walk goes on the packet has a word
 
-  size-there : eqb (sizeOf (getD ws 0 0)) 0 ≡ false
-  size-there = ne-eqb (sizeOf (getD ws 0 0)) 0 (λ z. omega (arith, size-some ws (packetOf w ws) (p .reads), size-said ws (packetOf w ws) (p .reads)))
+abbrev Whole : Outcome Heard → ℕ → Type 0
+Whole (refused n) size = (0 < n) × (n ≡ STREAM → 0 < size)
+Whole (accepted h) size = (h .size ≡ size) × (0 < size)
 
-  pub entered-unsought : (n m size : ℕ) → soughtIn w ws t ≡ refused n → m ≡ n → size ≡ sizeOf w
-      → Entered t ws (record { number = m; size = size; kind = 0; stream = 0; missing = 0 }) t
-  entered-unsought n m size f i j =
-      let k : n ≡ STREAM = sought-number (packetOf w ws .parts .kind) (packetOf w ws .parts .identifier) t n f in
-      let z = headed-size size j in
-      entered-refused t ws n m size (rw (step-read, p .reads, f)) i (rw (k, z)) (rw (k, z, size-there))
+module _ (t ws : List ℕ) where
+  abbrev done : Packet → ℕ → Outcome (Done Heard (List ℕ))
+  done p s = accepted (record { says = heardOf p s t; leaves = tableAfter p s ws t })
 
-  pub entered-heard : (s more size kind : ℕ) (left : List ℕ) → soughtIn w ws t ≡ accepted s → size ≡ sizeOf w → kind ≡ typeOf w → HeardAs w s ws t more left
-      → Entered t ws (record { number = 0; size = size; kind = kind; stream = s; missing = more }) left
-  unfolding heardOf entryOf packetOf partsOf
-  entered-heard s more size kind left f j k h =
-      let z = headed-size size j in
-      record {
-        entry = rw (step-read, p .reads, f, h .adds, k, z);
-        next = rw (step-read, p .reads, f, z);
-        on = rw (step-read, p .reads, f, z, size-there);
-        table = rw (step-read, p .reads, f) (h .leaves);
-      }
+  whole-sought : (p : Packet) → readOf ws ≡ accepted p → (o : Outcome ℕ) → soughtOf (p .parts .kind) (p .parts .identifier) t ≡ o
+      → Whole (saidOf (onward o (done p))) (sizeOf (getD ws 0 0))
+  unfolding heardOf
+  whole-sought p e (refused n) f =
+      (omega (arith, sought-number (p .parts .kind) (p .parts .identifier) t n f), λ _. omega (arith, size-some ws p e, size-said ws p e))
+  whole-sought p e (accepted s) f = (size-said ws p e, omega (arith, size-some ws p e, size-said ws p e))
+
+  whole-read : (o : Outcome Packet) → readOf ws ≡ o
+      → Whole (saidOf (onward o (λ p. onward (soughtOf (p .parts .kind) (p .parts .identifier) t) (done p)))) (sizeOf (getD ws 0 0))
+  whole-read (refused n) e = (read-some ws n e, λ i. absurd (omega (arith, i, read-number ws n e)))
+  whole-read (accepted p) e = whole-sought p e (soughtOf (p .parts .kind) (p .parts .identifier) t) refl
+
+  step-whole : Whole (saidOf (stepOf t ws)) (sizeOf (getD ws 0 0))
+  step-whole = rw step-read (whole-read (readOf ws) refl)
+
+pub said-whole : (t ws : List ℕ) (at : ℕ) → wellMade t ≡ true → Whole (saidAt t ws at) (sizeOf (getD ws at 0))
+unfolding saidAt
+said-whole t ws at w = rw (play-step t (drop at ws) w, ← first-word at ws) (step-whole t (drop at ws))
+
+-- ---- an entry, by what is said
+
+module _ (size : ℕ) (x : Entry) where
+  entry-size : (o : Outcome Heard) → wordsOf x ≡ entryOf o size → x .size ≡ when (goesOn o) size
+  unfolding entryOf
+  entry-size (refused n) e = cc
+  entry-size (accepted h) e = cc
+
+  entry-said : (o : Outcome Heard) → Whole o size → wordsOf x ≡ entryOf o size → saidBy x ≡ o
+  unfolding entryOf
+  entry-said (refused n) h e =
+      let i : x .number ≡ n = cc in
+      rw (i, ne-eqb n 0 (λ z. omega arith))
+  entry-said (accepted a) h e =
+      let i : x .number ≡ 0 = cc in
+      let z : x .size ≡ a .size = cc in
+      let k : x .kind ≡ a .kind = cc in
+      let s : x .stream ≡ a .stream = cc in
+      let m : x .missing ≡ a .missing = cc in
+      rw (i, z, k, s, m)
+
+  entry-on : (o : Outcome Heard) → Whole o size → wordsOf x ≡ entryOf o size → not (eqb (x .size) 0) ≡ goesOn o
+  entry-on (refused n) h e =
+      let z = entry-size (refused n) e in
+      ⊎-elim (λ i. rw (z, eq-eqb n STREAM i, ne-eqb size 0 (λ j. omega (arith, h .1 i)))) (λ i. rw (z, ne-eqb n STREAM i)) (same-or-not n STREAM)
+  entry-on (accepted a) h e = rw (entry-size (accepted a) e, ne-eqb size 0 (λ j. omega arith))
+
+-- ---- the entry of the packet at the front, on a table that is well made
+
+module _ (t ws : List ℕ) (w : wellMade t ≡ true) where
+  entered-refused : (n size : ℕ) → stepOf t ws ≡ refused n → size ≡ when (eqb n STREAM) (sizeOf (getD ws 0 0))
+      → Entered t ws 0 (record { number = n; size = size; kind = 0; stream = 0; missing = 0 }) t
+  unfolding entryAt saidAt leftAt entryOf
+  entered-refused n size e i = record { entry = rw (play-step t ws w, e, i); table = rw (play-step t ws w, e) }
+
+  pub unread : (n : ℕ) → readOf ws ≡ refused n → Entered t ws 0 (record { number = n; size = 0; kind = 0; stream = 0; missing = 0 }) t
+  unread n e = entered-refused n 0 (rw (step-read, e)) (rw (ne-eqb n STREAM (λ i. omega (arith, read-number ws n e))))
+
+  -- of a packet that a check refused
+  pub entered-unread : (answer : Check) (n m : ℕ) (r : Entry) → answer ≡ Check.Refused n → m ≡ numberOf (checked answer) → readOf ws ≡ refused n
+      → r ≡ record { number = m; size = 0; kind = 0; stream = 0; missing = 0 } → Entered t ws 0 r t
+  entered-unread answer n m r f u e i = let k : m ≡ n = cc in rw (i, k) (unread n e)
+
+  -- of one that was read, with the header h: of no stream, and heard
+  module _ (h : ℕ) (p : Headed h ws) where
+    pub entered-unsought : (sought : Sought) (n m size : ℕ) (r : Entry) → soughtPaper sought ≡ soughtIn h ws t → sought ≡ Unknown n
+        → m ≡ numberOf (soughtPaper sought) → size ≡ sizeOf h → r ≡ record { number = m; size = size; kind = 0; stream = 0; missing = 0 } → Entered t ws 0 r t
+    entered-unsought sought n m size r e f u z i =
+        let k : m ≡ n = cc in
+        let g : soughtIn h ws t ≡ refused n = cc in
+        let j : n ≡ STREAM = sought-number (packetOf h ws .parts .kind) (packetOf h ws .parts .identifier) t n g in
+        rw (i, k) (entered-refused n size (rw (step-read, p .reads, g)) (rw (j, z, p .header)))
+
+    pub entered-heard : (s more : ℕ) (r : Entry) (left : List ℕ) → soughtIn h ws t ≡ accepted s → HeardAs h s ws t more left
+        → r ≡ record { number = 0; size = sizeOf h; kind = typeOf h; stream = s; missing = more } → Entered t ws 0 r left
+    unfolding entryAt saidAt leftAt entryOf heardOf packetOf partsOf
+    entered-heard s more r left f a i = record {
+      entry = rw (i, play-step t ws w, step-read, p .reads, f, a .adds, p .header);
+      table = rw (play-step t ws w, step-read, p .reads, f) (a .leaves);
+    }
+
+-- ---- the entry of the packet at a place
+
+module _ {t ws left : List ℕ} {at : ℕ} {x : Entry} where
+  -- it is that of the words from there on, and so of those that are lent
+  pub entered-rest : Entered t (drop at ws) 0 x left → Entered t ws at x left
+  unfolding entryAt saidAt leftAt
+  entered-rest y = record { entry = rw (first-word at ws) at (y .entry); table = y .table }
+
+  pub entered-lent : Entered t (take (length ws - at) (drop at ws)) 0 x left → Entered t ws at x left
+  entered-lent y = entered-rest (rw (rest-whole at ws) at y)
+
+-- its size has sixteen bits
+pub entered-small : {t ws left : List ℕ} {at : ℕ} {x : Entry} → Entered t ws at x left → x .size < 2 ^ 16
+unfolding entryAt
+entered-small {t} {ws} {left} {at} {x} y =
+    rw (entry-size (sizeOf (getD ws at 0)) x (saidAt t ws at) (y .entry)) (some-small (goesOn (saidAt t ws at)) (getD ws at 0))
+  where
+    some-small : (b : Bool) (w : ℕ) → when b (sizeOf w) < 2 ^ 16
+    some-small true w = mod-lt w (omega arith)
+    some-small false w = omega arith
+
+module _ {t ws left : List ℕ} {at : ℕ} {x : Entry} (w : wellMade t ≡ true) (y : Entered t ws at x left) where
+  pub said-by : saidBy x ≡ saidAt t ws at
+  unfolding entryAt
+  said-by = entry-said (sizeOf (getD ws at 0)) x (saidAt t ws at) (said-whole t ws at w) (y .entry)
+
+  pub size-next : at + x .size ≡ nextOf t ws at
+  unfolding entryAt nextOf
+  size-next = ap (λ (n : ℕ). at + n) (entry-size (sizeOf (getD ws at 0)) x (saidAt t ws at) (y .entry))
+
+  pub size-on : not (eqb (x .size) 0) ≡ goesOn (saidAt t ws at)
+  unfolding entryAt
+  size-on = entry-on (sizeOf (getD ws at 0)) x (saidAt t ws at) (said-whole t ws at w) (y .entry)
+
+-- ---- what play answers, by what the test of the table found, and what a step of a walk gives
+
+module _ (t ws : List ℕ) (made : Check) (e : checked made ≡ madeOf t) where
+  pub play-unmade : (n m : ℕ) → made ≡ Check.Refused n → m ≡ numberOf (checked made) → Meets paper (playOf t ws) t (Played.Refused m) t
+  unfolding playOf madeOf
+  play-unmade n m f i =
+      let k : firstGiven (tableList t) (accepted (tt {0})) ≡ refused n = cc in
+      let g : playOf t ws ≡ refused n = first-refused (tableList t) tt n _ k in
+      let j : m ≡ n = cc in
+      record { answer = rw (g, j); buffer = rw g }
+
+  pub play-made : (x : Entry) (r : Played) (left : List ℕ) → made ≡ Check.Fine → Entered t ws 0 x left → paper r ≡ saidBy x → Meets paper (playOf t ws) t r left
+  unfolding saidAt leftAt
+  play-made x r left f y i = record { answer = i ∙ said-by (made-well t (cc)) y; buffer = y .table }
+
+pub entered-stepped : (t ws left : List ℕ) (at : ℕ) (x : Entry) (answer : Played) → wellMade t ≡ true → Entered t ws at x left → paper answer ≡ saidBy x
+    → Stepped t ws at (record { answer = answer; on = not (eqb (x .size) 0); next = at + x .size }) left
+entered-stepped t ws left at x answer w y i = record { answer = i ∙ said-by w y; on = size-on w y; next = size-next w y; table = y .table }

@@ -1,5 +1,5 @@
--- What play keeps. The idea: an accepted packet replaces one record by a good one of the same identifier (`well-with`), so the table stays well made, its list
--- and the other records stay, and so do the words past the layout.
+-- What play keeps. The idea: an accepted packet replaces one record by a good one of the same identifier (`well-with`), so the table stays well made, with its
+-- list and the words past its layout.
 use mathlib.Core.Path.{_≡_, refl, sym, ap, _∙_}
 use mathlib.Core.Bool.{true}
 use mathlib.Core.Logic.{⊎-elim}
@@ -21,7 +21,7 @@ use Rattle.record.proofs.PacketLaws.{after-length, after-identifier, after-good
 use Rattle.table.specs.Layout.{streamsOf, base, Has, recordAt, withRecord}
 use Rattle.table.specs.Identifiers.{declared}
 use Rattle.table.specs.Well.{wellMade}
-use Rattle.table.proofs.RecordLaws.{record-length, record-identifier, with-length, record-with, record-with-other, streams-with, past-with}
+use Rattle.table.proofs.RecordLaws.{record-length, record-identifier, with-length, streams-with, past-with}
 use Rattle.table.proofs.WellLaws.{well-whole, well-record, layout-has, list-with, well-with}
 use Rattle.play.specs.declared.Heard.{Heard}
 use Rattle.play.specs.Play.{soughtOf, heardOf, tableAfter, tableList, stepOf, playOf}
@@ -87,31 +87,24 @@ module _ (t ws : List ℕ) (w : wellMade t ≡ true) (d : Done Heard (List ℕ))
   unfolding tableAfter
   leaves-is = sym (k .leaves)
 
-  pub taken-well : wellMade (d .leaves) ≡ true
+  taken-well : wellMade (d .leaves) ≡ true
   taken-well =
       ap wellMade leaves-is
       ∙ well-with s new t w below new-length new-identifier
       (after-good (p .parts .kind) (p .parts .count) body (recordAt s t) old-length fields-fine (count-small ws p (k .reads)) (well-record t w s below))
 
-  pub taken-length : length (d .leaves) ≡ length t
+  taken-length : length (d .leaves) ≡ length t
   taken-length = ap length leaves-is ∙ with-length s new t has-it new-length
 
   -- the list
-  pub taken-streams : streamsOf (d .leaves) ≡ streamsOf t
+  taken-streams : streamsOf (d .leaves) ≡ streamsOf t
   taken-streams = ap streamsOf leaves-is ∙ streams-with s new t has-it new-length
 
-  pub taken-list : (u : ℕ) → declared (d .leaves) u ≡ declared t u
+  taken-list : (u : ℕ) → declared (d .leaves) u ≡ declared t u
   taken-list u = ap (λ (x : List ℕ). declared x u) leaves-is ∙ list-with s new t w below new-length new-identifier u
 
-  -- its stream's record, and the others
-  pub taken-record : recordAt (k .stream) (d .leaves) ≡ recordAfter (k .packet .parts .kind) (k .packet .parts .count) (part (k .packet .body) (k .packet .length) ws) (recordAt (k .stream) t)
-  taken-record = ap (recordAt s) leaves-is ∙ record-with s new t has-it new-length
-
-  pub taken-other : (u : ℕ) → (u ≡ k .stream → ⊥) → recordAt u (d .leaves) ≡ recordAt u t
-  taken-other u n = ap (recordAt u) leaves-is ∙ record-with-other s new t has-it new-length u n
-
   -- the words past the layout
-  pub taken-past : drop (base (streamsOf t)) (d .leaves) ≡ drop (base (streamsOf t)) t
+  taken-past : drop (base (streamsOf t)) (d .leaves) ≡ drop (base (streamsOf t)) t
   taken-past = ap (drop (base (streamsOf t))) leaves-is ∙ past-with s new t has-it new-length (streamsOf t) below
 
 -- ---- play, whatever it answers
@@ -130,7 +123,13 @@ kept-by : (o : Outcome (Done Heard (List ℕ))) (t ws : List ℕ) → wellMade t
 kept-by (refused n) t ws w e = nothing-changed t
 kept-by (accepted d) t ws w e =
     let k = step-taken t ws d e in
-    record { well = λ _. taken-well t ws w d k; whole = taken-length t ws w d k; streams = taken-streams t ws w d k; list = taken-list t ws w d k; past = taken-past t ws w d k }
+    record {
+      well = λ _. taken-well t ws w d k;
+      whole = taken-length t ws w d k;
+      streams = taken-streams t ws w d k;
+      list = taken-list t ws w d k;
+      past = taken-past t ws w d k;
+    }
 
 pub step-keeps : (t ws : List ℕ) → wellMade t ≡ true → Kept t (leftOf (stepOf t ws) t)
 step-keeps t ws w = kept-by (stepOf t ws) t ws w refl
@@ -146,10 +145,3 @@ unfolding playOf
 play-taken t ws d e =
     let w = not-false (wellMade t) (first-passed (tableList t) _ d e .0 .0) in
     (w, step-taken t ws d (sym (play-step t ws w) ∙ e))
-
--- another stream's record is not touched
-pub play-other : (t ws : List ℕ) (d : Done Heard (List ℕ)) → playOf t ws ≡ accepted d → (u : ℕ) → (u ≡ d .says .stream → ⊥) → recordAt u (d .leaves) ≡ recordAt u t
-unfolding heardOf
-play-other t ws d e u n =
-    let k = play-taken t ws d e in
-    taken-other t ws (k .0) d (k .1) u (λ i. n (i ∙ ap (λ (h : Heard). h .stream) (k .1 .says)))

@@ -1,107 +1,53 @@
--- A run of packets. The idea: a step is play of the words from a place on (`stepped`); after n turns of the run the entries so far, then the walk that is left,
--- are the whole walk (`Running`), and a turn takes one packet of it (`running-turn`, `running-stop`).
+-- A run of packets. The idea: after n turns of the run the entries so far, then the walk that is left, are the whole walk (`Running`), and a turn takes one
+-- packet of it (`turned`, `stopped`). A run with room for one entry has that of the packet at its place, and EMPTY's where no word is left (`one-entered`).
 use mathlib.Core.Path.{_≡_, refl, sym, ap, _∙_}
-use mathlib.Core.Bool.{Bool, true, false, not}
+use mathlib.Core.Bool.{Bool, true, false}
 use mathlib.Core.Logic.{⊎-elim}
 use mathlib.Core.List.{List, [], _∷_, _++_, append-assoc, append-nil}
-use Prim.Native.Nat.{ℕ, zero, suc, _+_, _-_, _*_, _/_, _%_, _^_, _≤_, _<_}
-use native.Mathlib.Nat.{zero-add, add-zero, mod-lt}
+use Prim.Native.Nat.{ℕ, zero, suc, _+_, _-_, _*_, _/_, _≤_, _<_}
+use native.Mathlib.Nat.{zero-add, add-zero}
 use native.Mathlib.Omega.{arith}
 use borrow.Author.Tests.{ne-eqb, le-leb, lt-leb}
-use lib.Dec.{eqb}
 use lib.ListN.{length, take, drop, getD, set, length-append, length-drop}
 use lib.Seq.{drop-drop}
-use Rattle.words.specs.Tests.{pick, when}
+use Rattle.words.specs.declared.Check.{Check}
+use Rattle.words.specs.declared.Check.the-variants as Check
+use Rattle.words.specs.Numbers.{EMPTY}
+use Rattle.words.specs.Tests.{pick}
 use Rattle.words.specs.Part.{put}
-use Rattle.words.specs.Outcome.{Outcome, refused, accepted, Done, saidOf, leftOf, Meets}
+use Rattle.words.specs.Outcome.{Outcome, refused, accepted, numberOf, checked, Meets}
+use Rattle.words.specs.Refusals.{firstGiven}
 use Rattle.words.proofs.Cases.{le-or-lt}
 use Rattle.words.proofs.RefusalLaws.{first-refused}
 use Rattle.words.proofs.LaidLaws.{sets-all}
 use Rattle.words.proofs.PartLaws.{put-at, put-length}
-use Rattle.fields.proofs.PlaceLaws.{rest-whole, first-word}
+use Rattle.fields.proofs.WalkLaws.{none-left}
 use Rattle.packet.specs.Header.{sizeOf}
+use Rattle.packet.specs.Read.{readOf}
 use Rattle.table.specs.Layout.{base}
 use Rattle.table.specs.Well.{wellMade}
 use Rattle.play.specs.declared.Heard.{Heard}
-use Rattle.play.specs.declared.inner.Happened.{Happened}
-use Rattle.play.specs.declared.Played.{Played}
-use Rattle.play.specs.declared.Played.the-variants.{Accepted, Refused}
 use Rattle.play.specs.declared.run.Entry.{Entry}
 use Rattle.play.specs.declared.run.Reached.{Reached}
 use Rattle.play.specs.declared.run.Ran.the-variants as Ran
-use Rattle.play.specs.Play.{tableList, madeOf, stepOf, playOf, paper}
-use Rattle.play.specs.Run.{goesOn, saidAt, leftAt, nextOf, Stepped, entryWords, entryOf, entryAt, wordsOf, Walk, ended, before, walkOf, wholeWalk, reachedOf, answersOf, WalkDone, runOf, runPaper}
+use Rattle.play.specs.Play.{tableList, madeOf}
+use Rattle.play.specs.Run.{goesOn, saidAt, leftAt, nextOf, entryWords, entryOf, entryAt, wordsOf}
+use Rattle.play.specs.Run.{Walk, ended, before, walkOf, wholeWalk, reachedOf, answersOf, WalkDone, runOf, runPaper}
 use Rattle.play.specs.Entered.{Entered}
-use Rattle.play.proofs.PlayLaws.{made-well, play-step}
+use Rattle.play.proofs.PlayLaws.{made-well}
 use Rattle.play.proofs.KeepLaws.{Kept, nothing-changed, play-keeps}
-
--- ---- a step
-
-pub stepped : (t ws left : List ℕ) (at next : ℕ) (answer : Played) (on : Bool) → wellMade t ≡ true
-    → Meets paper (stepOf t (take (length ws - at) (drop at ws))) t answer left → on ≡ goesOn (paper answer) → next ≡ at + when on (getD ws at 0 % 2 ^ 16)
-    → Stepped t ws at (record { answer = answer; on = on; next = next }) left
-unfolding saidAt leftAt nextOf
-stepped t ws left at next answer on w m g n =
-    let o : playOf t (drop at ws) ≡ stepOf t (take (length ws - at) (drop at ws)) = play-step t (drop at ws) w ∙ ap (stepOf t) (sym (rest-whole at ws)) in
-    let a : paper answer ≡ saidOf (playOf t (drop at ws)) = m .answer ∙ ap saidOf (sym o) in
-    let h : on ≡ goesOn (saidOf (playOf t (drop at ws))) = g ∙ ap goesOn a in
-    record { answer = a; on = h; next = n ∙ ap (λ (b : Bool). at + when b (getD ws at 0 % 2 ^ 16)) h; table = m .buffer ∙ ap (λ (x : Outcome (Done Heard (List ℕ))). leftOf x t) (sym o) }
-
--- ---- a step that is given as an entry
-
-abbrev pub answerOf : Outcome Heard → Played
-answerOf (refused n) = Refused n
-answerOf (accepted h) = Accepted h
-
-answer-said : (o : Outcome Heard) → paper (answerOf o) ≡ o
-answer-said (refused n) = refl
-answer-said (accepted h) = refl
-
-pub rest-some : (at : ℕ) (ws : List ℕ) → at < length ws → 0 < length (take (length ws - at) (drop at ws))
-rest-some at ws h = omega (arith, ap length (rest-whole at ws), length-drop at ws)
-
-pub goes-on : (k : ℕ) → (k ≡ 0 → ⊥) → not (eqb k 0) ≡ true
-goes-on k n = rw (ne-eqb k 0 n)
-
-pub stops : (k : ℕ) → k ≡ 0 → not (eqb k 0) ≡ false
-stops k e = rw e
-
-module _ (t ws left : List ℕ) (at : ℕ) (x : Entry) (w : wellMade t ≡ true) (y : Entered t (take (length ws - at) (drop at ws)) x left) where
-  abbrev pub happened : Happened
-  happened = record { answer = answerOf (saidAt t ws at); on = not (eqb (x .size) 0); next = at + x .size }
-
-  played : stepOf t (take (length ws - at) (drop at ws)) ≡ playOf t (drop at ws)
-  played = ap (stepOf t) (rest-whole at ws) ∙ sym (play-step t (drop at ws) w)
-
-  said : saidOf (stepOf t (take (length ws - at) (drop at ws))) ≡ saidAt t ws at
-  unfolding saidAt
-  said = ap saidOf played
-
-  header : sizeOf (getD (take (length ws - at) (drop at ws)) 0 0) ≡ sizeOf (getD ws at 0)
-  header = ap sizeOf (ap (λ (l : List ℕ). getD l 0 0) (rest-whole at ws) ∙ first-word at ws)
-
-  pub entered-stepped : Stepped t ws at happened left
-  unfolding nextOf leftAt
-  entered-stepped = record {
-    answer = answer-said (saidAt t ws at);
-    on = y .on ∙ ap goesOn said;
-    next = ap (λ (n : ℕ). at + n) (y .next ∙ ap (λ (o : Outcome Heard). when (goesOn o) (sizeOf (getD (take (length ws - at) (drop at ws)) 0 0))) said ∙ ap (when (goesOn (saidAt t ws at))) header);
-    table = y .table ∙ ap (λ (o : Outcome (Done Heard (List ℕ))). leftOf o t) played;
-  }
-
-  pub entered-entry : wordsOf x ≡ entryOf (paper (answerOf (saidAt t ws at))) (getD ws at 0 % 2 ^ 16)
-  entered-entry = y .entry ∙ ap (λ (o : Outcome Heard). entryOf o (sizeOf (getD (take (length ws - at) (drop at ws)) 0 0))) (said ∙ sym (answer-said (saidAt t ws at)))
-      ∙ ap (entryOf (paper (answerOf (saidAt t ws at)))) header
+use Rattle.play.proofs.EntryLaws.{unread, entered-rest, entered-lent, size-next, size-on}
 
 -- ---- an entry
 
--- its size has sixteen bits
-pub entered-small : {t ws left : List ℕ} {x : Entry} → Entered t ws x left → x .size < 2 ^ 16
-entered-small {t} {ws} y = rw (y .next) (some-small (goesOn (saidOf (stepOf t ws))) (getD ws 0 0))
-  where
-    some-small : (b : Bool) (w : ℕ) → when b (sizeOf w) < 2 ^ 16
-    some-small true w = mod-lt w (omega arith)
-    some-small false w = omega arith
+entry-length : (o : Outcome Heard) (size : ℕ) → length (entryOf o size) ≡ entryWords
+unfolding entryOf
+entry-length (refused n) size = refl
+entry-length (accepted h) size = refl
+
+at-length : (t ws : List ℕ) (at : ℕ) → length (entryAt t ws at) ≡ entryWords
+unfolding entryAt
+at-length t ws at = entry-length (saidAt t ws at) (sizeOf (getD ws at 0))
 
 pub entry-stored : (ws : List ℕ) (a b c d e : ℕ) → length ws ≡ entryWords → set (set (set (set (set ws 0 a) 1 b) 2 c) 3 d) 4 e ≡ a ∷ b ∷ c ∷ d ∷ e ∷ []
 entry-stored ws a b c d e l = sets-all (a ∷ b ∷ c ∷ d ∷ e ∷ []) ws l
@@ -111,11 +57,6 @@ entry-stored ws a b c d e l = sets-all (a ∷ b ∷ c ∷ d ∷ e ∷ []) ws l
 -- n packets with their entries, then the walk that is left
 abbrev pub onto : ℕ → List ℕ → Walk → Walk
 onto n es w = record { packets = n + w .packets; next = w .next; table = w .table; entries = es ++ w .entries }
-
-entry-length : (o : Outcome Heard) (size : ℕ) → length (entryOf o size) ≡ entryWords
-unfolding entryOf
-entry-length (refused n) size = refl
-entry-length (accepted h) size = refl
 
 pub walk-zero : (ws : List ℕ) (at : ℕ) (t : List ℕ) → walkOf 0 ws at t ≡ ended at t
 unfolding walkOf
@@ -127,7 +68,8 @@ walk-over zero ws at t h = refl
 walk-over (suc n) ws at t h = rw (le-leb (length ws) at h)
 
 pub walk-more : (k n : ℕ) (ws : List ℕ) (at : ℕ) (t : List ℕ) → k ≡ suc n → at < length ws
-    → walkOf k ws at t ≡ before (entryAt t ws at) (pick (goesOn (saidAt t ws at)) (walkOf n ws (nextOf t ws at) (leftAt t ws at)) (ended (nextOf t ws at) (leftAt t ws at)))
+    → walkOf k ws at t
+    ≡ before (entryAt t ws at) (pick (goesOn (saidAt t ws at)) (walkOf n ws (nextOf t ws at) (leftAt t ws at)) (ended (nextOf t ws at) (leftAt t ws at)))
 unfolding walkOf
 walk-more k n ws at t e h = rw (e, lt-leb (length ws) at h)
 
@@ -151,7 +93,8 @@ pub record Running (most : ℕ) (ws : List ℕ) (from : ℕ) (t₀ buffer₀ t b
   pub wrote : buffer ≡ entries ++ drop (entryWords * n) buffer₀
   pub is : walkOf most ws from t₀ ≡ onto n entries rest
 
-pub running-start : (most : ℕ) (ws : List ℕ) (from : ℕ) (t buffer : List ℕ) → wellMade t ≡ true → Running most ws from t buffer t buffer 0 (walkOf (most - 0) ws from t)
+pub running-start : (most : ℕ) (ws : List ℕ) (from : ℕ) (t buffer : List ℕ) → wellMade t ≡ true
+    → Running most ws from t buffer t buffer 0 (walkOf (most - 0) ws from t)
 running-start most ws from t buffer w =
     let e : most ≡ most - 0 = omega arith in
     record {
@@ -173,62 +116,9 @@ module _ {most from at n : ℕ} {ws t₀ buffer₀ t buffer : List ℕ} (p : Run
   pub running-full : most ≤ n → Running most ws from t₀ buffer₀ t buffer n (ended at t)
   running-full h = let e : most - n ≡ 0 = omega arith in rw (e, walk-zero ws at t) at p
 
-  -- a packet more
-  module _ (less : n < most) (room : most ≡ length buffer₀ / entryWords) (there : at < length ws) (r : Happened) (left written entry : List ℕ) (s : Stepped t ws at r left)
-      (e : entry ≡ entryOf (paper (r .answer)) (getD ws at 0 % 2 ^ 16)) (w : written ≡ put (entryWords * n) entryWords entry buffer) where
-    entry-is : entry ≡ entryAt t ws at
-    unfolding entryAt
-    entry-is = e ∙ ap (λ (o : Outcome Heard). entryOf o (getD ws at 0 % 2 ^ 16)) (s .answer)
-
-    entry-five : length entry ≡ entryWords
-    entry-five = ap length e ∙ entry-length (paper (r .answer)) (getD ws at 0 % 2 ^ 16)
-
-    fits : entryWords * n + entryWords ≤ length buffer
-    fits = omega (arith, p .long)
-
-    kept : Kept t left
-    unfolding leftAt
-    kept = rw (s .table) (play-keeps t (drop at ws))
-
-    abbrev more : Walk
-    more = pick (goesOn (saidAt t ws at)) (walkOf (most - (n + 1)) ws (nextOf t ws at) (leftAt t ws at)) (ended (nextOf t ws at) (leftAt t ws at))
-
-    turn : Running most ws from t₀ buffer₀ left written (n + 1) more
-    turn =
-        let five : entryWords * n + entryWords ≡ entryWords * (n + 1) = omega arith in
-        let k : most - n ≡ suc (most - (n + 1)) = omega arith in
-        record {
-          few = omega arith;
-          well = kept .well (p .well);
-          same = kept .whole ∙ p .same;
-          long = ap length w ∙ put-length (entryWords * n) entryWords entry buffer fits entry-five ∙ p .long;
-          entries = p .entries ++ entry;
-          size = length-append (p .entries) entry ∙ omega (arith, p .size, entry-five);
-          wrote =
-              w ∙ ap (put (entryWords * n) entryWords entry) (p .wrote)
-              ∙ put-at (entryWords * n) entryWords (p .entries) (drop (entryWords * n) buffer₀) entry (p .size)
-              ∙ ap (λ (l : List ℕ). p .entries ++ (entry ++ l)) (drop-drop entryWords (entryWords * n) buffer₀ ∙ ap (λ (m : ℕ). drop m buffer₀) five)
-              ∙ sym (append-assoc (p .entries) entry (drop (entryWords * (n + 1)) buffer₀));
-          is =
-              p .is ∙ ap (onto n (p .entries)) (walk-more (most - n) (most - (n + 1)) ws at t k there)
-              ∙ onto-before n (p .entries) (entryAt t ws at) more
-              ∙ ap (λ (l : List ℕ). onto (n + 1) (p .entries ++ l) more) (sym entry-is);
-        }
-
-    -- the walk goes on, or stops behind it
-    pub running-turn : r .on ≡ true → Running most ws from t₀ buffer₀ left written (n + 1) (walkOf (most - (n + 1)) ws (r .next) left)
-    running-turn o =
-        let g : goesOn (saidAt t ws at) ≡ true = sym (s .on) ∙ o in
-        rw (s .next, s .table) (rw (s .table, g) at turn)
-
-    pub running-stop : r .on ≡ false → Running most ws from t₀ buffer₀ left written (n + 1) (ended (r .next) left)
-    running-stop o =
-        let g : goesOn (saidAt t ws at) ≡ false = sym (s .on) ∙ o in
-        rw (s .next, s .table) (rw (s .table, g) at turn)
-
 -- nothing is left
-pub running-end : {most from at n : ℕ} {ws t₀ buffer₀ t buffer : List ℕ} → Running most ws from t₀ buffer₀ t buffer n (ended at t) → most ≡ length buffer₀ / entryWords
-    → WalkDone (wholeWalk t₀ ws from buffer₀) buffer₀ (record { packets = n; next = at }) t buffer
+pub running-end : {most from at n : ℕ} {ws t₀ buffer₀ t buffer : List ℕ} → Running most ws from t₀ buffer₀ t buffer n (ended at t)
+    → most ≡ length buffer₀ / entryWords → WalkDone (wholeWalk t₀ ws from buffer₀) buffer₀ (record { packets = n; next = at }) t buffer
 unfolding wholeWalk
 running-end {most} {from} {at} {n} {ws} {t₀} {buffer₀} {t} {buffer} p room =
     let e : walkOf (length buffer₀ / entryWords) ws from t₀ ≡ record { packets = n; next = at; table = t; entries = p .entries } =
@@ -245,32 +135,107 @@ running-end {most} {from} {at} {n} {ws} {t₀} {buffer₀} {t} {buffer} p room =
 
 module _ (most from at n : ℕ) (ws t₀ buffer₀ t buffer : List ℕ) (p : Running most ws from t₀ buffer₀ t buffer n (walkOf (most - n) ws at t))
     (less : n < most) (room : most ≡ length buffer₀ / entryWords) (there : at < length ws) (x : Entry) (left written : List ℕ)
-    (y : Entered t (take (length ws - at) (drop at ws)) x left) (w : written ≡ put (entryWords * n) entryWords (wordsOf x) buffer) where
+    (y : Entered t (take (length ws - at) (drop at ws)) 0 x left) (w : written ≡ put (entryWords * n) entryWords (wordsOf x) buffer) where
+  entered : Entered t ws at x left
+  entered = entered-lent y
+
+  kept : Kept t left
+  unfolding leftAt
+  kept = rw (entered .table) (play-keeps t (drop at ws))
+
+  abbrev more : Walk
+  more = pick (goesOn (saidAt t ws at)) (walkOf (most - (n + 1)) ws (nextOf t ws at) (leftAt t ws at)) (ended (nextOf t ws at) (leftAt t ws at))
+
+  turn : Running most ws from t₀ buffer₀ left written (n + 1) more
+  turn =
+      let many : entryWords * n + entryWords ≡ entryWords * (n + 1) = omega arith in
+      let k : most - n ≡ suc (most - (n + 1)) = omega arith in
+      record {
+        few = omega arith;
+        well = kept .well (p .well);
+        same = kept .whole ∙ p .same;
+        long = ap length w ∙ put-length (entryWords * n) entryWords (wordsOf x) buffer (omega (arith, p .long)) refl ∙ p .long;
+        entries = p .entries ++ wordsOf x;
+        size = length-append (p .entries) (wordsOf x) ∙ omega (arith, p .size);
+        wrote =
+            w ∙ ap (put (entryWords * n) entryWords (wordsOf x)) (p .wrote)
+            ∙ put-at (entryWords * n) entryWords (p .entries) (drop (entryWords * n) buffer₀) (wordsOf x) (p .size)
+            ∙ ap (λ (l : List ℕ). p .entries ++ (wordsOf x ++ l)) (drop-drop entryWords (entryWords * n) buffer₀ ∙ ap (λ (m : ℕ). drop m buffer₀) many)
+            ∙ sym (append-assoc (p .entries) (wordsOf x) (drop (entryWords * (n + 1)) buffer₀));
+        is =
+            p .is ∙ ap (onto n (p .entries)) (walk-more (most - n) (most - (n + 1)) ws at t k there)
+            ∙ onto-before n (p .entries) (entryAt t ws at) more
+            ∙ ap (λ (l : List ℕ). onto (n + 1) (p .entries ++ l) more) (sym (entered .entry));
+      }
+
+  -- the walk goes on, or stops behind the packet
   pub turned : (x .size ≡ 0 → ⊥) → Running most ws from t₀ buffer₀ left written (n + 1) (walkOf (most - (n + 1)) ws (at + x .size) left)
-  turned g = running-turn p less room there _ _ _ _ (entered-stepped _ _ _ _ _ (p .well) y) (entered-entry _ _ _ _ _ (p .well) y) w (goes-on _ g)
+  turned z =
+      let g : goesOn (saidAt t ws at) ≡ true = sym (size-on (p .well) entered) ∙ rw (ne-eqb (x .size) 0 z) in
+      rw (size-next (p .well) entered, entered .table) (rw (entered .table, g) at turn)
 
   pub stopped : x .size ≡ 0 → Running most ws from t₀ buffer₀ left written (n + 1) (ended (at + x .size) left)
-  stopped g = running-stop p less room there _ _ _ _ (entered-stepped _ _ _ _ _ (p .well) y) (entered-entry _ _ _ _ _ (p .well) y) w (stops _ g)
+  stopped z =
+      let g : goesOn (saidAt t ws at) ≡ false = sym (size-on (p .well) entered) ∙ rw z in
+      rw (size-next (p .well) entered, entered .table) (rw (entered .table, g) at turn)
 
   pub stopped-same : x .size ≡ 0 → length left ≡ length t₀
-  stopped-same g = stopped g .same
+  stopped-same z = stopped z .same
 
   pub stopped-long : x .size ≡ 0 → length written ≡ length buffer₀
-  stopped-long g = stopped g .long
+  stopped-long z = stopped z .long
 
--- ---- the answers of a run
+-- ---- a run with room for one entry
 
-module _ (t ws : List ℕ) (from : ℕ) (answers : List ℕ) where
-  pub run-unmade : (n m : ℕ) → madeOf t ≡ refused n → m ≡ n → Meets runPaper (runOf t ws from answers) (t, answers) (Ran.Refused m) (t, answers)
+-- EMPTY's
+abbrev blank : List ℕ
+blank = EMPTY ∷ 0 ∷ 0 ∷ 0 ∷ 0 ∷ []
+
+module _ (t ws : List ℕ) (at : ℕ) where
+  one-ended : (g : Bool) (next : ℕ) (left : List ℕ) → pick g (walkOf 0 ws next left) (ended next left) ≡ ended next left
+  one-ended true next left = walk-zero ws next left
+  one-ended false next left = refl
+
+  walk-one : at < length ws → walkOf 1 ws at t ≡ before (entryAt t ws at) (ended (nextOf t ws at) (leftAt t ws at))
+  walk-one h = walk-more 1 0 ws at t refl h ∙ ap (before (entryAt t ws at)) (one-ended (goesOn (saidAt t ws at)) (nextOf t ws at) (leftAt t ws at))
+
+  module _ (x : Entry) (r : Reached) (left : List ℕ) (w : wellMade t ≡ true) where
+    one-over : length ws ≤ at → WalkDone (wholeWalk t ws at blank) blank r left (wordsOf x) → Entered t ws at x left
+    unfolding wholeWalk readOf
+    one-over h d =
+        let o = walk-over 1 ws at t h in
+        let e : drop at ws ≡ [] = none-left (drop at ws) (omega (arith, length-drop at ws)) in
+        let y : Entered t ws at (record { number = EMPTY; size = 0; kind = 0; stream = 0; missing = 0 }) t = entered-rest (rw e (unread t [] w EMPTY refl)) in
+        record { entry = d .answers ∙ rw o (y .entry); table = d .table ∙ rw o (y .table) }
+
+    one-more : at < length ws → WalkDone (wholeWalk t ws at blank) blank r left (wordsOf x) → Entered t ws at x left
+    unfolding wholeWalk
+    one-more h d =
+        let o = walk-one h in
+        record { entry = d .answers ∙ rw (o, append-nil (entryAt t ws at), at-length t ws at) (append-nil (entryAt t ws at)); table = d .table ∙ rw o }
+
+    pub one-entered : (written : List ℕ) → WalkDone (wholeWalk t ws at (EMPTY ∷ 0 ∷ 0 ∷ 0 ∷ 0 ∷ [])) (EMPTY ∷ 0 ∷ 0 ∷ 0 ∷ 0 ∷ []) r left written
+        → wordsOf x ≡ written → Entered t ws at x left
+    one-entered written d e = let d′ = rw (← e) at d in ⊎-elim (λ h. one-over h d′) (λ h. one-more h d′) (le-or-lt (length ws) at)
+
+-- ---- the answers of a run, by what the test of the table found
+
+module _ (t ws : List ℕ) (from : ℕ) (answers : List ℕ) (made : Check) (e : checked made ≡ madeOf t) where
+  pub run-unmade : (n m : ℕ) → made ≡ Check.Refused n → m ≡ numberOf (checked made)
+      → Meets runPaper (runOf t ws from answers) (t, answers) (Ran.Refused m) (t, answers)
   unfolding runOf madeOf
-  run-unmade n m e i =
-      let f : runOf t ws from answers ≡ refused n = first-refused (tableList t) tt n _ e in
-      record { answer = rw (f, i); buffer = rw f }
+  run-unmade n m f i =
+      let k : firstGiven (tableList t) (accepted (tt {0})) ≡ refused n = cc in
+      let g : runOf t ws from answers ≡ refused n = first-refused (tableList t) tt n _ k in
+      let j : m ≡ n = cc in
+      record { answer = rw (g, j); buffer = rw g }
 
-  pub run-made : (r : Reached) (left written : List ℕ) → madeOf t ≡ accepted tt → WalkDone (wholeWalk t ws from answers) answers r left written
+  pub run-made : (r : Reached) (left written : List ℕ) → made ≡ Check.Fine → WalkDone (wholeWalk t ws from answers) answers r left written
       → Meets runPaper (runOf t ws from answers) (t, answers) (Ran.Accepted r) (left, written)
   unfolding runOf
-  run-made r left written e d = let w = made-well t e in record { answer = rw (w, d .reached); buffer = rw (w, d .table, d .answers) }
+  run-made r left written f d =
+      let w : wellMade t ≡ true = made-well t (cc) in
+      record { answer = rw (w, d .reached); buffer = rw (w, d .table, d .answers) }
 
 -- ---- what a run keeps
 

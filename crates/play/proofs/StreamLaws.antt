@@ -3,7 +3,7 @@
 use mathlib.Core.Path.{_≡_, refl, sym, subst, _∙_}
 use mathlib.Core.Bool.{Bool, true, false, not}
 use mathlib.Core.List.{List, [], _∷_}
-use Prim.Native.Nat.{ℕ, _≤_, _<_}
+use Prim.Native.Nat.{ℕ, _+_, _≤_, _<_}
 use native.Mathlib.Omega.{arith}
 use borrow.Author.Tests.{ne-eqb, ltb-false, le-leb, lt-leb, leb-false}
 use lib.Dec.{eqb, leb, ltb}
@@ -20,26 +20,49 @@ use Rattle.packet.specs.Parts.{streamed, wordIf, requiredOf, bodyOf, partsOf, p
 use Rattle.packet.specs.Read.{headerList, headerChecks, bodyChecks, frontChecks}
 use Rattle.packet.proofs.ReadLaws.{sized, Passed, read-accepts}
 use Rattle.packet.proofs.FrontLaws.{body-accepted}
-use Rattle.table.specs.Layout.{streamsOf}
+use Rattle.table.specs.Layout.{streamsOf, base}
 use Rattle.table.specs.Identifiers.{declared, streamOf}
-use Rattle.table.proofs.ListLaws.{stream-found, stream-none}
-use Rattle.play.specs.Play.{streamList, soughtOf}
+use Rattle.table.specs.Well.{wellMade}
+use Rattle.table.proofs.ListLaws.{none-more, stream-found, stream-none}
+use Rattle.table.proofs.WellLaws.{well-whole, well-few, well-of}
+use Rattle.play.specs.declared.streams.Sought.{Sought}
+use Rattle.play.specs.declared.streams.Sought.the-variants.{At}
+use Rattle.play.specs.Play.{streamList, soughtOf, soughtPaper}
 use Rattle.play.specs.Entered.{declaredOf, Headed, soughtIn}
 
 -- ---- the stream of an identifier
 
-module _ (t : List ℕ) (identifier s n : ℕ) (e : n ≡ streamsOf t) (before : (i : ℕ) → i < s → eqb (declared t i) identifier ≡ false) where
-  pub declared-found : s < n → declared t s ≡ identifier → accepted s ≡ declaredOf identifier t
-  declared-found h i =
-      let f : s ≡ streamOf identifier t = stream-found t identifier s n e before h i in
-      let g : streamOf identifier t < streamsOf t = omega arith in
+-- streams 0 to s - 1 of the n have another identifier
+pub record Seeking (t : List ℕ) (identifier n s : ℕ) : Type 0 where
+  pub below : s < n
+  pub streams : n ≡ streamsOf t
+  pub others : (i : ℕ) → i < s → eqb (declared t i) identifier ≡ false
+
+pub seeking-start : (t : List ℕ) (identifier n : ℕ) → wellMade t ≡ true → n ≡ streamsOf t → Seeking t identifier n 0
+seeking-start t identifier n w e = record { below = omega (arith, well-of t w .list .some); streams = e; others = λ i h. absurd (omega arith) }
+
+module _ (t : List ℕ) (identifier n s at : ℕ) (p : Seeking t identifier n s) (e : at ≡ base s) where
+  pub seeking-inside : wellMade t ≡ true → at < length t
+  seeking-inside w = omega (arith, p .below, p .streams, well-whole t w)
+
+  pub seeking-found : getD t at 0 ≡ identifier → accepted s ≡ declaredOf identifier t
+  seeking-found i =
+      let f : s ≡ streamOf identifier t = stream-found t identifier s n (p .streams) (p .others) (p .below) (rw e at i) in
+      let g : streamOf identifier t < streamsOf t = omega (arith, p .below, p .streams) in
       rw (lt-leb (streamsOf t) (streamOf identifier t) g, f)
 
-  pub declared-none : s ≡ n → refused STREAM ≡ declaredOf identifier t
-  declared-none i =
-      let f : n ≡ streamOf identifier t = stream-none t identifier s n e before i in
-      let g : streamsOf t ≤ streamOf identifier t = omega arith in
-      rw (le-leb (streamsOf t) (streamOf identifier t) g)
+  module _ (o : getD t at 0 ≡ identifier → ⊥) where
+    others-too : (i : ℕ) → i < s + 1 → eqb (declared t i) identifier ≡ false
+    others-too = none-more t identifier s (p .others) (ne-eqb (declared t s) identifier (rw e at o))
+
+    pub seeking-turn : (s + 1 ≡ n → ⊥) → Seeking t identifier n (s + 1)
+    seeking-turn m = record { below = omega (arith, p .below); streams = p .streams; others = others-too }
+
+    pub seeking-none : s + 1 ≡ n → refused STREAM ≡ declaredOf identifier t
+    seeking-none m =
+        let f : n ≡ streamOf identifier t = stream-none t identifier (s + 1) n (p .streams) others-too m in
+        let g : streamsOf t ≤ streamOf identifier t = omega (arith, p .streams) in
+        rw (le-leb (streamsOf t) (streamOf identifier t) g)
 
 -- ---- the stream by the type
 
@@ -53,7 +76,8 @@ opposed : ℕ → Bool
 opposed k = pick (among k streamedKinds) (not (among k otherKinds)) (among k otherKinds)
 
 -- the types that have an identifier are all but 0 and 2
-sought-streamed : (kind identifier : ℕ) (t : List ℕ) → kind < 6 → pick (among kind streamedKinds) (declaredOf identifier t) (refused STREAM) ≡ soughtOf kind identifier t
+sought-streamed : (kind identifier : ℕ) (t : List ℕ) → kind < 6
+    → pick (among kind streamedKinds) (declaredOf identifier t) (refused STREAM) ≡ soughtOf kind identifier t
 unfolding opposed all soughtOf
 sought-streamed kind identifier t h =
     swapped (among kind streamedKinds) (among kind otherKinds) (leb (streamsOf t) (streamOf identifier t)) (refused STREAM) _ (all-at opposed 6 kind h refl)
@@ -82,7 +106,8 @@ dataLike : ℕ → Bool
 dataLike k = pick (eqb k 4) true (pick (among k otherKinds) true (among k (1 ∷ 3 ∷ 5 ∷ [])))
 
 -- a type other than 4 of which a stream is found
-sought-data : (kind identifier : ℕ) (t : List ℕ) (s : ℕ) → kind < 6 → (kind ≡ 4 → ⊥) → soughtOf kind identifier t ≡ accepted s → among kind (1 ∷ 3 ∷ 5 ∷ []) ≡ true
+sought-data : (kind identifier : ℕ) (t : List ℕ) (s : ℕ) → kind < 6 → (kind ≡ 4 → ⊥) → soughtOf kind identifier t ≡ accepted s
+    → among kind (1 ∷ 3 ∷ 5 ∷ []) ≡ true
 unfolding dataLike all soughtOf
 sought-data kind identifier t s h n e =
     let a = first-passed (streamList kind identifier t) _ s e .0 .0 in
@@ -91,7 +116,8 @@ sought-data kind identifier t s h n e =
 -- ---- an accepted packet, whose header is w
 
 -- words that pass both steps
-pub body-headed : (ws : List ℕ) → frontChecks ws ≡ accepted tt → bodyChecks (typeOf (getD ws 0 0)) (bodyOf (getD ws 0 0) ws) ≡ accepted tt → Headed (getD ws 0 0) ws
+pub body-headed : (ws : List ℕ) → frontChecks ws ≡ accepted tt → bodyChecks (typeOf (getD ws 0 0)) (bodyOf (getD ws 0 0) ws) ≡ accepted tt
+    → Headed (getD ws 0 0) ws
 body-headed ws f b = record { header = refl; reads = body-accepted ws f b }
 
 module _ (w : ℕ) (ws : List ℕ) (p : Headed w ws) where
@@ -99,8 +125,11 @@ module _ (w : ℕ) (ws : List ℕ) (p : Headed w ws) where
   headed-passed = rw (p .header) (read-accepts ws (packetOf w ws) (p .reads) .passes)
 
   -- its words are there
-  pub headed-sized : (requiredOf w ≤ sizeOf w) × (sizeOf w ≤ length ws)
-  headed-sized = sized w (length ws) (headed-passed .size)
+  pub headed-sized : requiredOf w ≤ sizeOf w
+  headed-sized = sized w (length ws) (headed-passed .size) .0
+
+  pub headed-whole : sizeOf w ≤ length ws
+  headed-whole = sized w (length ws) (headed-passed .size) .1
 
   headed-kind : typeOf w < 6
   unfolding headerChecks
@@ -115,10 +144,17 @@ module _ (w : ℕ) (ws : List ℕ) (p : Headed w ws) where
     unfolding streamed packetOf partsOf
     sought-in flag identifier o f i e = e ∙ rw (f, i) (sought-streamed (typeOf w) (wordIf (streamed w) 1 ws) t headed-kind)
 
-    pub found-below : (s : ℕ) → soughtIn w ws t ≡ accepted s → s < streamsOf t
-    found-below s f = sought-below (packetOf w ws .parts .kind) (packetOf w ws .parts .identifier) t s f
+    -- what `seek` found: stream s
+    module _ (sought : Sought) (s : ℕ) (e : soughtPaper sought ≡ soughtIn w ws t) (f : sought ≡ At s) where
+      pub found : soughtIn w ws t ≡ accepted s
+      found = cc
 
-    -- where it is found, and the type is not 4
-    pub found-data : (s : ℕ) → soughtIn w ws t ≡ accepted s → (typeOf w ≡ 4 → ⊥) → among (typeOf w) (1 ∷ 3 ∷ 5 ∷ []) ≡ true
-    unfolding packetOf partsOf
-    found-data s f n = sought-data (typeOf w) (packetOf w ws .parts .identifier) t s headed-kind n f
+      pub found-below : s < streamsOf t
+      found-below = sought-below (packetOf w ws .parts .kind) (packetOf w ws .parts .identifier) t s found
+
+      pub found-few : wellMade t ≡ true → s < 32
+      found-few v = omega (arith, found-below, well-few t v)
+
+      pub found-data : (typeOf w ≡ 4 → ⊥) → among (typeOf w) (1 ∷ 3 ∷ 5 ∷ []) ≡ true
+      unfolding packetOf partsOf
+      found-data n = sought-data (typeOf w) (packetOf w ws .parts .identifier) t s headed-kind n found

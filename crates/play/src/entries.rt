@@ -1,16 +1,16 @@
-// The entry of one packet, straight from its words. The front of a packet is checked first, and a body only of type 4: a data packet pays for no body. An entry
-// is plain numbers, with 0 for no refusal; an enum in its place would be kept in memory and cost a third more.
+// The entry of one packet, from its words: what play says of the packet, as plain numbers. The front of a packet is checked first, and a body only of type 4, so
+// that a data packet pays for no body. Data and Context packets have a function each, so that the compiler puts both in line where a run calls `enter`.
 ghost use mathlib.Core.Path.{_≡_};
 ghost use mathlib.Core.Bool.{true};
 ghost use Prim.Native.Nat.{_<_};
-ghost use lib.ListN.{length};
-ghost use Rattle.packet.specs.Header.{typeOf};
+ghost use Rattle.packet.specs.Header.{typeOf, sizeOf};
 ghost use Rattle.table.specs.Well.{wellMade};
-ghost use Rattle.play.specs.Entered.{Headed, Entered};
+ghost use Rattle.play.specs.Play.{paper};
+ghost use Rattle.play.specs.Entered.{Headed, Entered, saidBy};
 use crate::run::Entry;
 
-// A refusal's entry: its number, and the words that the walk goes on by.
-fn unheard(number: u32, size: usize) -> Entry
+// The entry of a refusal: its number, and the words that the walk goes on by.
+fn entry_refused(number: u32, size: usize) -> Entry
     ensures { λ r. ⌜ r ≡ record { number = number; size = size; kind = 0; stream = 0; missing = 0 } ⌝ }
 {
     Entry {
@@ -22,62 +22,83 @@ fn unheard(number: u32, size: usize) -> Entry
     }
 }
 
-// The entry of an accepted packet of a type other than 4.
-fn enter_data(table: &mut [u32], words: &[u32], w: u32) -> Entry
-    requires { ⌜ (wellMade (now table) ≡ true) × Headed w (now words) × (typeOf w ≡ 4 → ⊥) ⌝ }
-    ensures { λ r. ⌜ Entered (now (table .entry)) (now (words .entry)) r (now (table .exit)) ⌝ }
+// The entry of a packet with the header w that stream s has heard.
+fn entry_heard(w: u32, s: usize, missing: u32) -> Entry
+    requires { ⌜ s < 32 ⌝ }
+    ensures { λ r. ⌜ r ≡ record { number = 0; size = sizeOf w; kind = typeOf w; stream = s; missing = missing } ⌝ }
 {
-    let size = packet::inner::size_of(w);
-    let sought = crate::streams::seek(table, words, w);
-    let crate::streams::Sought::At(s) = sought else {
-        return unheard(crate::streams::unsought(sought), size);
-    };
-    let missing = crate::streams::hear_data(table, s, w);
     Entry {
         number: 0,
-        size,
+        size: packet::inner::size_of(w),
         kind: packet::inner::type_of(w),
         stream: s as u32,
         missing,
     }
 }
 
-// The entry of an accepted Context packet.
-fn enter_context(table: &mut [u32], words: &[u32], w: u32) -> Entry
-    requires { ⌜ (wellMade (now table) ≡ true) × Headed w (now words) × (typeOf w ≡ 4) ⌝ }
-    ensures { λ r. ⌜ Entered (now (table .entry)) (now (words .entry)) r (now (table .exit)) ⌝ }
+// The entry of an accepted packet of a type other than 4.
+fn enter_data(table: &mut [u32], given: &[u32], w: u32) -> Entry
+    requires { ⌜ (wellMade (now table) ≡ true) × Headed w (now given) × (typeOf w ≡ 4 → ⊥) ⌝ }
+    ensures { λ r. ⌜ Entered (now (table .entry)) (now (given .entry)) 0 r (now (table .exit)) ⌝ }
 {
-    let size = packet::inner::size_of(w);
-    let sought = crate::streams::seek(table, words, w);
+    let sought = crate::streams::seek(table, given, w);
     let crate::streams::Sought::At(s) = sought else {
-        return unheard(crate::streams::unsought(sought), size);
+        return entry_refused(
+            crate::streams::number_of_sought(sought),
+            packet::inner::size_of(w),
+        );
     };
-    let missing = crate::streams::hear_context(table, s, words, w);
-    Entry {
-        number: 0,
-        size,
-        kind: 4,
-        stream: s as u32,
-        missing,
-    }
+    let missing = crate::streams::hear_data(table, s, w);
+    entry_heard(w, s, missing)
+}
+
+// The entry of an accepted Context packet.
+fn enter_context(table: &mut [u32], given: &[u32], w: u32) -> Entry
+    requires { ⌜ (wellMade (now table) ≡ true) × Headed w (now given) × (typeOf w ≡ 4) ⌝ }
+    ensures { λ r. ⌜ Entered (now (table .entry)) (now (given .entry)) 0 r (now (table .exit)) ⌝ }
+{
+    let sought = crate::streams::seek(table, given, w);
+    let crate::streams::Sought::At(s) = sought else {
+        return entry_refused(
+            crate::streams::number_of_sought(sought),
+            packet::inner::size_of(w),
+        );
+    };
+    let missing = crate::streams::hear_context(table, s, given, w);
+    entry_heard(w, s, missing)
 }
 
 // Plays the packet at the front of the words on a table that is known to be well made, and gives its entry.
-pub fn enter(table: &mut [u32], words: &[u32]) -> Entry
-    requires { ⌜ (wellMade (now table) ≡ true) × (0 < length (now words)) ⌝ }
-    ensures { λ r. ⌜ Entered (now (table .entry)) (now (words .entry)) r (now (table .exit)) ⌝ }
+pub fn enter(table: &mut [u32], given: &[u32]) -> Entry
+    requires { ⌜ wellMade (now table) ≡ true ⌝ }
+    ensures { λ r. ⌜ Entered (now (table .entry)) (now (given .entry)) 0 r (now (table .exit)) ⌝ }
 {
-    let front = packet::inner::check_front(words);
+    let front = packet::inner::check_front(given);
     let words::Check::Fine = front else {
-        return unheard(crate::streams::unmade(front), 0);
+        return entry_refused(crate::streams::number_of_check(front), 0);
     };
-    let w = words[0];
+    let w = given[0];
     if packet::inner::type_of(w) != 4 {
-        return enter_data(table, words, w);
+        return enter_data(table, given, w);
     }
-    let body = packet::inner::check_context(w, words);
+    let body = packet::inner::check_context(w, given);
     let words::Check::Fine = body else {
-        return unheard(crate::streams::unmade(body), 0);
+        return entry_refused(crate::streams::number_of_check(body), 0);
     };
-    enter_context(table, words, w)
+    enter_context(table, given, w)
+}
+
+// What play answers, from an entry: the packet is heard where the number is 0.
+pub fn answer_of(e: Entry) -> crate::Played
+    ensures { λ r. ⌜ paper r ≡ saidBy e ⌝ }
+{
+    if e.number != 0 {
+        return crate::Played::Refused(e.number);
+    }
+    crate::Played::Accepted(crate::Heard {
+        size: e.size,
+        kind: e.kind,
+        stream: e.stream as usize,
+        missing: e.missing,
+    })
 }

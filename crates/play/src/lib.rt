@@ -6,11 +6,8 @@ mod streams;
 
 pub use run::Ran;
 pub use run::Reached;
-ghost use mathlib.Core.Path.{_≡_};
-ghost use mathlib.Core.Bool.{true};
 ghost use Rattle.words.specs.Outcome.{Meets};
-ghost use Rattle.table.specs.Well.{wellMade};
-ghost use Rattle.play.specs.Play.{stepOf, playOf, paper};
+ghost use Rattle.play.specs.Play.{playOf, paper};
 ghost use Rattle.play.specs.Run.{runOf, runPaper};
 
 // What play says of an accepted packet: its size in words, its type, its stream's number, and what it added to missing.
@@ -27,54 +24,27 @@ pub enum Played {
     Refused(u32),
 }
 
-// Plays the packet at the front of the words on a table that is known to be well made.
-fn play_on(table: &mut [u32], words: &[u32]) -> Played
-    requires { ⌜ wellMade (now table) ≡ true ⌝ }
-    ensures { λ r. ⌜ Meets paper (stepOf (now (table .entry)) (now (words .entry))) (now (table .entry)) r (now (table .exit)) ⌝ }
-{
-    let front = packet::inner::check_front(words);
-    let words::Check::Fine = front else {
-        return Played::Refused(streams::unmade(front));
-    };
-    let w = words[0];
-    let body = packet::inner::check_context(w, words);
-    let words::Check::Fine = body else {
-        return Played::Refused(streams::unmade(body));
-    };
-    let sought = streams::seek(table, words, w);
-    let streams::Sought::At(s) = sought else {
-        return Played::Refused(streams::unsought(sought));
-    };
-    let missing = streams::hear(table, s, words, w);
-    Played::Accepted(Heard {
-        size: packet::inner::size_of(w),
-        kind: packet::inner::type_of(w),
-        stream: s,
-        missing,
-    })
-}
-
 // Plays the packet at the front of the words: its type is counted in the record of its stream, and a Context packet's fields are held there. TABLE for a
 // table that is not well made, then what reading refuses, then STREAM. A refusal changes nothing; words past the table's layout are not looked at.
-pub fn play(table: &mut [u32], words: &[u32]) -> Played
-    ensures { λ r. ⌜ Meets paper (playOf (now (table .entry)) (now (words .entry))) (now (table .entry)) r (now (table .exit)) ⌝ }
+pub fn play(table: &mut [u32], given: &[u32]) -> Played
+    ensures { λ r. ⌜ Meets paper (playOf (now (table .entry)) (now (given .entry))) (now (table .entry)) r (now (table .exit)) ⌝ }
 {
-    let made = streams::made(table);
+    let made = streams::check_table(table);
     let words::Check::Fine = made else {
-        return Played::Refused(streams::unmade(made));
+        return Played::Refused(streams::number_of_check(made));
     };
-    play_on(table, words)
+    entries::answer_of(run::run_one(table, given, 0))
 }
 
 // Plays packets one after the other from a place of a recording on: until the words end, the answers are full, or a refusal other than STREAM. Of each packet
 // it writes five words into the answers: the refusal's number or 0, the words that the walk goes on by, type, stream and missing. The table is tested once;
 // TABLE where it is not well made, and then nothing is written.
-pub fn play_run(table: &mut [u32], words: &[u32], from: usize, answers: &mut [u32]) -> run::Ran
-    ensures { λ r. ⌜ Meets runPaper (runOf (now (table .entry)) (now (words .entry)) from (now (answers .entry))) (now (table .entry), now (answers .entry)) r (now (table .exit), now (answers .exit)) ⌝ }
+pub fn play_run(table: &mut [u32], recording: &[u32], from: usize, answers: &mut [u32]) -> run::Ran
+    ensures { λ r. ⌜ Meets runPaper (runOf (now (table .entry)) (now (recording .entry)) from (now (answers .entry))) (now (table .entry), now (answers .entry)) r (now (table .exit), now (answers .exit)) ⌝ }
 {
-    let made = streams::made(table);
+    let made = streams::check_table(table);
     let words::Check::Fine = made else {
-        return run::Ran::Refused(streams::unmade(made));
+        return run::Ran::Refused(streams::number_of_check(made));
     };
-    run::Ran::Accepted(run::run_on(table, words, from, answers))
+    run::Ran::Accepted(run::run_on(table, recording, from, answers))
 }

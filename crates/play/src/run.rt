@@ -1,4 +1,5 @@
-// A run of packets over a recording, with an entry of answers for each.
+// A run of packets over a recording, with an entry of answers for each. A packet by itself is a run with room for one entry, so that `enter` is called in one place
+// and the compiler puts it in line there: a call for each packet would cost a third more.
 ghost use mathlib.Core.Path.{_≡_};
 ghost use mathlib.Core.Bool.{true};
 ghost use Prim.Native.Nat.{_+_, _^_, _≤_, _<_};
@@ -6,11 +7,13 @@ ghost use lib.ListN.{length};
 ghost use Rattle.words.specs.Part.{put};
 ghost use Rattle.table.specs.Well.{wellMade};
 ghost use Rattle.play.specs.Run.{entryWords, wordsOf, wholeWalk, WalkDone};
+ghost use Rattle.play.specs.Entered.{Entered};
 
 // The words that are written of each packet.
 pub const ENTRY_WORDS: usize = 5;
 
-// An entry: the refusal's number or 0; the words that the walk goes on by; type, stream and missing, zero of a refusal.
+// An entry: the refusal's number or 0; the words that the walk goes on by; type, stream and missing, zero of a refusal. An enum in its place would be kept in
+// memory and cost a third more.
 pub struct Entry {
     pub number: u32,
     pub size: usize,
@@ -43,6 +46,19 @@ fn store(place: &mut [u32], e: Entry)
     place[4] = e.missing;
 }
 
+// The entry that words hold.
+fn load(entry: [u32; ENTRY_WORDS]) -> Entry
+    ensures { λ r. ⌜ wordsOf r ≡ entry ⌝ }
+{
+    Entry {
+        number: entry[0],
+        size: entry[1] as usize,
+        kind: entry[2],
+        stream: entry[3],
+        missing: entry[4],
+    }
+}
+
 // Stores an entry at a place of the answers.
 fn write_entry(answers: &mut [u32], at: usize, e: Entry)
     requires { ⌜ (at + entryWords ≤ length (now answers)) × (e .size < 2 ^ 16) ⌝ }
@@ -53,21 +69,21 @@ fn write_entry(answers: &mut [u32], at: usize, e: Entry)
 }
 
 // Plays packets one after the other on a table that is known to be well made.
-pub fn run_on(table: &mut [u32], words: &[u32], from: usize, answers: &mut [u32]) -> Reached
+pub fn run_on(table: &mut [u32], recording: &[u32], from: usize, answers: &mut [u32]) -> Reached
     requires { ⌜ wellMade (now table) ≡ true ⌝ }
-    ensures { λ r. ⌜ WalkDone (wholeWalk (now (table .entry)) (now (words .entry)) from (now (answers .entry))) (now (answers .entry)) r (now (table .exit)) (now (answers .exit)) ⌝ }
+    ensures { λ r. ⌜ WalkDone (wholeWalk (now (table .entry)) (now (recording .entry)) from (now (answers .entry))) (now (answers .entry)) r (now (table .exit)) (now (answers .exit)) ⌝ }
 {
     let most = answers.len() / ENTRY_WORDS;
     let mut at = from;
     let mut n = 0;
     while n < most {
-        if words.len() <= at {
+        if recording.len() <= at {
             return Reached {
                 packets: n,
                 next: at,
             };
         }
-        let e = crate::entries::enter(table, &words[at..]);
+        let e = crate::entries::enter(table, &recording[at..]);
         write_entry(answers, ENTRY_WORDS * n, e);
         n += 1;
         at += e.size;
@@ -82,4 +98,15 @@ pub fn run_on(table: &mut [u32], words: &[u32], from: usize, answers: &mut [u32]
         packets: n,
         next: at,
     }
+}
+
+// Plays the packet at a place of a recording on a table that is known to be well made, and gives its entry. The words begin as EMPTY's entry, and the run writes
+// over them where a word is left.
+pub fn run_one(table: &mut [u32], recording: &[u32], at: usize) -> Entry
+    requires { ⌜ wellMade (now table) ≡ true ⌝ }
+    ensures { λ r. ⌜ Entered (now (table .entry)) (now (recording .entry)) at r (now (table .exit)) ⌝ }
+{
+    let mut entry = [words::EMPTY, 0, 0, 0, 0];
+    run_on(table, recording, at, &mut entry);
+    load(entry)
 }

@@ -5,7 +5,7 @@ ghost use mathlib.Core.List.{[], _∷_};
 ghost use Prim.Native.Nat.{_<_};
 ghost use Rattle.words.specs.Numbers.{STREAM};
 ghost use Rattle.words.specs.Tests.{pick, among};
-ghost use Rattle.words.specs.Outcome.{numberOf, checked, refused, accepted};
+ghost use Rattle.words.specs.Outcome.{numberOf, checked, refused};
 ghost use Rattle.packet.specs.Header.{typeOf, countOf};
 ghost use Rattle.record.specs.After.{recordAfter, addedBy};
 ghost use Rattle.table.specs.Layout.{streamsOf, recordAt, withRecord};
@@ -19,8 +19,8 @@ pub enum Sought {
     Unknown(u32),
 }
 
-// The refusals of the answers that play takes apart; 0 of one that is accepted.
-pub fn unmade(answer: words::Check) -> u32
+// The number of the refusal that a check found, and 0 where it found none: `let .. else` does not bind what it refuses.
+pub fn number_of_check(answer: words::Check) -> u32
     ensures { λ r. ⌜ r ≡ numberOf (checked answer) ⌝ }
 {
     match answer {
@@ -29,7 +29,8 @@ pub fn unmade(answer: words::Check) -> u32
     }
 }
 
-pub fn unsought(answer: Sought) -> u32
+// The number of the refusal of a packet of no stream, and 0 where there is a stream.
+pub fn number_of_sought(answer: Sought) -> u32
     ensures { λ r. ⌜ r ≡ numberOf (soughtPaper answer) ⌝ }
 {
     match answer {
@@ -38,8 +39,8 @@ pub fn unsought(answer: Sought) -> u32
     }
 }
 
-// TABLE.
-pub fn made(table: &[u32]) -> words::Check
+// TABLE, of a table that is not well made.
+pub fn check_table(table: &[u32]) -> words::Check
     ensures { λ r. ⌜ checked r ≡ madeOf (now (table .entry)) ⌝ }
 {
     if table::well_made(table) {
@@ -56,7 +57,7 @@ fn seek_stream(table: &[u32], identifier: u32) -> Sought
     let n = table::inner::streams(table);
     let mut s = 0;
     loop {
-        if table[1 + record::inner::RECORD_WORDS * s] == identifier {
+        if table[table::inner::record_at(s)] == identifier {
             return Sought::At(s);
         }
         s += 1;
@@ -78,11 +79,11 @@ fn seek_streamed(table: &[u32], streamed: bool, identifier: u32) -> Sought
 }
 
 // The stream of an accepted packet; STREAM where the table has none for it.
-pub fn seek(table: &[u32], words: &[u32], w: u32) -> Sought
-    requires { ⌜ (wellMade (now table) ≡ true) × Headed w (now words) ⌝ }
-    ensures { λ r. ⌜ soughtPaper r ≡ soughtIn w (now (words .entry)) (now (table .entry)) ⌝ }
+pub fn seek(table: &[u32], given: &[u32], w: u32) -> Sought
+    requires { ⌜ (wellMade (now table) ≡ true) × Headed w (now given) ⌝ }
+    ensures { λ r. ⌜ soughtPaper r ≡ soughtIn w (now (given .entry)) (now (table .entry)) ⌝ }
 {
-    let identifier = packet::inner::identifier_of(w, words);
+    let identifier = packet::inner::identifier_of(w, given);
     seek_streamed(table, packet::inner::has_stream(w), identifier)
 }
 
@@ -93,31 +94,20 @@ pub fn hear_data(table: &mut [u32], s: usize, w: u32) -> u32
 {
     let kind = packet::inner::type_of(w);
     let count = packet::inner::count_of(w);
-    let first = 1 + record::inner::RECORD_WORDS * s;
+    let first = table::inner::record_at(s);
     let end = first + record::inner::RECORD_WORDS;
     record::inner::hear_data(&mut table[first..end], kind, count)
 }
 
 // Takes an accepted Context packet into the record of its stream. Gives the missing that it adds.
-pub fn hear_context(table: &mut [u32], s: usize, words: &[u32], w: u32) -> u32
-    requires { ⌜ (wellMade (now table) ≡ true) × (s < streamsOf (now table)) × Headed w (now words) × (typeOf w ≡ 4) ⌝ }
-    ensures { λ r. ⌜ HeardAs w s (now (words .entry)) (now (table .entry)) r (now (table .exit)) ⌝ }
+pub fn hear_context(table: &mut [u32], s: usize, given: &[u32], w: u32) -> u32
+    requires { ⌜ (wellMade (now table) ≡ true) × (s < streamsOf (now table)) × Headed w (now given) × (typeOf w ≡ 4) ⌝ }
+    ensures { λ r. ⌜ HeardAs w s (now (given .entry)) (now (table .entry)) r (now (table .exit)) ⌝ }
 {
     let count = packet::inner::count_of(w);
-    let at = 1 + record::inner::RECORD_WORDS * s;
+    let at = table::inner::record_at(s);
     let end = at + record::inner::RECORD_WORDS;
     let from = packet::inner::body_at(w);
     let to = packet::inner::body_end(w);
-    record::inner::hear_context(&mut table[at..end], count, &words[from..to])
-}
-
-// Takes an accepted packet into the record of its stream. Gives the missing that it adds.
-pub fn hear(table: &mut [u32], s: usize, words: &[u32], w: u32) -> u32
-    requires { ⌜ (wellMade (now table) ≡ true) × Headed w (now words) × (soughtIn w (now words) (now table) ≡ accepted s) ⌝ }
-    ensures { λ r. ⌜ HeardAs w s (now (words .entry)) (now (table .entry)) r (now (table .exit)) ⌝ }
-{
-    if packet::inner::type_of(w) == 4 {
-        return hear_context(table, s, words, w);
-    }
-    hear_data(table, s, w)
+    record::inner::hear_context(&mut table[at..end], count, &given[from..to])
 }

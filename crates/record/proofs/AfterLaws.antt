@@ -60,16 +60,18 @@ module _ (body : List ℕ) (ok : contextOf body ≡ accepted tt) where
   packet-inside b e =
       let o : holds b ≡ true = within-holds kept (masked-within (indicatorOf body)) b e in
       let l : 10 ≤ b = held-low b o in
-      omega (arith, field-inside b body (held-high b o) (carries b e) (context-fits body ok), words-fixed b (fromField b body) l, place-fixed b body (omega arith), ap sizesOf (masked-place (indicatorOf body) b (omega arith)))
+      let f = field-inside b body (held-high b o) (carries b e) (context-fits body ok) in
+      let same = ap sizesOf (masked-place (indicatorOf body) b (omega arith)) in
+      omega (arith, f, words-fixed b (fromField b body) l, place-fixed b body (omega arith), same)
 
   pub packet-fields : (slots : List ℕ) → refilled (bitAnd (indicatorOf body) heldMask) 1 body slots ≡ slotsAfter body slots
   unfolding refilled slotsAfter heldBits slotAfter holds
   packet-fields slots =
       in-order-same 31 heldMask _ _
       (λ b h e.
-      rw (masked-has (indicatorOf body) b e)
-      (ap (λ (ws : List ℕ). pick (has (indicatorOf body) b) ws (slotIn b slots))
-      (ap (λ (l : List ℕ). part (1 + sizesOf l) (sizeOf b) body) (masked-place (indicatorOf body) b (omega (arith, held-low b e))) ∙ sym (field-fixed b body (held-low b e)))))
+      let place = masked-place (indicatorOf body) b (omega (arith, held-low b e)) in
+      let field = ap (λ (l : List ℕ). part (1 + sizesOf l) (sizeOf b) body) place ∙ sym (field-fixed b body (held-low b e)) in
+      rw (masked-has (indicatorOf body) b e) (ap (λ (ws : List ℕ). pick (has (indicatorOf body) b) ws (slotIn b slots)) field))
 
   -- ---- the slots after a packet
 
@@ -97,19 +99,20 @@ body-some body e = omega (arith, context-fits body e .whole)
 
 -- ---- a record whose slots are lent
 
--- w is the body's indicator
-module _ (w : ℕ) (body r : List ℕ) (e : w ≡ indicatorOf body) (l : length r ≡ recordWords) (ok : contextOf body ≡ accepted tt) where
-  pub slots-asked : (length (take (recordWords - headWords) (drop headWords r)) ≡ slotWords) × (bitAnd (bitAnd w heldMask) heldMask ≡ bitAnd w heldMask) × Inside (bitAnd w heldMask) 1 body
-  slots-asked =
-      (rw (seen headWords recordWords slotWords r refl) (part-length headWords slotWords r (omega arith)), masked-within w, rw e (packet-inside body ok))
+module _ (body r : List ℕ) where
+  pub slots-long : length r ≡ recordWords → length (take (recordWords - headWords) (drop headWords r)) ≡ slotWords
+  slots-long l = rw (seen headWords recordWords slotWords r refl) (part-length headWords slotWords r (omega arith))
 
-  pub slots-lent : (last : List ℕ) → last ≡ refilled (bitAnd w heldMask) 1 body (take (recordWords - headWords) (drop headWords r))
-      → set (take headWords r ++ (last ++ drop (recordWords - headWords) (drop headWords r))) 1 (bitOr (heldOf r) (bitAnd w heldMask)) ≡ holdRecord body r
+  pub slots-lent : (last : List ℕ) → contextOf body ≡ accepted tt
+      → last ≡ refilled (bitAnd (indicatorOf body) heldMask) 1 body (take (recordWords - headWords) (drop headWords r))
+      → set (take headWords r ++ (last ++ drop (recordWords - headWords) (drop headWords r))) 1 (bitOr (heldOf r) (bitAnd (indicatorOf body) heldMask))
+      ≡ holdRecord body r
   unfolding holdRecord heldAfter slotsOf
-  slots-lent last f =
-      ap (λ (t : List ℕ). set t 1 (bitOr (heldOf r) (bitAnd w heldMask)))
-      (lent-to headWords recordWords slotWords (refilled (bitAnd w heldMask) 1 body) last r refl f)
-      ∙ rw e (ap (λ (s : List ℕ). set (put headWords slotWords s r) 1 (bitOr (heldOf r) (bitAnd (indicatorOf body) heldMask))) (packet-fields body ok (part headWords slotWords r)))
+  slots-lent last ok f =
+      let bits = bitAnd (indicatorOf body) heldMask in
+      let lent = lent-to headWords recordWords slotWords (refilled bits 1 body) last r refl f in
+      let fields = ap (λ (s : List ℕ). put headWords slotWords s r) (packet-fields body ok (part headWords slotWords r)) in
+      ap (λ (t : List ℕ). set t 1 (bitOr (heldOf r) bits)) (lent ∙ fields)
 
 -- ---- a record after a Context packet
 

@@ -25,18 +25,37 @@ unfolding part
 copied-one d s ws xs h g = rw (drop-cons ws s 0 (omega arith)) (set-put d (getD ws s 0) xs (omega arith))
 
 -- n words, and then m behind them
-pub copied-then : (d s n m : ℕ) (ws xs mid last : List ℕ) → d + (n + m) ≤ length xs → s + (n + m) ≤ length ws → mid ≡ put d n (part s n ws) xs
+pub copied-then : (n m d s : ℕ) (ws xs mid last : List ℕ) → d + (n + m) ≤ length xs → s + (n + m) ≤ length ws → mid ≡ put d n (part s n ws) xs
     → last ≡ put (d + n) m (part (s + n) m ws) mid → last ≡ put d (n + m) (part s (n + m) ws) xs
 unfolding part put
-copied-then d s n m ws xs mid last h g e f =
+copied-then n m d s ws xs mid last h g e f =
     let p : List ℕ = take d xs in
     let y : List ℕ = part s n ws in
     let z : List ℕ = part (s + n) m ws in
     let q : List ℕ = drop n (drop d xs) in
     let lp : length (p ++ y) ≡ d + n = simp (length-append, length-take-le d xs (omega arith), part-length s n ws (omega arith)) in
     let yz : y ++ z ≡ part s (n + m) ws = ap (λ (l : List ℕ). y ++ take m l) (sym (drop-drop n s ws)) ∙ sym (take-add n m (drop s ws)) in
+    let rest : drop m q ≡ drop (n + m) (drop d xs) = drop-drop m n (drop d xs) in
     f ∙ ap (put (d + n) m z) (e ∙ sym (append-assoc p y q)) ∙ put-at (d + n) m (p ++ y) q z lp ∙ append-assoc p y (z ++ drop m q)
-    ∙ ap (λ (l : List ℕ). p ++ l) (sym (append-assoc y z (drop m q)) ∙ ap (λ (l : List ℕ). l ++ drop m q) yz ∙ ap (λ (l : List ℕ). part s (n + m) ws ++ l) (drop-drop m n (drop d xs)))
+    ∙ ap (λ (l : List ℕ). p ++ l) (sym (append-assoc y z (drop m q)) ∙ rw (yz, rest))
+
+-- eleven words, in three pieces
+pub copied-eleven : (d s : ℕ) (ws xs eight ten last : List ℕ) → d + 11 ≤ length xs → s + 11 ≤ length ws → eight ≡ put d 8 (part s 8 ws) xs
+    → ten ≡ put (d + 8) 2 (part (s + 8) 2 ws) eight → last ≡ put (d + 10) 1 (part (s + 10) 1 ws) ten → last ≡ put d 11 (part s 11 ws) xs
+copied-eleven d s ws xs eight ten last h g e t l =
+    copied-then 10 1 d s ws xs ten last h g (copied-then 8 2 d s ws xs eight ten (omega arith) (omega arith) e t) l
+
+-- the n words of a field, of 1, 2, 11 or 13, as a program copies them
+module _ (n d s : ℕ) (ws xs last : List ℕ) where
+  pub copied-word : n ≡ 1 → last ≡ put d 1 (part s 1 ws) xs → last ≡ put d n (part s n ws) xs
+  copied-word i e = rw i e
+
+  pub copied-pair : n ≡ 2 → last ≡ put d 2 (part s 2 ws) xs → last ≡ put d n (part s n ws) xs
+  copied-pair i e = rw i e
+
+  pub copied-longer : (mid : List ℕ) → d + n ≤ length xs → s + n ≤ length ws → n ≡ 13 → mid ≡ put d 11 (part s 11 ws) xs
+      → last ≡ put (d + 11) 2 (part (s + 11) 2 ws) mid → last ≡ put d n (part s n ws) xs
+  copied-longer mid h g i e f = rw i (copied-then 11 2 d s ws xs mid last (omega arith) (omega arith) e f)
 
 -- ---- the sizes of fields that are held
 
@@ -66,3 +85,11 @@ size-long n t p q = ⊎-elim (λ (e : n ≡ 11). omega arith) (λ (e : n ≡ 13)
 
 pub size-eleven : (n : ℕ) → among n (1 ∷ 2 ∷ 11 ∷ 13 ∷ []) ≡ true → (n ≡ 1 → ⊥) → (n ≡ 2 → ⊥) → (n ≡ 13 → ⊥) → n ≡ 11
 size-eleven n t p q r = ⊎-elim (λ e. e) (λ e. absurd (r e)) (eleven-or-more n t p q)
+
+-- and so it lies inside, and is copied whole
+module _ (n d : ℕ) (t : among n (1 ∷ 2 ∷ 11 ∷ 13 ∷ []) ≡ true) (p : n ≡ 1 → ⊥) (q : n ≡ 2 → ⊥) where
+  pub long-inside : (xs : List ℕ) → d + n ≤ length xs → d + 11 ≤ length xs
+  long-inside xs h = omega (arith, size-long n t p q)
+
+  pub copied-long : (s : ℕ) (ws xs last : List ℕ) → (n ≡ 13 → ⊥) → last ≡ put d 11 (part s 11 ws) xs → last ≡ put d n (part s n ws) xs
+  copied-long s ws xs last r e = rw (size-eleven n t p q r) e

@@ -13,8 +13,8 @@ use Rattle.words.specs.Tests.{among}
 use Rattle.words.proofs.Cases.{true-or-false, true-is-false}
 use Rattle.words.proofs.LaidLaws.{sets-all}
 use Rattle.words.proofs.PartLaws.{seen, lent-to, part-length}
-use Rattle.record.specs.Layout.{recordWords, orderOf, countAt, countOf}
-use Rattle.record.specs.Counts.{missedOf, addedOf, countedOf, countRecord}
+use Rattle.record.specs.Layout.{recordWords, orderOf, countAt, countOf, lastOf}
+use Rattle.record.specs.Counts.{missedOf, addedOf, countedOf, countRecord, addedTo}
 
 -- ---- what a packet adds to missing
 
@@ -27,11 +27,6 @@ pub added-next : (last count r : ℕ) → (last ≡ 0 → ⊥) → last ≤ 16 �
 unfolding addedOf missedOf
 added-next last count r n h g f e = rw (ne-eqb last 0 n) (omega arith)
 
--- samples from the bench: last 14, then 2: missing 3; last 2, then 2: 15; the first packet: nothing
-pub added-samples : (addedOf 15 2 ≡ 3) × (addedOf 3 2 ≡ 15) × (addedOf 0 2 ≡ 0)
-unfolding addedOf missedOf
-added-samples = (refl, refl, refl)
-
 -- ---- the three words of a count
 
 pub count-stored : (ws : List ℕ) (count more seen missing : ℕ) → length ws ≡ 3 → more ≡ addedOf (getD ws 2 0) count
@@ -40,37 +35,52 @@ pub count-stored : (ws : List ℕ) (count more seen missing : ℕ) → length ws
 unfolding countedOf
 count-stored ws count more seen missing l e es em = sets-all (seen ∷ missing ∷ (count + 1) ∷ []) ws l ∙ rw (es, em, e)
 
--- ---- a record of which a count is lent
+-- ---- a record of which the count of order k is lent, from `at` on
 
-module _ (k count : ℕ) (r : List ℕ) (l : length r ≡ recordWords) (h : k < 4) where
-  pub count-seen : take (countAt k + 3 - countAt k) (drop (countAt k) r) ≡ countOf k r
+module _ (k at : ℕ) (r : List ℕ) (e : at ≡ countAt k) where
+  count-seen : take (at + 3 - at) (drop at r) ≡ countOf k r
   unfolding countOf
-  count-seen = seen (countAt k) (countAt k + 3) 3 r refl
+  count-seen = rw e (seen (countAt k) (countAt k + 3) 3 r refl)
 
-  pub count-three : length (take (countAt k + 3 - countAt k) (drop (countAt k) r)) ≡ 3
+  pub count-three : length r ≡ recordWords → k < 4 → length (take (at + 3 - at) (drop at r)) ≡ 3
   unfolding countOf
-  count-three = rw count-seen (part-length (countAt k) 3 r (omega arith))
+  count-three l h = rw count-seen (part-length (countAt k) 3 r (omega arith))
 
-  pub count-lent : (last : List ℕ) → last ≡ countedOf count (take (countAt k + 3 - countAt k) (drop (countAt k) r))
-      → take (countAt k) r ++ (last ++ drop (countAt k + 3 - countAt k) (drop (countAt k) r)) ≡ countRecord k count r
-  unfolding countRecord countOf
-  count-lent last e = lent-to (countAt k) (countAt k + 3) 3 (countedOf count) last r refl e
+  pub count-small : lastOf (countOf k r) ≤ 16 → lastOf (take (at + 3 - at) (drop at r)) ≤ 16
+  count-small h = rw count-seen h
+
+  module _ (count : ℕ) where
+    pub count-adds : (more : ℕ) → more ≡ addedOf (lastOf (take (at + 3 - at) (drop at r))) count → more ≡ addedTo k count r
+    unfolding addedTo
+    count-adds more m = rw count-seen at m
+
+    pub count-lent : (last : List ℕ) → last ≡ countedOf count (take (at + 3 - at) (drop at r))
+        → take at r ++ (last ++ drop (at + 3 - at) (drop at r)) ≡ countRecord k count r
+    unfolding countRecord countOf
+    count-lent last f = rw (← e) (lent-to at (at + 3) 3 (countedOf count) last r refl f)
 
 -- ---- the types other than 4 that are counted
 
 abbrev dataKinds : List ℕ
 dataKinds = 1 ∷ 3 ∷ 5 ∷ []
 
--- their order, by the square
-pub data-kind : (kind : ℕ) → among kind dataKinds ≡ true → (kind * kind ≤ 25) × (kind * kind / 8 ≡ orderOf kind)
-unfolding orderOf
-data-kind kind t =
-    ⊎-elim (λ x. let e : kind ≡ 1 = eqb-true kind 1 x in rw e (omega arith, refl))
+-- each of them is one of these numbers
+data-cases : (P : ℕ → Type 0) (kind : ℕ) → among kind dataKinds ≡ true → P 1 → P 3 → P 5 → P kind
+data-cases P kind t one three five =
+    ⊎-elim (λ x. rw (eqb-true kind 1 x) one)
     (λ (x : eqb kind 1 ≡ false).
-    ⊎-elim (λ y. let e : kind ≡ 3 = eqb-true kind 3 y in rw e (omega arith, refl))
+    ⊎-elim (λ y. rw (eqb-true kind 3 y) three)
     (λ (y : eqb kind 3 ≡ false).
-    ⊎-elim (λ z. let e : kind ≡ 5 = eqb-true kind 5 z in rw e (omega arith, refl))
-    (λ (z : eqb kind 5 ≡ false). absurd (true-is-false (sym t ∙ rw (x, y, z)))) (true-or-false (eqb kind 5))) (true-or-false (eqb kind 3))) (true-or-false (eqb kind 1))
+    ⊎-elim (λ z. rw (eqb-true kind 5 z) five) (λ (z : eqb kind 5 ≡ false). absurd (true-is-false (sym t ∙ rw (x, y, z)))) (true-or-false (eqb kind 5)))
+    (true-or-false (eqb kind 3))) (true-or-false (eqb kind 1))
+
+-- their order, by the square
+pub data-square : (kind : ℕ) → among kind dataKinds ≡ true → kind * kind ≤ 25
+data-square kind t = data-cases (λ n. n * n ≤ 25) kind t (omega arith) (omega arith) (omega arith)
+
+pub data-order : (kind : ℕ) → among kind dataKinds ≡ true → kind * kind / 8 ≡ orderOf kind
+unfolding orderOf
+data-order kind t = data-cases (λ n. n * n / 8 ≡ orderOf n) kind t refl refl refl
 
 pub data-not : (kind : ℕ) → among kind dataKinds ≡ true → kind ≡ 4 → ⊥
 data-not kind t e = true-is-false (sym t ∙ rw e)

@@ -1,13 +1,13 @@
 -- When a record is good. The idea: the tests of specs/Good.antt say what `Good` says in facts (`good-of`, `of-good`); a count and the fields of an accepted
 -- packet keep each of these facts, so a good record stays good.
 use mathlib.Core.Path.{_≡_, refl, sym, ap, _∙_}
-use mathlib.Core.Bool.{Bool, true, false}
+use mathlib.Core.Bool.{Bool, true, false, not}
 use mathlib.Core.Logic.{⊎-elim}
 use mathlib.Core.List.{List, [], _∷_}
-use Prim.Native.Nat.{ℕ, zero, suc, _+_, _-_, _%_, _^_, _≤_, _<_}
+use Prim.Native.Nat.{ℕ, zero, suc, _+_, _-_, _/_, _%_, _^_, _≤_, _<_}
 use native.Mathlib.Nat.{add-zero, add-suc, add-assoc, zero-div, lt-of-le-of-lt}
 use native.Mathlib.Omega.{arith}
-use borrow.Author.Tests.{eq-eqb, ne-eqb, le-leb, eqb-true, leb-true}
+use borrow.Author.Tests.{eq-eqb, ne-eqb, le-leb, eqb-true, leb-true, not-true, not-false}
 use lib.Bits.{bitAnd, and-le-r, and-le-l, or-lt}
 use lib.Dec.{eqb}
 use lib.ListN.{length, take, drop, getD, replicate, length-replicate}
@@ -18,7 +18,7 @@ use Rattle.words.specs.Part.{part}
 use Rattle.words.specs.All.{all}
 use Rattle.words.specs.Outcome.{accepted}
 use Rattle.words.proofs.Cases.{true-or-false, same-or-not, both-left, both-right, both-true, both-yes, both-assoc, pick-true, true-is-false}
-use Rattle.words.proofs.AllLaws.{all-at, all-intro, all-same}
+use Rattle.words.proofs.AllLaws.{all-none, all-more, all-end, all-fails, all-at, all-intro, all-same}
 use Rattle.words.proofs.BitLaws.{has-and, word-same}
 use Rattle.words.proofs.PartLaws.{seen, getD-part, part-part, part-length, part-whole}
 use Rattle.fields.specs.Sizes.{sizeOf}
@@ -32,7 +32,7 @@ use Rattle.record.specs.Counts.{countedOf, countRecord}
 use Rattle.record.specs.After.{slotAfter, heldAfter, holdRecord}
 use Rattle.record.specs.Good.{zeros, countGood, countGoodAt, heldGood, slotGood, recordGood, GoodCount, Good}
 use Rattle.record.proofs.SlotLaws.{held-small, held-not, held-low, held-high}
-use Rattle.record.proofs.CopyLaws.{size-held}
+use Rattle.record.proofs.CopyLaws.{size-held, size-eleven}
 use Rattle.record.proofs.HoldLaws.{slot-inside, within-holds}
 use Rattle.record.proofs.AfterLaws.{hold-slot, hold-held, hold-count, held-bit, count-count, count-other, count-slot, count-held}
 
@@ -49,12 +49,55 @@ counts-at r k = rw (count-word k 0 r (omega arith), count-word k 1 r (omega arit
 pub last-at : (r : List ℕ) → lastOf (countOf 2 r) ≡ getD r 10 0
 last-at r = count-word 2 2 r (omega arith)
 
+-- ---- a loop that tests f at each number below n: those below i pass
+
+pub record Passing (n : ℕ) (f : ℕ → Bool) (i : ℕ) : Type 0 where
+  pub most : i ≤ n
+  pub before : all i f ≡ true
+
+pub passing-start : (n : ℕ) (f : ℕ → Bool) → Passing n f 0
+passing-start n f = record { most = omega arith; before = all-none f }
+
+module _ {n i : ℕ} {f : ℕ → Bool} (p : Passing n f i) where
+  pub passing-end : n ≤ i → true ≡ all n f
+  passing-end h = sym (all-end f n i (omega (arith, p .most)) (p .before))
+
+  module _ (h : i < n) (t : Bool) (e : t ≡ f i) where
+    pub passing-fails : not t ≡ true → false ≡ all n f
+    passing-fails o = sym (all-fails f n i h (sym e ∙ not-true t o))
+
+    pub passing-turn : not t ≡ false → Passing n f (i + 1)
+    passing-turn o = record { most = omega arith; before = all-more f i (p .before) (sym e ∙ not-false t o) }
+
+-- the counts of a record, each where it begins
+module _ (r : List ℕ) (k : ℕ) (p : Passing 4 (countGoodAt r) k) (h : k < 4) (at : ℕ) (e : at ≡ countAt k) (t : Bool)
+    (c : t ≡ countGood (getD r at 0) (getD r (at + 1) 0) (getD r (at + 2) 0)) where
+  count-tested : t ≡ countGoodAt r k
+  count-tested = c ∙ rw e (sym (counts-at r k))
+
+  pub counts-fail : not t ≡ true → false ≡ all 4 (countGoodAt r)
+  counts-fail o = passing-fails p h t count-tested o
+
+  pub counts-turn : not t ≡ false → Passing 4 (countGoodAt r) (k + 1)
+  counts-turn o = passing-turn p h t count-tested o
+
+-- the held indicator, by the count of type 4
+module _ (r : List ℕ) (at : ℕ) (e : at ≡ countAt 2) (t : Bool) (h : t ≡ heldGood (heldOf r) (getD r (at + 2) 0)) where
+  held-tested : t ≡ heldGood (heldOf r) (lastOf (countOf 2 r))
+  held-tested = h ∙ rw (e, last-at r)
+
+  pub head-ill : not t ≡ true → false ≡ both (heldGood (heldOf r) (lastOf (countOf 2 r))) (all 4 (countGoodAt r))
+  head-ill o = rw (← held-tested, not-true t o)
+
+  pub head-counts : (s : Bool) → not t ≡ false → s ≡ all 4 (countGoodAt r) → s ≡ both (heldGood (heldOf r) (lastOf (countOf 2 r))) (all 4 (countGoodAt r))
+  head-counts s o f = rw (← held-tested, not-false t o) f
+
 -- ---- the slot of a bit, as a program tests it: it stands from `at` on among the slots and has n words
 
 -- the slots of bits below 10 are not looked at
-pub slots-skipped : (r : List ℕ) → all 10 (slotGood r) ≡ true
+pub slots-start : (r : List ℕ) → Passing 31 (slotGood r) 10
 unfolding slotGood
-slots-skipped r = all-intro (slotGood r) 10 (λ b h. rw (held-not b h))
+slots-start r = record { most = omega arith; before = all-intro (slotGood r) 10 (λ b h. rw (held-not b h)) }
 
 pub slot-length : (b : ℕ) (r : List ℕ) → length r ≡ recordWords → holds b ≡ true → length (slotOf b r) ≡ sizeOf b
 unfolding slotOf slotIn slotsOf
@@ -82,40 +125,74 @@ module _ (r : List ℕ) (b at n : ℕ) (l : length r ≡ recordWords) (o : holds
   pub slot-few : among (length (take (headWords + at + n - (headWords + at)) (drop (headWords + at) r))) (1 ∷ 2 ∷ 11 ∷ 13 ∷ []) ≡ true
   slot-few = size-held b _ o (ap length slot-seen ∙ slot-length b r l o)
 
-  pub slot-ruled : (t : Bool) → has (heldOf r) b ≡ true → t ≡ ruleOf b (take (headWords + at + n - (headWords + at)) (drop (headWords + at) r)) → t ≡ slotGood r b
-  unfolding slotGood
-  slot-ruled t h e = rw (o, h) (e ∙ ap (ruleOf b) slot-seen)
+  -- it is held, or not
+  module _ (t : Bool) where
+    pub slot-ruled : heldOf r / 2 ^ b % 2 ≡ 1 → t ≡ ruleOf b (take (headWords + at + n - (headWords + at)) (drop (headWords + at) r)) → t ≡ slotGood r b
+    unfolding slotGood
+    slot-ruled h e = rw (o, eq-eqb (heldOf r / 2 ^ b % 2) 1 h) (e ∙ ap (ruleOf b) slot-seen)
 
-  pub slot-zeroed : (t : Bool) → has (heldOf r) b ≡ false → t ≡ zeros (take (headWords + at + n - (headWords + at)) (drop (headWords + at) r)) → t ≡ slotGood r b
-  unfolding slotGood
-  slot-zeroed t h e = rw (o, h) (e ∙ ap zeros slot-seen)
+    pub slot-zeroed : (heldOf r / 2 ^ b % 2 ≡ 1 → ⊥) → t ≡ zeros (take (headWords + at + n - (headWords + at)) (drop (headWords + at) r)) → t ≡ slotGood r b
+    unfolding slotGood
+    slot-zeroed h e = rw (o, ne-eqb (heldOf r / 2 ^ b % 2) 1 h) (e ∙ ap zeros slot-seen)
 
 -- ---- words that are zero, piece by piece
 
 all-join : (f : ℕ → Bool) (n m : ℕ) → both (all n f) (all m (λ i. f (n + i))) ≡ all (n + m) f
 unfolding all
 all-join f n zero = both-yes (all n f) ∙ ap (λ (k : ℕ). all k f) (sym (add-zero n))
-all-join f n (suc m) = sym (both-assoc (all n f) (all m (λ i. f (n + i))) (f (n + m))) ∙ ap (λ (t : Bool). both t (f (n + m))) (all-join f n m) ∙ ap (λ (k : ℕ). all k f) (sym (add-suc n m))
+all-join f n (suc m) =
+    sym (both-assoc (all n f) (all m (λ i. f (n + i))) (f (n + m)))
+    ∙ ap (λ (t : Bool). both t (f (n + m))) (all-join f n m) ∙ ap (λ (k : ℕ). all k f) (sym (add-suc n m))
 
 zeros-part : (a n : ℕ) (ws : List ℕ) → a + n ≤ length ws → zeros (part a n ws) ≡ all n (λ i. eqb (getD ws (a + i) 0) 0)
 unfolding zeros
 zeros-part a n ws h = rw (part-length a n ws h) (all-same _ _ n (λ i g. ap (λ (x : ℕ). eqb x 0) (getD-part a n i ws g)))
 
 -- one word
-pub zeros-one : (a : ℕ) (ws : List ℕ) → a + 1 ≤ length ws → eqb (getD ws a 0) 0 ≡ zeros (part a 1 ws)
+zeros-one : (a : ℕ) (ws : List ℕ) → a + 1 ≤ length ws → eqb (getD ws a 0) 0 ≡ zeros (part a 1 ws)
 unfolding all
 zeros-one a ws h = ap (λ (i : ℕ). eqb (getD ws i 0) 0) (sym (add-zero a)) ∙ sym (zeros-part a 1 ws h)
 
 -- n words, and m behind them
-pub zeros-then : (a n m : ℕ) (ws : List ℕ) (s t : Bool) → a + (n + m) ≤ length ws → s ≡ zeros (part a n ws) → t ≡ zeros (part (a + n) m ws) → both s t ≡ zeros (part a (n + m) ws)
-zeros-then a n m ws s t h e f =
+zeros-then : (n m a : ℕ) (ws : List ℕ) (s t : Bool) → a + (n + m) ≤ length ws → s ≡ zeros (part a n ws) → t ≡ zeros (part (a + n) m ws)
+    → both s t ≡ zeros (part a (n + m) ws)
+zeros-then n m a ws s t h e f =
     rw (e, f, zeros-part a n ws (omega arith), zeros-part (a + n) m ws (omega arith))
     (ap (both (all n (λ i. eqb (getD ws (a + i) 0) 0))) (all-same _ _ m (λ i g. ap (λ (k : ℕ). eqb (getD ws k 0) 0) (add-assoc a n i)))
     ∙ all-join (λ i. eqb (getD ws (a + i) 0) 0) n m ∙ sym (zeros-part a (n + m) ws h))
 
--- all words
-pub zeros-all : (n : ℕ) (ws : List ℕ) (t : Bool) → length ws ≡ n → t ≡ zeros (part 0 n ws) → t ≡ zeros ws
-zeros-all n ws t l e = e ∙ ap zeros (rw l at (part-whole ws))
+-- two words, four and eleven, as a program joins them
+module _ (a : ℕ) (ws : List ℕ) (r : Bool) where
+  pub zeros-two : a + 2 ≤ length ws → r ≡ both (eqb (getD ws a 0) 0) (eqb (getD ws (a + 1) 0) 0) → r ≡ zeros (part a 2 ws)
+  zeros-two h e = e ∙ zeros-then 1 1 a ws _ _ h (zeros-one a ws (omega arith)) (zeros-one (a + 1) ws (omega arith))
+
+  pub zeros-four : (s t : Bool) → a + 4 ≤ length ws → s ≡ zeros (part a 2 ws) → t ≡ zeros (part (a + 2) 2 ws) → r ≡ both s t → r ≡ zeros (part a 4 ws)
+  zeros-four s t h f g e = e ∙ zeros-then 2 2 a ws s t h f g
+
+pub zeros-eleven : (ws : List ℕ) (four more eight two ten r : Bool) → 11 ≤ length ws → four ≡ zeros (part 0 4 ws) → more ≡ zeros (part 4 4 ws)
+    → two ≡ zeros (part 8 2 ws) → eight ≡ both four more → ten ≡ both eight two → r ≡ both ten (eqb (getD ws 10 0) 0) → r ≡ zeros (part 0 11 ws)
+zeros-eleven ws four more eight two ten r h f m t e g i =
+    let eighth = e ∙ zeros-then 4 4 0 ws four more (omega arith) f m in
+    let tenth = g ∙ zeros-then 8 2 0 ws eight two (omega arith) eighth t in
+    i ∙ zeros-then 10 1 0 ws ten _ h tenth (zeros-one 10 ws h)
+
+-- all words of a slot, of 1, 2, 11 or 13
+module _ (ws : List ℕ) (t : Bool) where
+  zeros-all : (n : ℕ) → length ws ≡ n → t ≡ zeros (part 0 n ws) → t ≡ zeros ws
+  zeros-all n l e = e ∙ ap zeros (rw l at (part-whole ws))
+
+  pub one-zero : length ws ≡ 1 → t ≡ eqb (getD ws 0 0) 0 → t ≡ zeros ws
+  one-zero l e = zeros-all 1 l (e ∙ zeros-one 0 ws (omega arith))
+
+  pub pair-zero : length ws ≡ 2 → t ≡ zeros (part 0 2 ws) → t ≡ zeros ws
+  pair-zero l e = zeros-all 2 l e
+
+  pub longer-zero : (eleven two : Bool) → length ws ≡ 13 → eleven ≡ zeros (part 0 11 ws) → two ≡ zeros (part 11 2 ws) → t ≡ both eleven two → t ≡ zeros ws
+  longer-zero eleven two l e f i = zeros-all 13 l (i ∙ zeros-then 11 2 0 ws eleven two (omega arith) e f)
+
+  pub long-zero : among (length ws) (1 ∷ 2 ∷ 11 ∷ 13 ∷ []) ≡ true → (length ws ≡ 1 → ⊥) → (length ws ≡ 2 → ⊥) → (length ws ≡ 13 → ⊥)
+      → t ≡ zeros (part 0 11 ws) → t ≡ zeros ws
+  long-zero a p q r e = zeros-all 11 (size-eleven (length ws) a p q r) e
 
 -- ---- the tests as facts
 
@@ -142,7 +219,9 @@ count-facts seen missing last e =
     ⊎-elim
     (λ (z : last ≡ 0).
     let f : both (eqb seen 0) (eqb missing 0) ≡ true = rw (eq-eqb last 0 z) at e in
-    record { unstarted = λ _. (eqb-true seen 0 (both-left (eqb seen 0) (eqb missing 0) f), eqb-true missing 0 (both-right (eqb seen 0) (eqb missing 0) f)); most = omega arith })
+    let zero-seen = eqb-true seen 0 (both-left (eqb seen 0) (eqb missing 0) f) in
+    let zero-missing = eqb-true missing 0 (both-right (eqb seen 0) (eqb missing 0) f) in
+    record { unstarted = λ _. (zero-seen, zero-missing); most = omega arith })
     (λ (n : last ≡ 0 → ⊥). record { unstarted = λ z. absurd (n z); most = leb-true last 16 (rw (ne-eqb last 0 n) at e) })
     (same-or-not last 0)
 
@@ -202,9 +281,13 @@ of-good r g =
     (both-true _ _ (eq-eqb _ _ (within-mask (heldOf r) (g .small) (g .bits)))
     (pick-true (eqb (lastOf (countOf 2 r)) 0) (eqb (heldOf r) 0) (λ z. eq-eqb (heldOf r) 0 (g .started (eqb-true (lastOf (countOf 2 r)) 0 z)))))
     (both-true _ _ (all-intro (countGoodAt r) 4 (λ k h. facts-count _ _ _ (g .counts k h)))
-    (all-intro (slotGood r) 31
-    (λ b h. pick-true (holds b) _ (λ o.
-    ⊎-elim (λ y. rw y (g .obeys b o y)) (λ n. ap (λ (t : Bool). pick t (ruleOf b (slotOf b r)) (zeros (slotOf b r))) n ∙ ap zeros (g .unheld b o n) ∙ zeros-good (sizeOf b)) (true-or-false (has (heldOf r) b))))))
+    (all-intro (slotGood r) 31 (λ b h. pick-true (holds b) _ (λ o. slot b o))))
+  where
+    slot : (b : ℕ) → holds b ≡ true → pick (has (heldOf r) b) (ruleOf b (slotOf b r)) (zeros (slotOf b r)) ≡ true
+    slot b o =
+        ⊎-elim (λ y. rw y (g .obeys b o y))
+        (λ n. ap (λ (t : Bool). pick t (ruleOf b (slotOf b r)) (zeros (slotOf b r))) n ∙ ap zeros (g .unheld b o n) ∙ zeros-good (sizeOf b))
+        (true-or-false (has (heldOf r) b))
 
 -- ---- a record of zeros but for its identifier is good
 
@@ -233,7 +316,10 @@ module _ (r : List ℕ) (l : length r ≡ recordWords) (z : (i : ℕ) → getD r
     bits = λ b e. absurd (true-is-false (sym e ∙ blank-bit b));
     small = omega (arith, z 0);
     started = λ _. z 0;
-    counts = λ k h. record { unstarted = λ _. (blank-count k 0 (omega arith), blank-count k 1 (omega arith)); most = omega (arith, blank-count k 2 (omega arith)) };
+    counts = λ k h. record {
+      unstarted = λ _. (blank-count k 0 (omega arith), blank-count k 1 (omega arith));
+      most = omega (arith, blank-count k 2 (omega arith));
+    };
     unheld = λ b o e. blank-slot b o;
     obeys = λ b o e. absurd (true-is-false (sym e ∙ blank-bit b));
   }
@@ -241,7 +327,8 @@ module _ (r : List ℕ) (l : length r ≡ recordWords) (z : (i : ℕ) → getD r
 -- ---- a good record stays good
 
 -- a slot that is held is by its rule, also after a packet
-rule-after : (carried : Bool) (b : ℕ) (field slot : List ℕ) → (carried ≡ true → ruleOf b field ≡ true) → (carried ≡ false → ruleOf b slot ≡ true) → ruleOf b (slotAfter carried field slot) ≡ true
+rule-after : (carried : Bool) (b : ℕ) (field slot : List ℕ) → (carried ≡ true → ruleOf b field ≡ true) → (carried ≡ false → ruleOf b slot ≡ true)
+    → ruleOf b (slotAfter carried field slot) ≡ true
 unfolding slotAfter
 rule-after true b field slot f g = f refl
 rule-after false b field slot f g = g refl
@@ -259,14 +346,21 @@ module _ (k count : ℕ) (r : List ℕ) (l : length r ≡ recordWords) (h : k < 
   counted-good : GoodCount (seenOf (countedOf count (countOf k r))) (missingOf (countedOf count (countOf k r))) (lastOf (countedOf count (countOf k r)))
   counted-good = record { unstarted = λ z. absurd (omega (arith, counted-last)); most = omega (arith, counted-last) }
 
+  -- type 4 has started where it had, or is the one counted
+  counted-started : lastOf (countOf 2 (countRecord k count r)) ≡ 0 → lastOf (countOf 2 r) ≡ 0
+  counted-started z =
+      ⊎-elim
+      (λ (e : 2 ≡ k).
+      let y : lastOf (countOf k (countRecord k count r)) ≡ 0 = ap (λ (j : ℕ). lastOf (countOf j (countRecord k count r))) (sym e) ∙ z in
+      absurd (omega (arith, y, counted-last, ap lastOf (count-count k count r l h))))
+      (λ (n : 2 ≡ k → ⊥). sym (ap lastOf (count-other k count r l h 2 (omega arith) n)) ∙ z) (same-or-not 2 k)
+
   pub count-good : Good (countRecord k count r)
   count-good =
       record {
         bits = rw (count-held k count r l h) (g .bits);
         small = rw (count-held k count r l h) (g .small);
-        started = λ z. count-held k count r l h ∙ g .started
-            (⊎-elim (λ (e : 2 ≡ k). absurd (omega (arith, counted-last, ap lastOf (count-count k count r l h), sym (ap (λ (j : ℕ). lastOf (countOf j (countRecord k count r))) e) ∙ z)))
-            (λ (n : 2 ≡ k → ⊥). sym (ap lastOf (count-other k count r l h 2 (omega arith) n)) ∙ z) (same-or-not 2 k));
+        started = λ z. count-held k count r l h ∙ g .started (counted-started z);
         counts = λ j i.
             ⊎-elim (λ (e : j ≡ k). rw (e, count-count k count r l h) counted-good)
             (λ (n : j ≡ k → ⊥). rw (count-other k count r l h j i n) (g .counts j i)) (same-or-not j k);
@@ -279,20 +373,24 @@ module _ (body r : List ℕ) (l : length r ≡ recordWords) (ok : contextOf body
   abbrev ind : ℕ
   ind = indicatorOf body
 
-  bit-after : (b : ℕ) → has (heldOf (holdRecord body r)) b ≡ pick (has (heldOf r) b) true (both (has (indicatorOf body) b) (holds b))
+  -- whether bit b is held after it
+  abbrev heldThen : ℕ → Bool
+  heldThen b = pick (has (heldOf r) b) true (both (has (indicatorOf body) b) (holds b))
+
+  bit-after : (b : ℕ) → has (heldOf (holdRecord body r)) b ≡ heldThen b
   bit-after b = ap (λ (m : ℕ). has m b) (hold-held body r l ok) ∙ held-bit (indicatorOf body) (heldOf r) b
 
-  hold-bits : (b : ℕ) → pick (has (heldOf r) b) true (both (has (indicatorOf body) b) (holds b)) ≡ true → holds b ≡ true
+  hold-bits : (b : ℕ) → heldThen b ≡ true → holds b ≡ true
   hold-bits b e =
       ⊎-elim (λ y. g .bits b y) (λ n. both-right (has ind b) (holds b) (rw n at e)) (true-or-false (has (heldOf r) b))
 
   -- a bit that is not held after it was neither held nor carried
-  not-held : (b : ℕ) → holds b ≡ true → pick (has (heldOf r) b) true (both (has (indicatorOf body) b) (holds b)) ≡ false → (has (heldOf r) b ≡ false) × (has (indicatorOf body) b ≡ false)
+  not-held : (b : ℕ) → holds b ≡ true → heldThen b ≡ false → (has (heldOf r) b ≡ false) × (has (indicatorOf body) b ≡ false)
   not-held b o e =
       ⊎-elim (λ y. absurd (true-is-false (rw y at e))) (λ n. (n, sym (both-yes (has ind b)) ∙ rw (n, o) at e)) (true-or-false (has (heldOf r) b))
 
   -- one that is held and not carried was held
-  was-held : (b : ℕ) → has (indicatorOf body) b ≡ false → pick (has (heldOf r) b) true (both (has (indicatorOf body) b) (holds b)) ≡ true → has (heldOf r) b ≡ true
+  was-held : (b : ℕ) → has (indicatorOf body) b ≡ false → heldThen b ≡ true → has (heldOf r) b ≡ true
   was-held b c e = ⊎-elim (λ y. y) (λ (n : has (heldOf r) b ≡ false). absurd (true-is-false (sym (rw (n, c) at e)))) (true-or-false (has (heldOf r) b))
 
   pub hold-good : Good (holdRecord body r)

@@ -11,7 +11,7 @@ use borrow.Author.Tests.{le-leb, lt-leb}
 use lib.Bits.{bitAnd, and-le-r}
 use lib.Dec.{leb}
 use lib.ListN.{length}
-use Rattle.words.specs.Tests.{pick, both}
+use Rattle.words.specs.Tests.{pick, both, among}
 use Rattle.words.specs.Word.{has}
 use Rattle.words.specs.SetBits.{bitsOf}
 use Rattle.words.specs.Part.{part, put}
@@ -24,6 +24,7 @@ use Rattle.fields.proofs.SizeLaws.{sizes-more}
 use Rattle.record.specs.Held.{heldMask, holds, heldBits, slotAt}
 use Rattle.record.specs.Layout.{slotWords, slotIn}
 use Rattle.record.specs.After.{slotAfter, refilled, Inside}
+use Rattle.record.proofs.CopyLaws.{size-held}
 use Rattle.record.proofs.SlotLaws.{placed, placed-split, placed-inside, placed-apart, in-order-same, in-order-parts, held-small, held-high, slots-whole}
 
 -- ---- bits of held fields alone
@@ -73,27 +74,33 @@ pub record Holding (bits at : ℕ) (ws slots₀ slots : List ℕ) (rest from : �
   pub top : reached ≤ 31
   pub left : bitsOf 32 rest ≡ bitsOf reached bits
   pub same : length slots ≡ slotWords
+  pub within : bitAnd bits heldMask ≡ bits
+  pub inside : Inside bits at ws
   pub place : from + sizesOf (bitsOf reached bits) ≡ at + sizesOf (bitsOf 31 bits)
   pub is : (b : ℕ) → holds b ≡ true → slotIn b slots ≡ slotAfter (both (leb reached b) (has bits b)) (fieldIn bits at ws b) (slotIn b slots₀)
 
-pub holding-start : (bits at : ℕ) (ws slots : List ℕ) → length slots ≡ slotWords → bitAnd bits heldMask ≡ bits → Holding bits at ws slots slots bits at
+pub holding-start : (bits at : ℕ) (ws slots : List ℕ) → length slots ≡ slotWords → bitAnd bits heldMask ≡ bits → Inside bits at ws
+    → Holding bits at ws slots slots bits at
 unfolding slotAfter
-holding-start bits at ws slots l w = record {
+holding-start bits at ws slots l w i = record {
   reached = 31;
   top = le-refl 31;
   left = bits-trim 31 32 bits (omega arith) (within-small bits w);
   same = l;
+  within = w;
+  inside = i;
   place = refl;
   is = λ b e. rw (lt-leb 31 b (held-high b e));
 }
 
-module _ {bits at rest from : ℕ} {ws slots₀ slots : List ℕ} (p : Holding bits at ws slots₀ slots rest from) (w : bitAnd bits heldMask ≡ bits) (i : Inside bits at ws)
-    (b rest′ : ℕ) (cut : bitsOf 32 rest ≡ b ∷ bitsOf 32 rest′) where
+-- b is the next bit
+module _ {bits at rest from : ℕ} {ws slots₀ slots : List ℕ} (p : Holding bits at ws slots₀ slots rest from) (b rest′ : ℕ)
+    (cut : bitsOf 32 rest ≡ b ∷ bitsOf 32 rest′) where
   head : Head (p .reached) bits b (bitsOf 32 rest′)
   head = bits-head (p .reached) bits b (bitsOf 32 rest′) (sym (p .left) ∙ cut)
 
-  pub holding-holds : holds b ≡ true
-  holding-holds = within-holds bits w b (head .set)
+  holding-holds : holds b ≡ true
+  holding-holds = within-holds bits (p .within) b (head .set)
 
   -- the field stands at the place reached
   here : from ≡ at + placed 31 bits b
@@ -101,8 +108,19 @@ module _ {bits at rest from : ℕ} {ws slots₀ slots : List ℕ} (p : Holding b
       let e : bitsOf (p .reached) bits ≡ b ∷ bitsOf b bits = sym (p .left) ∙ cut ∙ ap (λ (l : List ℕ). b ∷ l) (head .rest) in
       omega (arith, p .place, ap sizesOf e, sizes-more b (bitsOf b bits), placed-split 31 bits b (held-high b holding-holds) (head .set))
 
-  pub holding-field : from + sizeOf b ≤ length ws
-  holding-field = omega (arith, here, i b (head .set))
+  holding-field : from + sizeOf b ≤ length ws
+  holding-field = omega (arith, here, p .inside b (head .set))
+
+  -- its slot and its field lie inside, as a copy asks
+  module _ (n : ℕ) (en : n ≡ sizeOf b) where
+    pub copy-slot : (slot : ℕ) → slot ≡ slotAt b → slot + n ≤ length slots
+    copy-slot slot es = omega (arith, p .same, slot-inside b holding-holds)
+
+    pub copy-source : from + n ≤ length ws
+    copy-source = omega (arith, holding-field)
+
+    pub copy-few : among n (1 ∷ 2 ∷ 11 ∷ 13 ∷ []) ≡ true
+    copy-few = size-held b n holding-holds en
 
   -- whether a slot is filled changes at b alone
   filled-same : (x : ℕ) → (x ≡ b → ⊥) → both (leb (p .reached) x) (has bits x) ≡ both (leb b x) (has bits x)
@@ -113,24 +131,38 @@ module _ {bits at rest from : ℕ} {ws slots₀ slots : List ℕ} (p : Holding b
       (λ (g : x < p .reached). rw (head .gap x h g, both-no (leb (p .reached) x), both-no (leb b x))) (le-or-lt (p .reached) x))
       (le-or-lt x b)
 
+  module _ (m : length (part from (sizeOf b) ws) ≡ sizeOf b) where
+    abbrev filled : List ℕ
+    filled = put (slotAt b) (sizeOf b) (part from (sizeOf b) ws) slots
+
+    turn-slot : (x : ℕ) → holds x ≡ true → slotIn x filled ≡ slotAfter (both (leb b x) (has bits x)) (fieldIn bits at ws x) (slotIn x slots₀)
+    unfolding slotAfter
+    turn-slot x f =
+        ⊎-elim
+        (λ (h : x ≡ b).
+        rw (h, le-leb b b (le-refl b), head .set) (slot-put b _ slots (p .same) holding-holds m ∙ ap (λ (z : ℕ). part z (sizeOf b) ws) here))
+        (λ (h : x ≡ b → ⊥).
+        slot-put-other b _ slots (p .same) holding-holds m x f h ∙ p .is x f
+        ∙ ap (λ (t : Bool). pick t (fieldIn bits at ws x) (slotIn x slots₀)) (filled-same x h))
+        (same-or-not x b)
+
   pub holding-turn : (slot n : ℕ) (after : List ℕ) → slot ≡ slotAt b → n ≡ sizeOf b → after ≡ put slot n (part from n ws) slots
       → Holding bits at ws slots₀ after rest′ (from + n)
-  unfolding slotAfter
   holding-turn slot n after es en e =
       let m : length (part from (sizeOf b) ws) ≡ sizeOf b = part-length from (sizeOf b) ws holding-field in
-      let a : after ≡ put (slotAt b) (sizeOf b) (part from (sizeOf b) ws) slots = e ∙ rw (es, en) in
+      let a : after ≡ filled m = e ∙ rw (es, en) in
       let cons : bitsOf (p .reached) bits ≡ b ∷ bitsOf b bits = sym (p .left) ∙ cut ∙ ap (λ (l : List ℕ). b ∷ l) (head .rest) in
       record {
         reached = b;
         top = omega (arith, head .low, p .top);
         left = head .rest;
-        same = ap length a ∙ put-length (slotAt b) (sizeOf b) (part from (sizeOf b) ws) slots (omega (arith, p .same, slot-inside b holding-holds)) m ∙ p .same;
+        same =
+            ap length a ∙ put-length (slotAt b) (sizeOf b) (part from (sizeOf b) ws) slots (omega (arith, p .same, slot-inside b holding-holds)) m
+            ∙ p .same;
+        within = p .within;
+        inside = p .inside;
         place = omega (arith, p .place, ap sizesOf cons, sizes-more b (bitsOf b bits));
-        is = λ x f. rw a
-            (⊎-elim
-            (λ (h : x ≡ b). rw (h, le-leb b b (le-refl b), head .set) (slot-put b _ slots (p .same) holding-holds m ∙ ap (λ (z : ℕ). part z (sizeOf b) ws) here))
-            (λ (h : x ≡ b → ⊥). slot-put-other b _ slots (p .same) holding-holds m x f h ∙ p .is x f ∙ ap (λ (t : Bool). pick t (fieldIn bits at ws x) (slotIn x slots₀)) (filled-same x h))
-            (same-or-not x b));
+        is = λ x f. rw a (turn-slot m x f);
       }
 
 -- whether a slot is filled, once no bit is left
@@ -143,5 +175,8 @@ unfolding refilled slotAfter slotIn slotAt heldBits holds
 holding-end {bits} {at} {rest} {from} {ws} {slots₀} {slots} p z =
     let none : bitsOf (p .reached) bits ≡ [] = sym (p .left) ∙ bits-none 32 rest (omega arith) in
     sym (in-order-parts 31 heldMask slots (p .same ∙ sym slots-whole))
-    ∙ in-order-same 31 heldMask (λ b. part (placed 31 heldMask b) (sizeOf b) slots) (λ b. pick (has bits b) (fieldIn bits at ws b) (part (placed 31 heldMask b) (sizeOf b) slots₀))
-    (λ b l e. p .is b e ∙ ap (λ (t : Bool). pick t (fieldIn bits at ws b) (part (placed 31 heldMask b) (sizeOf b) slots₀)) (all-filled (p .reached) b bits none))
+    ∙ in-order-same 31 heldMask (λ b. part (placed 31 heldMask b) (sizeOf b) slots)
+    (λ b. pick (has bits b) (fieldIn bits at ws b) (part (placed 31 heldMask b) (sizeOf b) slots₀))
+    (λ b l e.
+    p .is b e
+    ∙ ap (λ (t : Bool). pick t (fieldIn bits at ws b) (part (placed 31 heldMask b) (sizeOf b) slots₀)) (all-filled (p .reached) b bits none))

@@ -19,7 +19,8 @@ use Rattle.record.specs.Layout.{recordWords, identifierOf, heldOf, order
 use Rattle.record.specs.Counts.{countedOf, countRecord, addedTo}
 use Rattle.record.specs.After.{slotAfter, heldAfter, holdRecord, recordAfter, addedBy}
 use Rattle.record.specs.Good.{recordGood, Good}
-use Rattle.record.proofs.AfterLaws.{count-length, count-count, count-other, count-slot, count-held, count-identifier, hold-length, hold-slot, hold-held, hold-count, hold-identifier}
+use Rattle.record.proofs.AfterLaws.{count-length, count-count, count-other, count-slot, count-held, count-identifier}
+use Rattle.record.proofs.AfterLaws.{hold-length, hold-slot, hold-held, hold-count, hold-identifier}
 use Rattle.record.proofs.GoodLaws.{good-of, of-good, count-good, hold-good}
 
 pub order-small : (kind : ℕ) → orderOf kind < 4
@@ -38,16 +39,33 @@ order-context kind e = rw e
 pub last-most : (r : List ℕ) (k : ℕ) → length r ≡ recordWords → k < 4 → recordGood r ≡ true → lastOf (countOf k r) ≤ 16
 last-most r k l h g = good-of r l g .counts k h .most
 
+pub context-most : (r : List ℕ) → length r ≡ recordWords → recordGood r ≡ true → lastOf (countOf 2 r) ≤ 16
+context-most r l g = last-most r 2 l (omega arith) g
+
 -- the body matters to type 4 alone
 pub after-body : (kind count : ℕ) (body other r : List ℕ) → (kind ≡ 4 → ⊥) → recordAfter kind count body r ≡ recordAfter kind count other r
 unfolding recordAfter
 after-body kind count body other r n = rw (ne-eqb kind 4 n)
 
+-- of a packet that is not Context: `order` is its type's
+module _ (kind count order : ℕ) (r : List ℕ) (o : order ≡ orderOf kind) where
+  pub data-adds : (more : ℕ) → more ≡ addedTo order count r → more ≡ addedBy kind count r
+  unfolding addedBy
+  data-adds more m = m ∙ rw o
+
+  pub data-leaves : (body last : List ℕ) → (kind ≡ 4 → ⊥) → last ≡ countRecord order count r → last ≡ recordAfter kind count body r
+  unfolding recordAfter
+  data-leaves body last n e = e ∙ rw (o, ne-eqb kind 4 n)
+
 -- of a Context packet: it is counted, and then its fields are held
-pub heard-context : (count : ℕ) (body r : List ℕ) (more : ℕ) (mid last : List ℕ) → more ≡ addedTo 2 count r → mid ≡ countRecord 2 count r → last ≡ holdRecord body mid
-    → (more ≡ addedBy 4 count r) × (last ≡ recordAfter 4 count body r)
-unfolding addedBy recordAfter orderOf
-heard-context count body r more mid last m e f = (m, f ∙ ap (holdRecord body) e)
+module _ (count : ℕ) (r : List ℕ) where
+  pub context-adds : (more : ℕ) → more ≡ addedTo 2 count r → more ≡ addedBy 4 count r
+  unfolding addedBy orderOf
+  context-adds more m = m
+
+  pub context-leaves : (body mid last : List ℕ) → mid ≡ countRecord 2 count r → last ≡ holdRecord body mid → last ≡ recordAfter 4 count body r
+  unfolding recordAfter orderOf
+  context-leaves body mid last e f = f ∙ ap (holdRecord body) e
 
 module _ (kind count : ℕ) (body r : List ℕ) (l : length r ≡ recordWords) (ok : kind ≡ 4 → contextOf body ≡ accepted tt) where
   abbrev counted : List ℕ
@@ -64,15 +82,9 @@ module _ (kind count : ℕ) (body r : List ℕ) (l : length r ≡ recordWords) (
   unfolding recordAfter
   after-data n = rw (ne-eqb kind 4 n)
 
-  -- as a program goes: `order` is the type's, and `mid` the record once the packet is counted
-  pub heard-data : (order more : ℕ) (mid : List ℕ) → order ≡ orderOf kind → (kind ≡ 4 → ⊥) → more ≡ addedTo order count r → mid ≡ countRecord order count r
-      → (more ≡ addedBy kind count r) × (mid ≡ recordAfter kind count body r)
-  unfolding addedBy
-  heard-data order more mid o n m e = (m ∙ rw o, e ∙ rw (o, after-data n))
-
   -- what holds of the record after both cases holds of it
-  by-kind : {A : Type 0} (f : List ℕ → A) (a : A) → (kind ≡ 4 → f (holdRecord body (countRecord (orderOf kind) count r)) ≡ a) → f (countRecord (orderOf kind) count r) ≡ a
-      → f (recordAfter kind count body r) ≡ a
+  by-kind : {A : Type 0} (f : List ℕ → A) (a : A) → (kind ≡ 4 → f (holdRecord body (countRecord (orderOf kind) count r)) ≡ a)
+      → f (countRecord (orderOf kind) count r) ≡ a → f (recordAfter kind count body r) ≡ a
   by-kind f a h d = ⊎-elim (λ e. ap f (after-context e) ∙ h e) (λ n. ap f (after-data n) ∙ d) (same-or-not kind 4)
 
   pub after-length : length (recordAfter kind count body r) ≡ recordWords
@@ -96,10 +108,13 @@ module _ (kind count : ℕ) (body r : List ℕ) (l : length r ≡ recordWords) (
       by-kind (countOf k) _ (λ e. hold-count body counted whole (ok e) k h ∙ i) i
 
   -- a slot has the field's words where a Context packet carries it, and is else as it was
-  pub after-slot : (b : ℕ) → holds b ≡ true → slotOf b (recordAfter kind count body r) ≡ pick (eqb kind 4) (slotAfter (has (indicatorOf body) b) (fieldOf b body) (slotOf b r)) (slotOf b r)
+  pub after-slot : (b : ℕ) → holds b ≡ true
+      → slotOf b (recordAfter kind count body r) ≡ pick (eqb kind 4) (slotAfter (has (indicatorOf body) b) (fieldOf b body) (slotOf b r)) (slotOf b r)
   after-slot b o =
       let i = count-slot (orderOf kind) count r l (order-small kind) b in
-      ⊎-elim (λ e. rw (eq-eqb kind 4 e) (ap (slotOf b) (after-context e) ∙ hold-slot body counted whole (ok e) b o ∙ ap (slotAfter (has (indicatorOf body) b) (fieldOf b body)) i))
+      ⊎-elim
+      (λ e. rw (eq-eqb kind 4 e)
+      (ap (slotOf b) (after-context e) ∙ hold-slot body counted whole (ok e) b o ∙ ap (slotAfter (has (indicatorOf body) b) (fieldOf b body)) i))
       (λ n. rw (ne-eqb kind 4 n) (ap (slotOf b) (after-data n) ∙ i)) (same-or-not kind 4)
 
   -- the held indicator gains what a Context packet carries

@@ -5,19 +5,19 @@ use mathlib.Core.Path.{_≡_, refl, sym, ap, _∙_}
 use mathlib.Core.Bool.{Bool, true, false, not}
 use mathlib.Core.Logic.{⊎-elim}
 use mathlib.Core.List.{List, [], _∷_, _++_}
-use Prim.Native.Nat.{ℕ, zero, suc, _+_, _-_, _^_, _≤_, _<_}
+use Prim.Native.Nat.{ℕ, zero, suc, _+_, _^_, _≤_, _<_}
 use native.Mathlib.Nat.{lt-of-lt-of-le}
 use native.Mathlib.Omega.{arith}
-use borrow.Author.Tests.{not-true, le-ltb}
-use lib.Dec.{ltb}
+use borrow.Author.Tests.{not-true, le-ltb, leb-true}
+use lib.Dec.{ltb, leb}
 use lib.Pow.{pow-mono}
-use lib.ListN.{length, drop, length-append, length-drop, take-append-drop}
+use lib.ListN.{length, drop, getD, length-append, length-drop, take-append-drop}
 use Rattle.words.specs.Tests.{pick}
 use Rattle.words.specs.Word.{has}
 use Rattle.words.specs.SetBits.{bitsOf, above}
 use Rattle.words.specs.Part.{part}
 use Rattle.words.specs.All.{all, tabled}
-use Rattle.words.proofs.AllLaws.{all-at}
+use Rattle.words.proofs.AllLaws.{all-at, tabled-at}
 use Rattle.words.proofs.Cases.{le-or-lt, true-or-false, true-is-false}
 use Rattle.words.proofs.PartLaws.{part-is, part-front, part-past, part-drop}
 use Rattle.words.proofs.SetBitLaws.{has-above, bits-zero, bits-yes, bits-no, bits-split, above-none, above-kept}
@@ -70,7 +70,10 @@ pub in-order-same : (k n : ℕ) (f g : ℕ → List ℕ) → ((b : ℕ) → b < 
 in-order-same zero n f g h = rw (bits-zero n) (in-order-none f ∙ sym (in-order-none g))
 in-order-same (suc k) n f g h =
     let rest : inOrder (bitsOf k n) f ≡ inOrder (bitsOf k n) g = in-order-same k n f g (λ b l. h b (omega arith)) in
-    ⊎-elim (λ e. rw (bits-yes k n e, in-order-more k (bitsOf k n) f, in-order-more k (bitsOf k n) g, h k (omega arith) e, rest)) (λ e. rw (bits-no k n e) rest) (true-or-false (has n k))
+    ⊎-elim
+    (λ e. rw (bits-yes k n e, in-order-more k (bitsOf k n) f, in-order-more k (bitsOf k n) g, h k (omega arith) e, rest))
+    (λ e. rw (bits-no k n e) rest)
+    (true-or-false (has n k))
 
 -- each set bit has the words of its field
 abbrev pub Sized : ℕ → ℕ → (ℕ → List ℕ) → Type 0
@@ -163,8 +166,21 @@ slots-whole = refl
 
 -- the table of places has each slot's, by a test that computes once over the whole table
 abbrev pub slotPlaces : List ℕ
-slotPlaces = 74 ∷ 74 ∷ 74 ∷ 74 ∷ 74 ∷ 74 ∷ 74 ∷ 74 ∷ 74 ∷ 74 ∷ 73 ∷ 60 ∷ 47 ∷ 36 ∷ 25 ∷ 23 ∷ 22 ∷ 20 ∷ 19 ∷ 18 ∷ 16 ∷ 14 ∷ 13 ∷ 12 ∷ 11 ∷ 9 ∷ 7 ∷ 5 ∷ 3 ∷ 1 ∷ 0 ∷ 0 ∷ []
+slotPlaces =
+    74 ∷ 74 ∷ 74 ∷ 74 ∷ 74 ∷ 74 ∷ 74 ∷ 74 ∷ 74 ∷ 74 ∷ 73 ∷ 60 ∷ 47 ∷ 36 ∷ 25 ∷ 23
+    ∷ 22 ∷ 20 ∷ 19 ∷ 18 ∷ 16 ∷ 14 ∷ 13 ∷ 12 ∷ 11 ∷ 9 ∷ 7 ∷ 5 ∷ 3 ∷ 1 ∷ 0 ∷ 0 ∷ []
 
 pub places-tabled : tabled 32 slotAt slotPlaces ≡ true
 unfolding slotAt heldBits heldMask bitsOf above sizesOf sizeOf all
 places-tabled = refl
+
+module _ (places : List ℕ) (b : ℕ) (h : b < 32) (e : tabled 32 slotAt places ≡ true) where
+  pub place-is : getD places b 0 ≡ slotAt b
+  place-is = tabled-at 32 places slotAt b e h
+
+  pub place-most : getD places b 0 ≤ slotWords
+  unfolding slotAt heldBits heldMask bitsOf above sizesOf sizeOf all
+  place-most = rw place-is (leb-true (slotAt b) slotWords (all-at (λ i. leb (slotAt i) slotWords) 32 b h refl))
+
+  pub place-fits : getD places b 0 < 2 ^ 64
+  place-fits = omega (arith, place-most)

@@ -22,3 +22,6 @@ pub const HEAD_WORDS: usize = 14;
 pub const SLOT_WORDS: usize = 74;
 
 pub const RECORD_WORDS: usize = HEAD_WORDS + SLOT_WORDS;
+
+// Where the held indicator stands in a record.
+pub const HELD_AT: usize = 1;

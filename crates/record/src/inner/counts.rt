@@ -5,13 +5,24 @@ ghost use mathlib.Core.List.{[], _∷_};
 ghost use Prim.Native.Nat.{_+_, _*_, _≤_, _<_};
 ghost use lib.ListN.{length};
 ghost use Rattle.words.specs.Tests.{among};
-ghost use Rattle.record.specs.Layout.{recordWords, orderOf, countOf, lastOf};
+ghost use Rattle.record.specs.Layout.{recordWords, orderOf, countAt, countOf, lastOf};
 ghost use Rattle.record.specs.Counts.{addedOf, countedOf, countRecord, addedTo};
 
 // The order of type 4 among the types that are counted: 1, 3, 4, 5.
 pub const CONTEXT_ORDER: usize = 2;
 
-// The order of another: for 1, 3 and 5 it is an eighth of the square, rounded down.
+// Where last plus one stands among the three words of a count.
+pub const LAST: usize = 2;
+
+// Where the count of the type of this order begins in a record: after the identifier, the held indicator and three words for each type before it.
+pub fn count_at(order: usize) -> usize
+    requires { ⌜ order < 4 ⌝ }
+    ensures { λ r. ⌜ (r ≡ countAt order) × (r ≤ 11) ⌝ }
+{
+    2 + 3 * order
+}
+
+// The order of a type other than 4. It is an eighth of the type's square, rounded down, which takes no branch: 1, 3, 5 give 0, 1, 3.
 pub fn data_order(kind: u32) -> usize
     requires { ⌜ among kind (1 ∷ 3 ∷ 5 ∷ []) ≡ true ⌝ }
     ensures { λ r. ⌜ (r ≡ orderOf kind) × (r < 4) ⌝ }
@@ -50,7 +61,7 @@ pub fn count(rec: &mut [u32], order: usize, count: u32) -> u32
     requires { ⌜ (length (now rec) ≡ recordWords) × (order < 4) × (count < 16) × (lastOf (countOf order (now rec)) ≤ 16) ⌝ }
     ensures { λ r. ⌜ (r ≡ addedTo order count (now (rec .entry))) × (now (rec .exit) ≡ countRecord order count (now (rec .entry))) ⌝ }
 {
-    let at = 2 + 3 * order;
+    let at = count_at(order);
     let end = at + 3;
     count_words(&mut rec[at..end], count)
 }

@@ -76,7 +76,7 @@ fn counts_good(rec: &[u32]) -> bool
 {
     let mut k = 0;
     while k < 4 {
-        let at = 2 + 3 * k;
+        let at = crate::inner::counts::count_at(k);
         if !count_good(rec[at], rec[at + 1], rec[at + 2]) {
             return false;
         }
@@ -119,7 +119,7 @@ fn slot_good(rec: &[u32], bit: u32, sizes: &[u8; 32], places: &[u8; 32]) -> bool
 {
     let at = crate::inner::HEAD_WORDS + crate::inner::held::slot_in(places, bit);
     let end = at + fields::inner::size_in(sizes, bit);
-    let held = rec[1];
+    let held = rec[crate::inner::HELD_AT];
     if (held >> bit) % 2 == 1 {
         rule_good(bit, &rec[at..end])
     } else {
@@ -149,7 +149,9 @@ pub fn head_good(rec: &[u32]) -> bool
     requires { ⌜ headWords ≤ length (now rec) ⌝ }
     ensures { λ r. ⌜ r ≡ both (heldGood (heldOf (now (rec .entry))) (lastOf (countOf 2 (now (rec .entry))))) (all 4 (countGoodAt (now (rec .entry)))) ⌝ }
 {
-    if !held_good(rec[1], rec[10]) {
+    let context = crate::inner::counts::count_at(crate::inner::counts::CONTEXT_ORDER);
+    let last = rec[context + crate::inner::counts::LAST];
+    if !held_good(rec[crate::inner::HELD_AT], last) {
         return false;
     }
     counts_good(rec)

@@ -1,7 +1,7 @@
 // The fields that a record holds, each in its slot.
 ghost use mathlib.Core.Path.{_≡_};
 ghost use mathlib.Core.Bool.{true};
-ghost use Prim.Native.Nat.{_+_, _≤_, _<_};
+ghost use Prim.Native.Nat.{_≤_, _<_};
 ghost use lib.Bits.{bitAnd};
 ghost use lib.ListN.{length};
 ghost use Rattle.words.specs.Outcome.{accepted};
@@ -14,7 +14,8 @@ ghost use Rattle.record.specs.After.{Inside, refilled, holdRecord};
 // The bits of the held fields, 30 to 10.
 pub const HELD: u32 = 0x7FFF_FC00;
 
-// Where the slots begin among each other, by the bit of the field: each after those of the held bits above it.
+// Where the slot of a field begins among the slots, by the field's bit. The slots stand in field order, bit 30 first, so a slot begins after the words of the held
+// fields of higher bits: bit 30 at 0, bit 29 at 1, down to bit 10 at 73. A bit that is not held has no slot, and its entry, 74 or 0, is not used.
 pub const SLOTS: [u8; 32] = [
     74,
     74,
@@ -67,10 +68,10 @@ pub fn slot_at(bit: u32) -> usize
     slot_in(&places, bit)
 }
 
-// Each field of these bits into its slot, whole. The fields stand in the words one after the other, from a place on.
-pub fn refill(slots: &mut [u32], bits: u32, words: &[u32], at: usize)
-    requires { ⌜ (length (now slots) ≡ slotWords) × (bitAnd bits heldMask ≡ bits) × Inside bits at (now words) ⌝ }
-    ensures { λ _. ⌜ now (slots .exit) ≡ refilled bits at (now (words .entry)) (now (slots .entry)) ⌝ }
+// Each field of these bits into its slot, whole. The fields stand in the source one after the other, from a place on.
+pub fn refill(slots: &mut [u32], bits: u32, source: &[u32], at: usize)
+    requires { ⌜ (length (now slots) ≡ slotWords) × (bitAnd bits heldMask ≡ bits) × Inside bits at (now source) ⌝ }
+    ensures { λ _. ⌜ now (slots .exit) ≡ refilled bits at (now (source .entry)) (now (slots .entry)) ⌝ }
 {
     let sizes = fields::inner::SIZES;
     let places = SLOTS;
@@ -79,7 +80,7 @@ pub fn refill(slots: &mut [u32], bits: u32, words: &[u32], at: usize)
     while rest != 0 {
         let f = fields::inner::next_field(rest);
         let n = fields::inner::size_in(&sizes, f.bit);
-        crate::inner::copies::copy_field(slots, slot_in(&places, f.bit), words, from, n);
+        crate::inner::copies::copy_field(slots, slot_in(&places, f.bit), source, from, n);
         from += n;
         rest = f.rest;
     }
@@ -91,12 +92,12 @@ pub fn hold(rec: &mut [u32], body: &[u32])
     ensures { λ _. ⌜ now (rec .exit) ≡ holdRecord (now (body .entry)) (now (rec .entry)) ⌝ }
 {
     let bits = body[0] & HELD;
-    let held = rec[1];
+    let held = rec[crate::inner::HELD_AT];
     refill(
         &mut rec[crate::inner::HEAD_WORDS..crate::inner::RECORD_WORDS],
         bits,
         body,
         1,
     );
-    rec[1] = held | bits;
+    rec[crate::inner::HELD_AT] = held | bits;
 }

@@ -1,22 +1,11 @@
 -- `enter` meets its promise: a refusal of the front or of a body is given, and else the packet is entered.
 use mathlib.Core.Path.{_≡_, sym, _∙_}
-use mathlib.Core.List.{List}
 use Prim.Native.Nat.{ℕ}
-use Rattle.words.specs.declared.Check.{Check}
-use Rattle.words.specs.declared.Check.the-variants.{Refused}
-use Rattle.words.specs.Outcome.{refused, checked, numberOf}
-use Rattle.packet.specs.Read.{readOf}
-use Rattle.play.specs.declared.run.Entry.{Entry}
-use Rattle.play.specs.Entered.{Entered}
 use Rattle.play.proofs.CheckedLaws.{unread-front, has-header, has-body, is-whole, headed-data, unread-body, headed}
 use Rattle.play.proofs.EntryLaws.{entered-unread}
 use borrow.Author.Needs.{needs}
 use Rattle.play.proofs.entries.enter.Statement.{statement}
 use Rattle.play.proofs.entries.enter.Tie as tie
-
-unread : (t ws : List ℕ) (answer : Check) (n m : ℕ) (r : Entry) → answer ≡ Refused n → m ≡ numberOf (checked answer)
-    → r ≡ record { number = m; size = 0; kind = 0; stream = 0; missing = 0 } → readOf ws ≡ refused n → Entered t ws r t
-unread t ws answer n m r f u i e = rw i (entered-unread t ws n m e (cc))
 
 -- the type, by its number
 module _ {k kind : ℕ} (e : k ≡ kind) where
@@ -30,7 +19,7 @@ pub enter-spec : {M : Type 1} → statement M
 enter-spec =
     tie.close
     (tie.spec
-    (λ c κs. search needs) (λ c. search needs) (λ c. search needs) (λ c κs. search needs) (λ c κs. search needs) (λ c. search (unread, unread-front))
-    (λ c. search has-header) (λ c κs. search needs) (λ c κs. search (headed-data, not-four)) (λ c. search needs) (λ c. search needs)
-    (λ c κs. search (has-body, is-whole)) (λ c. search needs) (λ c. search needs) (λ c κs. search needs) (λ c κs. search needs)
-    (λ c. search (unread, unread-body)) (λ c κs. search (headed, is-four)) (λ c. search needs) (λ c. search needs))
+    (λ c κs. search needs) (λ c. search needs) (λ c. search needs) (λ c κs. search needs) (λ c κs. search needs)
+    (λ c. search (entered-unread, unread-front)) (λ c. search has-header) (λ c κs. search needs) (λ c κs. search (headed-data, not-four))
+    (λ c. search needs) (λ c. search needs) (λ c κs. search (has-body, is-whole)) (λ c. search needs) (λ c. search needs) (λ c κs. search needs)
+    (λ c κs. search needs) (λ c. search (entered-unread, unread-body)) (λ c κs. search (headed, is-four)) (λ c. search needs) (λ c. search needs))

@@ -1,61 +1,15 @@
 -- `enter_data` meets its promise: a packet of no stream of the table is STREAM, and another is counted.
-use mathlib.Core.Path.{sym, ap, _∙_}
-use native.Mathlib.Omega.{arith}
-use denote.Ref.{now}
-use Rattle.words.specs.Outcome.{numberOf}
-use Rattle.play.specs.declared.streams.Sought.{Sought}
-use Rattle.play.specs.Play.{soughtPaper}
-use Rattle.play.proofs.StreamLaws.{found-below, found-data}
-use Rattle.play.proofs.PlayLaws.{lent-few, heard-data}
+use Rattle.play.proofs.StreamLaws.{found, found-below, found-few, found-data}
+use Rattle.play.proofs.PlayLaws.{heard-data}
 use Rattle.play.proofs.EntryLaws.{entered-unsought, entered-heard}
 use borrow.Author.Needs.{needs}
 use Rattle.play.proofs.entries.enter_data.Statement.{statement}
 use Rattle.play.proofs.entries.enter_data.Tie as tie
 
-returns : tie.Need-returns
-returns c =
-    let at-seek : tie.After-seek = search in
-    let at-size-of : tie.After-size-of = search in
-    let b : tie.Start = search in
-    let told = c .before .before .enum-told .given .1 in
-    rw (c .unheard .ensures)
-    (entered-unsought (now (b .args .table)) (now (b .args .words)) (b .args .w) (b .pre .1) _ _ _ (sym (at-seek .seek .ensures) ∙ ap soughtPaper told)
-    (c .before .unsought .ensures ∙ ap (λ (o : Sought). numberOf (soughtPaper o)) told) (at-size-of .size-of .ensures .0))
-
-hear-data-requires : tie.Need-hear-data-requires
-hear-data-requires c κs =
-    let at-seek : tie.After-seek = search in
-    let b : tie.Start = search in
-    let f = sym (at-seek .seek .ensures) ∙ ap soughtPaper (c .before .before .sought .given .1) in (
-      b .pre .0,
-      found-below (b .args .w) (now (b .args .words)) (b .pre .1) _ _ f,
-      found-data (b .args .w) (now (b .args .words)) (b .pre .1) _ _ f
-          (b .pre .2),
-    )
-
-cast-t14 : tie.Need-cast-t14
-cast-t14 c =
-    let at-seek : tie.After-seek = search in
-    let at-sought : tie.After-sought = search in
-    let b : tie.Start = search in
-    let f = sym (at-seek .seek .ensures) ∙ ap soughtPaper (at-sought .sought .given .1) in
-    omega (arith, lent-few _ _ (b .pre .0) (found-below (b .args .w) (now (b .args .words)) (b .pre .1) _ _ f))
-
-returns-2 : tie.Need-returns-2
-returns-2 c =
-    let at-seek : tie.After-seek = search in
-    let at-sought : tie.After-sought = search in
-    let at-size-of : tie.After-size-of = search in
-    let b : tie.Start = search in
-    let f = sym (at-seek .seek .ensures) ∙ ap soughtPaper (at-sought .sought .given .1) in
-    entered-heard (now (b .args .table)) (now (b .args .words)) (b .args .w) (b .pre .1) _ _ _ _ _ f (at-size-of .size-of .ensures .0)
-    (c .type-of .ensures)
-    (heard-data (b .args .w) _ (now (b .args .words)) (now (b .args .table)) (b .pre .1) _ _ (b .pre .2) (c .before .before .before .hear-data .ensures .0)
-    (c .before .before .before .hear-data .ensures .1))
-
 pub enter-data-spec : {M : Type 1} → statement M
 enter-data-spec =
     tie.close
     (tie.spec
-    (λ c κs. search needs) (λ c κs. search needs) (λ c. search needs) (λ c. search needs) (λ c κs. search needs) (λ c κs. search needs)
-    (λ c. search needs) returns hear-data-requires (λ c κs. search needs) cast-t14 (λ c. search needs) returns-2)
+    (λ c κs. search needs) (λ c. search needs) (λ c. search needs) (λ c κs. search needs) (λ c κs. search needs) (λ c κs. search needs) (λ c. search needs)
+    (λ c. search entered-unsought) (λ c κs. search (found-below, found-data)) (λ c κs. search found-few) (λ c. search needs)
+    (λ c. search (entered-heard, heard-data, found)))

@@ -4,25 +4,24 @@ use Prim.Native.Nat.{_-_, _/_}
 use native.Mathlib.Omega.{arith}
 use lib.ListN.{length}
 use Rattle.play.specs.Run.{entryWords, walkOf}
-use Rattle.play.proofs.RunLaws.{Running, rest-some, entered-small, running-start, running-over, running-full, running-end}
-use Rattle.play.proofs.RunLaws.{turned, stopped, stopped-same, stopped-long}
+use Rattle.play.proofs.EntryLaws.{entered-small}
+use Rattle.play.proofs.RunLaws.{Running, running-start, running-over, running-full, running-end, turned, stopped, stopped-same, stopped-long}
 use borrow.Author.Needs.{needs}
 use Rattle.play.proofs.run.run_on.Statement.{statement}
 use Rattle.play.proofs.run.run_on.Tie as tie
 
 abbrev Inv-loop : tie.InvT-loop
-Inv-loop table₀ words from answers₀ most at₀ n₀ table answers at n =
-    (most ≡ length answers₀ / entryWords) × Running most words from table₀ answers₀ table answers n (walkOf (most - n) words at table)
+Inv-loop table₀ recording from answers₀ most at₀ n₀ table answers at n =
+    (most ≡ length answers₀ / entryWords) × Running most recording from table₀ answers₀ table answers n (walkOf (most - n) recording at table)
 
 abbrev μ-loop : tie.MeasureT-loop
-μ-loop table₀ words from answers₀ most at₀ n₀ table answers at n = most - n
+μ-loop table₀ recording from answers₀ most at₀ n₀ table answers at n = most - n
 
 pub run-on-spec : {M : Type 1} → statement M
 run-on-spec =
     tie.close
     (tie.spec
-    Inv-loop μ-loop (λ c. search running-start) (λ c. search) (λ c. search) (λ c. search (running-end, running-over))
-    (λ c. search needs) (λ c. search needs) (λ c. search needs) (λ c. search needs) (λ c κs. search rest-some) (λ c. search needs)
-    (λ c κs. search (needs, entered-small)) (λ c. search needs) (λ c. omega (arith, entered-small))
-    (λ c. search stopped-same) (λ c. search stopped-long) (λ c. search (running-end, stopped)) (λ c. search needs) (λ c. search turned)
-    (λ c. search) (λ c. search) (λ c. search (running-end, running-full)))
+    Inv-loop μ-loop (λ c. search running-start) (λ c. search) (λ c. search) (λ c. search (running-end, running-over)) (λ c. search needs)
+    (λ c. search needs) (λ c. search needs) (λ c. search needs) (λ c κs. search needs) (λ c. search needs) (λ c κs. search (needs, entered-small))
+    (λ c. search needs) (λ c. omega (arith, entered-small)) (λ c. search stopped-same) (λ c. search stopped-long) (λ c. search (running-end, stopped))
+    (λ c. search needs) (λ c. search turned) (λ c. search) (λ c. search) (λ c. search (running-end, running-full)))

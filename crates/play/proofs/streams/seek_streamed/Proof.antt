@@ -3,12 +3,6 @@ use borrow.Author.Needs.{needs}
 use Rattle.play.proofs.streams.seek_streamed.Statement.{statement}
 use Rattle.play.proofs.streams.seek_streamed.Tie as tie
 
-returns : tie.Need-returns
-returns c = rw (c .before .if1 .taken) (c .seek-stream .ensures)
-
-returns-2 : tie.Need-returns-2
-returns-2 c = rw (c .if1 .left)
-
 pub seek-streamed-spec : {M : Type 1} → statement M
 seek-streamed-spec =
-    tie.close (tie.spec (λ c κs. search needs) returns returns-2)
+    tie.close (tie.spec (λ c κs. search needs) (λ c. rw (c .before .if1 .taken) (c .seek-stream .ensures)) (λ c. rw (c .if1 .left)))

@@ -4,9 +4,6 @@ use borrow.Author.Needs.{needs}
 use Rattle.record.proofs.inner.copies.copy_one.Statement.{statement}
 use Rattle.record.proofs.inner.copies.copy_one.Tie as tie
 
-returns : tie.Need-returns
-returns c = copied-one _ _ _ _ (c .before .pre .0) (c .before .pre .1)
-
 pub copy-one-spec : {M : Type 1} → statement M
 copy-one-spec =
-    tie.close (tie.spec (λ c. search needs) (λ c. search needs) (λ c. search needs) (λ c. search needs) (λ c. search needs) returns)
+    tie.close (tie.spec (λ c. search needs) (λ c. search needs) (λ c. search needs) (λ c. search needs) (λ c. search needs) (λ c. search copied-one))

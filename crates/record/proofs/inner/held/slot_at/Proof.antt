@@ -4,9 +4,6 @@ use borrow.Author.Needs.{needs}
 use Rattle.record.proofs.inner.held.slot_at.Statement.{statement}
 use Rattle.record.proofs.inner.held.slot_at.Tie as tie
 
-slot-in-requires : tie.Need-slot-in-requires
-slot-in-requires c κs = (places-tabled, search needs)
-
 pub slot-at-spec : {M : Type 1} → statement M
 slot-at-spec =
-    tie.close (tie.spec slot-in-requires (λ c. search needs))
+    tie.close (tie.spec (λ c κs. (places-tabled, search needs)) (λ c. search needs))

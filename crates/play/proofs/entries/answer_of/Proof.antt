@@ -1,0 +1,9 @@
+-- `answer_of` meets its promise: the number's test decides.
+use Rattle.words.proofs.Cases.{cases}
+use borrow.Author.Needs.{needs}
+use Rattle.play.proofs.entries.answer_of.Statement.{statement}
+use Rattle.play.proofs.entries.answer_of.Tie as tie
+
+pub answer-of-spec : {M : Type 1} → statement M
+answer-of-spec =
+    tie.close (tie.spec (λ c. search cases) (λ c. search needs) (λ c. search cases))
