@@ -2,13 +2,13 @@
 
 -- an accepted packet and its stream
 pub mod StreamLaws
--- the record of a stream lent to a packet, and the answers
+-- the record and the body that are lent to a packet, and what hearing it leaves
 pub mod PlayLaws
 -- what play keeps
 pub mod KeepLaws
--- what the checks of a packet found
+-- what the checks of the table and of a packet found
 pub mod CheckedLaws
--- the entry of one packet
+-- the entry of one packet, and the answers that are made of it
 pub mod EntryLaws
 -- a run of packets
 pub mod RunLaws

@@ -20,7 +20,7 @@ use Rattle.words.specs.Refusals.{firstGiven}
 use Rattle.words.proofs.Cases.{le-or-lt}
 use Rattle.words.proofs.RefusalLaws.{first-refused}
 use Rattle.words.proofs.LaidLaws.{sets-all}
-use Rattle.words.proofs.PartLaws.{put-at, put-length}
+use Rattle.words.proofs.PartLaws.{lent, put-at, put-length}
 use Rattle.fields.proofs.WalkLaws.{none-left}
 use Rattle.packet.specs.Header.{sizeOf}
 use Rattle.packet.specs.Read.{readOf}
@@ -51,6 +51,10 @@ at-length t ws at = entry-length (saidAt t ws at) (sizeOf (getD ws at 0))
 
 pub entry-stored : (ws : List ℕ) (a b c d e : ℕ) → length ws ≡ entryWords → set (set (set (set (set ws 0 a) 1 b) 2 c) 3 d) 4 e ≡ a ∷ b ∷ c ∷ d ∷ e ∷ []
 entry-stored ws a b c d e l = sets-all (a ∷ b ∷ c ∷ d ∷ e ∷ []) ws l
+
+pub entry-put : (at : ℕ) (x : Entry) (last answers : List ℕ) → last ≡ wordsOf x
+    → take at answers ++ (last ++ drop (at + entryWords - at) (drop at answers)) ≡ put at entryWords (wordsOf x) answers
+entry-put at x last answers e = rw e (lent at (at + entryWords) entryWords (wordsOf x) answers refl)
 
 -- ---- the run
 

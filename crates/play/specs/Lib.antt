@@ -4,5 +4,5 @@
 pub mod Play
 -- many, one after the other
 pub mod Run
--- the entry of one packet, straight from its words
+-- what the functions inside promise of one packet
 pub mod Entered

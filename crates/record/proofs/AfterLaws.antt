@@ -20,13 +20,13 @@ use Rattle.words.proofs.BitLaws.{has-and, has-or, word-same}
 use Rattle.words.proofs.SetBitLaws.{above-agree}
 use Rattle.words.proofs.PartLaws.{seen, lent-to, part-length, put-length, part-put, part-put-before, part-put-after, part-set-before, getD-put-before}
 use Rattle.fields.specs.Sizes.{sizeOf, sizesOf}
-use Rattle.fields.specs.Layout.{indicatorOf, bodyWords, fieldOf, contextOf}
+use Rattle.fields.specs.Layout.{indicatorOf, bodyWords, contextOf}
 use Rattle.fields.proofs.SizeLaws.{words-fixed}
 use Rattle.fields.proofs.BodyLaws.{context-fits, fromField, field-inside, field-length, place-fixed, field-fixed}
 use Rattle.record.specs.Held.{heldMask, holds, heldBits, slotAt}
 use Rattle.record.specs.Layout.{headWords, slotWords, recordWords, identifierOf, heldOf, countAt, countOf, slotIn, slotsOf, slotOf}
 use Rattle.record.specs.Counts.{countedOf, countRecord}
-use Rattle.record.specs.After.{slotAfter, slotsAfter, heldAfter, holdRecord, refilled, Inside}
+use Rattle.record.specs.After.{slotAfter, slotAfterBody, slotsAfter, heldAfter, holdRecord, refilled, Inside}
 use Rattle.record.proofs.SlotLaws.{in-order-same, in-order-length, in-order-at, held-small, held-low, held-high, held-all, slots-whole}
 use Rattle.record.proofs.HoldLaws.{slot-inside, within-holds}
 
@@ -76,7 +76,7 @@ module _ (body : List ℕ) (ok : contextOf body ≡ accepted tt) where
   -- ---- the slots after a packet
 
   module _ (slots : List ℕ) (l : length slots ≡ slotWords) where
-    slot-sized : (b : ℕ) → holds b ≡ true → length (slotAfter (has (indicatorOf body) b) (fieldOf b body) (slotIn b slots)) ≡ sizeOf b
+    slot-sized : (b : ℕ) → holds b ≡ true → length (slotAfterBody b body (slotIn b slots)) ≡ sizeOf b
     unfolding slotAfter slotIn
     slot-sized b o =
         ⊎-elim
@@ -88,7 +88,7 @@ module _ (body : List ℕ) (ok : contextOf body ≡ accepted tt) where
     unfolding slotsAfter heldBits holds
     slots-length = in-order-length 31 heldMask _ (λ b h o. slot-sized b o) ∙ slots-whole
 
-    pub slots-at : (b : ℕ) → holds b ≡ true → slotIn b (slotsAfter body slots) ≡ slotAfter (has (indicatorOf body) b) (fieldOf b body) (slotIn b slots)
+    pub slots-at : (b : ℕ) → holds b ≡ true → slotIn b (slotsAfter body slots) ≡ slotAfterBody b body (slotIn b slots)
     unfolding slotsAfter heldBits slotAt slotIn holds
     slots-at b o = in-order-at 31 heldMask b _ (λ x h e. slot-sized x e) (held-high b o) o
 
@@ -144,7 +144,7 @@ module _ (body r : List ℕ) (l : length r ≡ recordWords) (ok : contextOf body
       ∙ part-put headWords slotWords (slotsAfter body (part headWords slotWords r)) r fits new-slots
 
   -- a slot has the field's words where the packet carries it, and is else as it was
-  pub hold-slot : (b : ℕ) → holds b ≡ true → slotOf b (holdRecord body r) ≡ slotAfter (has (indicatorOf body) b) (fieldOf b body) (slotOf b r)
+  pub hold-slot : (b : ℕ) → holds b ≡ true → slotOf b (holdRecord body r) ≡ slotAfterBody b body (slotOf b r)
   unfolding slotOf
   hold-slot b o = ap (slotIn b) hold-slots ∙ slots-at body ok (slotsOf r) old-slots b o
 

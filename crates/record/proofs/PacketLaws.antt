@@ -10,14 +10,13 @@ use borrow.Author.Tests.{eq-eqb, ne-eqb}
 use lib.Dec.{eqb}
 use lib.ListN.{length}
 use Rattle.words.specs.Tests.{pick}
-use Rattle.words.specs.Word.{has}
 use Rattle.words.specs.Outcome.{accepted}
 use Rattle.words.proofs.Cases.{same-or-not}
-use Rattle.fields.specs.Layout.{indicatorOf, fieldOf, contextOf}
+use Rattle.fields.specs.Layout.{indicatorOf, contextOf}
 use Rattle.record.specs.Held.{holds}
 use Rattle.record.specs.Layout.{recordWords, identifierOf, heldOf, orderOf, countOf, lastOf, slotOf}
 use Rattle.record.specs.Counts.{countedOf, countRecord, addedTo}
-use Rattle.record.specs.After.{slotAfter, heldAfter, holdRecord, recordAfter, addedBy}
+use Rattle.record.specs.After.{slotAfterBody, heldAfter, holdRecord, recordAfter, addedBy}
 use Rattle.record.specs.Good.{recordGood, Good}
 use Rattle.record.proofs.AfterLaws.{count-length, count-count, count-other, count-slot, count-held, count-identifier}
 use Rattle.record.proofs.AfterLaws.{hold-length, hold-slot, hold-held, hold-count, hold-identifier}
@@ -108,13 +107,10 @@ module _ (kind count : ℕ) (body r : List ℕ) (l : length r ≡ recordWords) (
       by-kind (countOf k) _ (λ e. hold-count body counted whole (ok e) k h ∙ i) i
 
   -- a slot has the field's words where a Context packet carries it, and is else as it was
-  pub after-slot : (b : ℕ) → holds b ≡ true
-      → slotOf b (recordAfter kind count body r) ≡ pick (eqb kind 4) (slotAfter (has (indicatorOf body) b) (fieldOf b body) (slotOf b r)) (slotOf b r)
+  pub after-slot : (b : ℕ) → holds b ≡ true → slotOf b (recordAfter kind count body r) ≡ pick (eqb kind 4) (slotAfterBody b body (slotOf b r)) (slotOf b r)
   after-slot b o =
       let i = count-slot (orderOf kind) count r l (order-small kind) b in
-      ⊎-elim
-      (λ e. rw (eq-eqb kind 4 e)
-      (ap (slotOf b) (after-context e) ∙ hold-slot body counted whole (ok e) b o ∙ ap (slotAfter (has (indicatorOf body) b) (fieldOf b body)) i))
+      ⊎-elim (λ e. rw (eq-eqb kind 4 e) (ap (slotOf b) (after-context e) ∙ hold-slot body counted whole (ok e) b o ∙ ap (slotAfterBody b body) i))
       (λ n. rw (ne-eqb kind 4 n) (ap (slotOf b) (after-data n) ∙ i)) (same-or-not kind 4)
 
   -- the held indicator gains what a Context packet carries

@@ -16,14 +16,17 @@ use Rattle.record.specs.Held.{heldMask, heldBits, inOrder}
 use Rattle.record.specs.Layout.{headWords, slotWords, heldOf, orderOf, slotIn, slotsOf}
 use Rattle.record.specs.Counts.{countRecord, addedTo}
 
--- what a slot is after a packet: the field's words where the packet carries it, and else what it was.
--- "An accepted Context packet replaces each field .. that it carries, whole."
+-- what a slot is where its field is carried, or is not: the field's words, and else what it was
 unfoldable pub slotAfter : Bool → List ℕ → List ℕ → List ℕ
 slotAfter carried field slot = pick carried field slot
 
--- the slots after a packet with this body
+-- what the slot of bit b is after a packet with this body: "An accepted Context packet replaces each field .. that it carries, whole."
+abbrev pub slotAfterBody : ℕ → List ℕ → List ℕ → List ℕ
+slotAfterBody b body slot = slotAfter (has (indicatorOf body) b) (fieldOf b body) slot
+
+-- the slots after it
 unfoldable pub slotsAfter : List ℕ → List ℕ → List ℕ
-slotsAfter body slots = inOrder heldBits (λ b. slotAfter (has (indicatorOf body) b) (fieldOf b body) (slotIn b slots))
+slotsAfter body slots = inOrder heldBits (λ b. slotAfterBody b body (slotIn b slots))
 
 -- the held indicator after it: the carried bits of held fields are gained
 unfoldable pub heldAfter : ℕ → ℕ → ℕ
