@@ -31,8 +31,8 @@ use Rattle.record.proofs.SlotLaws.{placed, placed-inside, in-order-length, in-o
 use Rattle.record.proofs.HoldLaws.{slot-inside}
 use Rattle.record.proofs.GoodLaws.{zero-at, good-of}
 use Rattle.record.proofs.SqueezeLaws.{refilled-drop, held-length, refilled-held, held-refilled}
-use Rattle.page.specs.Body.{bodyOf, bodyWords, recordOf}
-use Rattle.page.proofs.JoinedLaws.{part-join}
+use Rattle.page.specs.Body.{pageBody, pageBodyWords, recordOf}
+use Rattle.page.proofs.PieceLaws.{part-join}
 
 -- ---- the first words
 
@@ -45,8 +45,8 @@ front-word i x rest h g =
     ∙ ap (λ (z : List ℕ). getD z i 0) (part-front headWords (part 0 headWords x) rest l)
     ∙ getD-part 0 headWords i x h)
 
-pub body-word : (r : List ℕ) (i : ℕ) → i < headWords → headWords ≤ length r → getD (bodyOf r) i 0 ≡ getD r i 0
-unfolding bodyOf
+pub body-word : (r : List ℕ) (i : ℕ) → i < headWords → headWords ≤ length r → getD (pageBody r) i 0 ≡ getD r i 0
+unfolding pageBody
 body-word r i h g = front-word i r _ h g
 
 pub record-word : (b : List ℕ) (i : ℕ) → i < headWords → headWords ≤ length b → getD (recordOf b) i 0 ≡ getD b i 0
@@ -85,8 +85,8 @@ module _ (r : List ℕ) (l : length r ≡ recordWords) (e : recordGood r ≡ tru
   unfolding slotsOf
   slots-length = part-length headWords slotWords r (omega arith)
 
-  pub body-length : length (bodyOf r) ≡ bodyWords (heldOf r)
-  unfolding bodyOf bodyWords
+  pub body-length : length (pageBody r) ≡ pageBodyWords (heldOf r)
+  unfolding pageBody pageBodyWords
   body-length =
       length-append (part 0 headWords r) _
       ∙ omega (arith, head-length, held-length (heldOf r) (good-within r e) (slotsOf r) slots-length)
@@ -97,15 +97,15 @@ module _ (r : List ℕ) (l : length r ≡ recordWords) (e : recordGood r ≡ tru
       refilled-held (heldOf r) (good-within r e) (slotsOf r) (replicate slotWords 0) slots-length
       (λ b o n. zero-slot b o ∙ sym (good-of r l e .unheld b o n))
 
-  pub record-body : recordOf (bodyOf r) ≡ r
-  unfolding recordOf bodyOf slotsOf
+  pub record-body : recordOf (pageBody r) ≡ r
+  unfolding recordOf pageBody slotsOf
   record-body =
       let rest : List ℕ = heldWords (heldOf r) (slotsOf r) in
-      let h : heldOf (bodyOf r) ≡ heldOf r = body-word r 1 (omega arith) (omega arith) in
-      let f : part 0 headWords (bodyOf r) ≡ part 0 headWords r = part-front headWords (part 0 headWords r) rest head-length in
-      let d : drop headWords (bodyOf r) ≡ rest = drop-at (part 0 headWords r) rest headWords head-length in
-      let s : refilled (heldOf (bodyOf r)) headWords (bodyOf r) (replicate slotWords 0) ≡ slotsOf r =
-      refilled-drop (heldOf (bodyOf r)) headWords (bodyOf r) (replicate slotWords 0) ∙ rw (d, h) slots-back in
+      let h : heldOf (pageBody r) ≡ heldOf r = body-word r 1 (omega arith) (omega arith) in
+      let f : part 0 headWords (pageBody r) ≡ part 0 headWords r = part-front headWords (part 0 headWords r) rest head-length in
+      let d : drop headWords (pageBody r) ≡ rest = drop-at (part 0 headWords r) rest headWords head-length in
+      let s : refilled (heldOf (pageBody r)) headWords (pageBody r) (replicate slotWords 0) ≡ slotsOf r =
+      refilled-drop (heldOf (pageBody r)) headWords (pageBody r) (replicate slotWords 0) ∙ rw (d, h) slots-back in
       ap₂ (λ (a b : List ℕ). a ++ b) f s ∙ part-join 0 headWords slotWords r ∙ rw l at (part-whole r)
 
 -- ---- how long a body is
@@ -132,16 +132,16 @@ every-size : sizesOf (bitsOf 31 (2 ^ 31 - 1)) ≡ slotWords
 unfolding bitsOf sizesOf sizeOf
 every-size = refl
 
-pub words-most : (held : ℕ) → bodyWords held ≤ recordWords
-unfolding bodyWords
+pub words-most : (held : ℕ) → pageBodyWords held ≤ recordWords
+unfolding pageBodyWords
 words-most held = omega (arith, sizes-within 31 held (2 ^ 31 - 1) (λ b h y. every-bit b h), every-size)
 
 -- the loop that adds the fields: its start, a turn and its end. The length so far and the words of the bits that are left are the whole
 abbrev pub Adding : ℕ → ℕ → ℕ → Type 0
-Adding held rest n = n + sizesOf (bitsOf 32 rest) ≡ bodyWords held
+Adding held rest n = n + sizesOf (bitsOf 32 rest) ≡ pageBodyWords held
 
 pub adding-start : (held rest : ℕ) → rest ≡ held % 2 ^ 31 → Adding held rest headWords
-unfolding bodyWords
+unfolding pageBodyWords
 adding-start held rest e =
     ap (λ (l : List ℕ). headWords + sizesOf l) (ap (bitsOf 32) e ∙ bits-trim 31 32 (held % 2 ^ 31) (omega arith) (mod-lt held (omega arith)) ∙ bits-mod 31 held)
 
@@ -149,13 +149,15 @@ module _ (held rest n b rest′ w : ℕ) (p : Adding held rest n) (cut : bitsOf 
   pub adding-turn : Adding held rest′ (n + w)
   adding-turn = omega (arith, p, ap sizesOf cut, sizes-more b (bitsOf 32 rest′))
 
-  pub adding-most : n + w ≤ recordWords
-  adding-most = omega (arith, adding-turn, words-most held)
+  pub adding-small : n + w < 2 ^ 64
+  adding-small = omega (arith, adding-turn, words-most held)
 
-pub adding-end : (held rest n : ℕ) → Adding held rest n → rest ≡ 0 → (n ≡ bodyWords held) × (n ≤ recordWords)
-adding-end held rest n p z =
-    let e : n ≡ bodyWords held = omega (arith, p, ap sizesOf (bits-none 32 rest (omega arith)), sizes-none) in
-    (e, omega (arith, words-most held))
+module _ (held rest n : ℕ) (p : Adding held rest n) (z : rest ≡ 0) where
+  pub adding-end : n ≡ pageBodyWords held
+  adding-end = omega (arith, p, ap sizesOf (bits-none 32 rest (omega arith)), sizes-none)
+
+  pub adding-most : n ≤ recordWords
+  adding-most = omega (arith, adding-end, words-most held)
 
 -- ---- slots that words are put into
 
@@ -172,13 +174,13 @@ module _ (held : ℕ) (ws blank : List ℕ) (l : length ws ≡ sizesOf (bitsOf 3
 
 -- ---- a body's record, and its body again
 
-module _ (b : List ℕ) (l : length b ≡ bodyWords (heldOf b)) where
+module _ (b : List ℕ) (l : length b ≡ pageBodyWords (heldOf b)) where
   pub body-some : headWords ≤ length b
-  unfolding bodyWords
+  unfolding pageBodyWords
   body-some = omega (arith, l)
 
   rest-length : length (drop headWords b) ≡ sizesOf (bitsOf 31 (heldOf b))
-  unfolding bodyWords
+  unfolding pageBodyWords
   rest-length = length-drop headWords b ∙ omega (arith, l)
 
   front-length : length (part 0 headWords b) ≡ headWords
@@ -215,8 +217,8 @@ module _ (b : List ℕ) (l : length b ≡ bodyWords (heldOf b)) where
       ∙ in-order-at 31 heldMask x _ (refilled-sized (heldOf b) ws (replicate slotWords 0) rest-length zeros-length) (held-high x o) o
       ∙ ap₂ (λ (n : ℕ) (z : List ℕ). slotAfter (has (heldOf b) x) (part n (sizeOf x) ws) z) (zero-add (placed 31 (heldOf b) x)) (zero-slot x o)
 
-  pub body-record : bitAnd (heldOf b) heldMask ≡ heldOf b → bodyOf (recordOf b) ≡ b
-  unfolding recordOf bodyOf
+  pub body-record : bitAnd (heldOf b) heldMask ≡ heldOf b → pageBody (recordOf b) ≡ b
+  unfolding recordOf pageBody
   body-record w =
       let rest : List ℕ = refilled (heldOf b) headWords b (replicate slotWords 0) in
       let h : heldOf (recordOf b) ≡ heldOf b = record-word b 1 (omega arith) body-some in

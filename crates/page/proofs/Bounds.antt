@@ -11,25 +11,25 @@ use Rattle.table.specs.Layout.{streamsOf, recordAt}
 use Rattle.table.specs.Well.{wellMade}
 use Rattle.table.proofs.RecordLaws as Records
 use Rattle.table.proofs.WellLaws.{layout-has, well-whole, well-few, well-record}
-use Rattle.page.specs.Joined.{joined}
-use Rattle.page.specs.Body.{bodyWords}
-use Rattle.page.specs.Layout.{offsetOf, savedBody, pageOf, pageLength}
-use Rattle.page.proofs.JoinedLaws.{joined-none, joined-next}
+use Rattle.page.specs.Pieces.{pieces}
+use Rattle.page.specs.Body.{pageBodyWords}
+use Rattle.page.specs.Layout.{offsetOf, savedBody, pageOf, pageLength, mostWords}
+use Rattle.page.proofs.PieceLaws.{pieces-none, pieces-next}
 use Rattle.page.proofs.BodyLaws.{words-most, body-length}
 use Rattle.page.proofs.LayoutLaws.{page-length}
 
 -- pieces of bounded length
-joined-between : (n least most : ℕ) (f : ℕ → List ℕ) → ((s : ℕ) → s < n → (least ≤ length (f s)) × (length (f s) ≤ most))
-    → (least * n ≤ length (joined n f)) × (length (joined n f) ≤ most * n)
-joined-between zero least most f h = (omega (arith, ap length (joined-none f)), omega (arith, ap length (joined-none f)))
-joined-between (suc n) least most f h =
-    let p = joined-between n least most f (λ s g. h s (omega arith)) in
+pieces-between : (n least most : ℕ) (f : ℕ → List ℕ) → ((s : ℕ) → s < n → (least ≤ length (f s)) × (length (f s) ≤ most))
+    → (least * n ≤ length (pieces n f)) × (length (pieces n f) ≤ most * n)
+pieces-between zero least most f h = (omega (arith, ap length (pieces-none f)), omega (arith, ap length (pieces-none f)))
+pieces-between (suc n) least most f h =
+    let p = pieces-between n least most f (λ s g. h s (omega arith)) in
     let q = h n (omega arith) in
-    (omega (arith, p .0, q .0, joined-next n f), omega (arith, p .1, q .1, joined-next n f))
+    (omega (arith, p .0, q .0, pieces-next n f), omega (arith, p .1, q .1, pieces-next n f))
 
 module _ (t : List ℕ) (w : wellMade t ≡ true) where
   saved-between : (s : ℕ) → s < streamsOf t → (headWords ≤ length (savedBody t s)) × (length (savedBody t s) ≤ recordWords)
-  unfolding savedBody bodyWords
+  unfolding savedBody pageBodyWords
   saved-between s h =
       let l = body-length (recordAt s t) (Records.record-length s t (layout-has t s (well-whole t w) h)) (well-record t w s h) in
       (omega (arith, l), omega (arith, l, words-most (heldOf (recordAt s t))))
@@ -38,11 +38,11 @@ module _ (t : List ℕ) (w : wellMade t ≡ true) where
   pub page-between : (2 + 16 * streamsOf t ≤ pageLength t) × (pageLength t ≤ 2 + 90 * streamsOf t)
   unfolding pageLength offsetOf
   page-between =
-      let b = joined-between (streamsOf t) headWords recordWords (savedBody t) saved-between in
+      let b = pieces-between (streamsOf t) headWords recordWords (savedBody t) saved-between in
       (omega (arith, b .0), omega (arith, b .1))
 
   -- "514 to 2,882 for 32": no page exceeds 65,535 words
-  pub page-small : pageLength t ≤ 2882
+  pub page-small : pageLength t ≤ mostWords
   page-small = omega (arith, page-between .1, well-few t w)
 
   pub page-whole : length (pageOf t) ≡ pageLength t

@@ -15,8 +15,8 @@ use Rattle.words.proofs.Cases.{both-left, both-right, both-true}
 use Rattle.words.proofs.AllLaws.{all-at, all-intro}
 use Rattle.words.proofs.PartLaws.{getD-part}
 use Rattle.record.specs.Layout.{headWords, heldOf}
-use Rattle.page.specs.Body.{bodyWords}
-use Rattle.page.specs.Layout.{contentsWords, offsetOf, pageFrom, bodiesIn, offsetAt, lengthAt, beginsAt, bodyAt}
+use Rattle.page.specs.Body.{pageBodyWords}
+use Rattle.page.specs.Layout.{contentsWords, offsetOf, pageFrom, bodiesIn, offsetAt, lengthAt, beginsAt, pageBodyAt}
 use Rattle.page.specs.inner.Tested.{pairGood, contentsGood, GoodContents}
 use Rattle.page.proofs.LayoutLaws.{offset-inside, page-length, body-part, offset-at, length-at, begins-at, body-sized}
 
@@ -25,7 +25,7 @@ use Rattle.page.proofs.LayoutLaws.{offset-inside, page-length, body-par
 pub record GoodPair (p : List ℕ) (s : ℕ) : Type 0 where
   pub gapless : offsetAt p s ≡ beginsAt p s
   pub inside : beginsAt p s + lengthAt p s ≤ length p
-  pub lengths : lengthAt p s ≡ bodyWords (getD p (beginsAt p s + 1) 0)
+  pub lengths : lengthAt p s ≡ pageBodyWords (getD p (beginsAt p s + 1) 0)
 
 pub pair-of : (p : List ℕ) (s : ℕ) → pairGood p s ≡ true → GoodPair p s
 unfolding pairGood
@@ -77,15 +77,15 @@ of-contents p g =
 -- ---- a body's words, in the page
 
 -- a body has its first words
-pub words-some : (held : ℕ) → headWords ≤ bodyWords held
-unfolding bodyWords
+pub words-some : (held : ℕ) → headWords ≤ pageBodyWords held
+unfolding pageBodyWords
 words-some held = omega arith
 
 contents-before : (n : ℕ) (f : ℕ → List ℕ) → contentsWords n ≤ offsetOf n f n
 unfolding offsetOf
 contents-before n f = omega arith
 
-pub page-contents : (n : ℕ) (f : ℕ → List ℕ) → n ≤ 32 → ((s : ℕ) → s < n → length (f s) ≡ bodyWords (heldOf (f s))) → GoodContents (pageFrom n f)
+pub page-contents : (n : ℕ) (f : ℕ → List ℕ) → n ≤ 32 → ((s : ℕ) → s < n → length (f s) ≡ pageBodyWords (heldOf (f s))) → GoodContents (pageFrom n f)
 unfolding pageFrom
 page-contents n f few l =
     let p : List ℕ = pageFrom n f in
@@ -99,20 +99,20 @@ page-contents n f few l =
           let w : getD p (offsetOf n f s + 1) 0 ≡ heldOf (f s) =
           sym (getD-part (offsetOf n f s) (length (f s)) 1 p (omega (arith, l s h, words-some (heldOf (f s)))))
           ∙ ap (λ (b : List ℕ). getD b 1 0) (body-part n f s h) in
-          length-at n f s h ∙ l s h ∙ ap bodyWords (sym (ap (λ (k : ℕ). getD p (k + 1) 0) (begins-at n f s (le-of-lt h)) ∙ w));
+          length-at n f s h ∙ l s h ∙ ap pageBodyWords (sym (ap (λ (k : ℕ). getD p (k + 1) 0) (begins-at n f s (le-of-lt h)) ∙ w));
       ends = begins-at n f n (le-refl n) ∙ sym (page-length n f);
     }
 
 module _ (p : List ℕ) (g : GoodContents p) (s : ℕ) (h : s < bodiesIn p) where
-  body-given : length (bodyAt p s) ≡ lengthAt p s
+  body-given : length (pageBodyAt p s) ≡ lengthAt p s
   body-given = body-sized p (g .room) (g .second) (g .gapless) (g .inside) (g .ends) s h
 
   -- word i of body s
-  pub word-in : (i : ℕ) → i < headWords → getD (bodyAt p s) i 0 ≡ getD p (offsetAt p s + i) 0
-  unfolding bodyAt
+  pub word-in : (i : ℕ) → i < headWords → getD (pageBodyAt p s) i 0 ≡ getD p (offsetAt p s + i) 0
+  unfolding pageBodyAt
   word-in i k = getD-part (offsetAt p s) (lengthAt p s) i p (omega (arith, g .lengths s h, words-some (getD p (beginsAt p s + 1) 0)))
 
-  pub body-words : length (bodyAt p s) ≡ bodyWords (heldOf (bodyAt p s))
+  pub body-words : length (pageBodyAt p s) ≡ pageBodyWords (heldOf (pageBodyAt p s))
   body-words =
       body-given ∙ g .lengths s h
-      ∙ ap bodyWords (ap (λ (k : ℕ). getD p (k + 1) 0) (sym (g .gapless s h)) ∙ sym (word-in 1 (omega arith)))
+      ∙ ap pageBodyWords (ap (λ (k : ℕ). getD p (k + 1) 0) (sym (g .gapless s h)) ∙ sym (word-in 1 (omega arith)))

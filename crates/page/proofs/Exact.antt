@@ -6,7 +6,7 @@ use mathlib.Core.Path.{_≡_, sym, ap, _∙_}
 use mathlib.Core.Bool.{Bool, true}
 use mathlib.Core.Logic.{_↔_}
 use mathlib.Core.List.{List, [], _++_, append-nil}
-use Prim.Native.Nat.{ℕ, _+_, _<_}
+use Prim.Native.Nat.{ℕ, _<_}
 use native.Mathlib.Nat.{add-zero}
 use native.Mathlib.Omega.{arith}
 use lib.ListN.{length, getD, take, length-append}
@@ -23,8 +23,8 @@ use Rattle.table.proofs.RecordLaws.{record-identifier}
 use Rattle.table.proofs.RecordLaws as Records
 use Rattle.table.proofs.ListLaws.{list-same}
 use Rattle.table.proofs.WellLaws.{layout-has, well-whole, well-list, well-few, well-record, well-from}
-use Rattle.page.specs.Body.{bodyOf, bodyWords, recordOf}
-use Rattle.page.specs.Layout.{pageFrom, savedBody, pageOf, bodiesIn, offsetAt, bodyAt, savedRecord, tableFrom, tableOf}
+use Rattle.page.specs.Body.{pageBody, pageBodyWords, recordOf}
+use Rattle.page.specs.Layout.{pageFrom, savedBody, pageOf, bodiesIn, offsetAt, pageBodyAt, savedRecord, tableFrom, tableOf}
 use Rattle.page.specs.Good.{pageGood}
 use Rattle.page.specs.inner.Tested.{contentsGood, identifierAt, recordGoodIn, pageOk, GoodContents}
 use Rattle.page.proofs.BodyLaws.{body-word, record-word, good-within, body-length, record-body, body-some, record-length, body-record}
@@ -41,9 +41,9 @@ module _ (t : List ℕ) (w : wellMade t ≡ true) where
   unfolding savedBody
   saved-word s i h k = body-word (recordAt s t) i k (omega (arith, sized s h))
 
-  pub saved-length : (s : ℕ) → s < streamsOf t → length (savedBody t s) ≡ bodyWords (heldOf (savedBody t s))
+  pub saved-length : (s : ℕ) → s < streamsOf t → length (savedBody t s) ≡ pageBodyWords (heldOf (savedBody t s))
   unfolding savedBody
-  saved-length s h = body-length (recordAt s t) (sized s h) (well-record t w s h) ∙ ap bodyWords (sym (saved-word s 1 h (omega arith)))
+  saved-length s h = body-length (recordAt s t) (sized s h) (well-record t w s h) ∙ ap pageBodyWords (sym (saved-word s 1 h (omega arith)))
 
   pub saved-contents : GoodContents (pageOf t)
   unfolding pageOf
@@ -97,16 +97,16 @@ module _ (p : List ℕ) (e : pageOk p ≡ true) where
   unfolding pageOk recordGoodIn
   ok-record s h = all-at (recordGoodIn p) (bodiesIn p) s h (both-right list records (both-right (contentsGood p) (both list records) e))
 
-  ok-words : (s : ℕ) → s < bodiesIn p → length (bodyAt p s) ≡ bodyWords (heldOf (bodyAt p s))
+  ok-words : (s : ℕ) → s < bodiesIn p → length (pageBodyAt p s) ≡ pageBodyWords (heldOf (pageBodyAt p s))
   ok-words s h = body-words p ok-contents s h
 
   pub ok-sized : (s : ℕ) → s < bodiesIn p → length (savedRecord p s) ≡ recordWords
   unfolding savedRecord
-  ok-sized s h = record-length (bodyAt p s) (ok-words s h)
+  ok-sized s h = record-length (pageBodyAt p s) (ok-words s h)
 
-  ok-word : (s i : ℕ) → s < bodiesIn p → i < headWords → getD (savedRecord p s) i 0 ≡ getD (bodyAt p s) i 0
+  ok-word : (s i : ℕ) → s < bodiesIn p → i < headWords → getD (savedRecord p s) i 0 ≡ getD (pageBodyAt p s) i 0
   unfolding savedRecord
-  ok-word s i h k = record-word (bodyAt p s) i k (body-some (bodyAt p s) (ok-words s h))
+  ok-word s i h k = record-word (pageBodyAt p s) i k (body-some (pageBodyAt p s) (ok-words s h))
 
   -- the layout's length, S and records of the table, whatever follows it
   pub back-length : length (tableOf p) ≡ base (bodiesIn p)
@@ -131,17 +131,17 @@ module _ (p : List ℕ) (e : pageOk p ≡ true) where
       (λ s h. ap recordGood (back-record s rest h) ∙ ok-record s h)
 
   -- the page is that of the table
-  body-back : (s : ℕ) (rest : List ℕ) → s < bodiesIn p → savedBody (tableOf p ++ rest) s ≡ bodyAt p s
+  body-back : (s : ℕ) (rest : List ℕ) → s < bodiesIn p → savedBody (tableOf p ++ rest) s ≡ pageBodyAt p s
   unfolding savedBody savedRecord
   body-back s rest h =
-      let held : heldOf (savedRecord p s) ≡ heldOf (bodyAt p s) = ok-word s 1 h (omega arith) in
-      ap bodyOf (back-record s rest h) ∙ body-record (bodyAt p s) (ok-words s h) (rw held at (good-within (savedRecord p s) (ok-record s h)))
+      let held : heldOf (savedRecord p s) ≡ heldOf (pageBodyAt p s) = ok-word s 1 h (omega arith) in
+      ap pageBody (back-record s rest h) ∙ body-record (pageBodyAt p s) (ok-words s h) (rw held at (good-within (savedRecord p s) (ok-record s h)))
 
   pub page-back : (rest : List ℕ) → pageOf (tableOf p ++ rest) ≡ p
   unfolding pageOf tableOf tableFrom
   page-back rest =
       let g = ok-contents in
-      page-same (bodiesIn p) (savedBody (tableOf p ++ rest)) (bodyAt p) (λ s h. body-back s rest h)
+      page-same (bodiesIn p) (savedBody (tableOf p ++ rest)) (pageBodyAt p) (λ s h. body-back s rest h)
       ∙ page-again p (g .room) (g .second) (g .gapless) (g .inside) (g .ends)
 
 -- ---- "A page is well made when some well-made table saves exactly its words"

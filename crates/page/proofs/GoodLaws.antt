@@ -1,16 +1,15 @@
 -- How a program tests a page. The idea: while the pairs before it are right, body s begins where the lengths say (`Paired`), so one pass tests them all; the
 -- identifiers are gathered into a list (`Gathering`), and each test is a row of its definition. The record of a body need not be made to be tested: its
--- first words
--- are the body's, the slots of held fields have the words that a walk over the body finds, and the other slots are zero (`rules-below`).
+-- first words are the body's, the slots of held fields have the words that a walk over the body finds, and the other slots are zero (`rules-below`).
 use mathlib.Core.Path.{_≡_, refl, sym, ap, ap₂, _∙_}
-use mathlib.Core.Bool.{Bool, true, false}
+use mathlib.Core.Bool.{Bool, true, false, not}
 use mathlib.Core.Logic.{⊎-elim}
 use mathlib.Core.List.{List}
 use Prim.Native.Nat.{ℕ, zero, suc, _+_, _-_, _*_, _^_, _≤_, _<_}
 use native.Mathlib.Nat.{zero-add, one-mul, lt-of-le-of-lt}
 use native.Mathlib.Numerals.{add-one}
 use native.Mathlib.Omega.{arith}
-use borrow.Author.Tests.{eq-eqb, ne-eqb, le-leb, lt-leb}
+use borrow.Author.Tests.{eq-eqb, ne-eqb, le-leb, lt-leb, not-true, not-false}
 use lib.Bits.{bitAnd, and-le-r}
 use lib.Dec.{eqb, leb}
 use lib.ListN.{length, take, drop, getD, set, length-set}
@@ -39,20 +38,20 @@ use Rattle.record.proofs.HoldLaws.{within-holds}
 use Rattle.record.proofs.GoodLaws.{counts-at, last-at, zeros-good, good-head-ill, good-slots}
 use Rattle.table.specs.Identifiers.{spaced, listGood}
 use Rattle.table.proofs.ListLaws.{list-same}
-use Rattle.page.specs.Body.{bodyWords, recordOf}
+use Rattle.page.specs.Body.{pageBodyWords, recordOf}
 use Rattle.page.specs.Layout.{contentsWords, bodiesIn, offsetAt, lengthAt, beginsAt}
 use Rattle.page.specs.inner.Tested.{pairGood, pairsGood, contentsGood, identifierAt, Gathered, recordGoodIn, pageOk}
 use Rattle.page.proofs.BodyLaws.{head-within, body-some, record-word, record-slot}
-use Rattle.page.proofs.ContentsLaws.{pair-of}
+use Rattle.page.proofs.ContentsLaws.{pair-of, contents-of}
 
--- ---- one pair: a is its offset, l its length, and w the words of its body's held indicator; the bodies before it end at the place at
+-- ---- one pair: a is its offset, l its length, and w the words of the held indicator of its body; the bodies before it end at the place at
 
-pub pair-tests : (p : List ℕ) (s at a l w : ℕ) (rest r : Bool) → at ≡ beginsAt p s → a ≡ offsetAt p s → l ≡ lengthAt p s → w ≡ bodyWords (getD p (at + 1) 0)
-    → rest ≡ both (leb (at + l) (length p)) (eqb l w) → r ≡ both (eqb a at) rest → r ≡ pairGood p s
+pub pair-tests : (p : List ℕ) (s at a l w held : ℕ) (rest r : Bool) → at ≡ beginsAt p s → a ≡ offsetAt p s → l ≡ lengthAt p s → held ≡ getD p (at + 1) 0
+    → w ≡ pageBodyWords held → rest ≡ both (leb (at + l) (length p)) (eqb l w) → r ≡ both (eqb a at) rest → r ≡ pairGood p s
 unfolding pairGood
-pair-tests p s at a l w rest r e f g h i j = j ∙ rw (i, h, f, g, e)
+pair-tests p s at a l w held rest r e f g h o i j = j ∙ rw (i, o, h, f, g, e)
 
--- ---- the loop that tests the pairs
+-- ---- the loop that tests the pairs, b being the answer to pair s
 
 pub record Paired (p : List ℕ) (n s at : ℕ) : Type 0 where
   pub most : s ≤ n
@@ -60,52 +59,51 @@ pub record Paired (p : List ℕ) (n s at : ℕ) : Type 0 where
   pub here : at ≡ beginsAt p s
   pub inside : at ≤ length p
 
-pub paired-start : (p : List ℕ) (n : ℕ) → n ≡ bodiesIn p → contentsWords n ≤ length p → Paired p n 0 (2 + 2 * n)
+pub paired-start : (p : List ℕ) (n at : ℕ) → n ≡ bodiesIn p → at ≡ contentsWords n → contentsWords n ≤ length p → Paired p n 0 at
 unfolding beginsAt
-paired-start p n e h = record { most = omega arith; right = all-none (pairGood p); here = ap contentsWords e; inside = h }
+paired-start p n at e f h = record { most = omega arith; right = all-none (pairGood p); here = f ∙ ap contentsWords e; inside = rw f h }
 
-module _ (p : List ℕ) (n s at : ℕ) (q : Paired p n s at) where
-  pub paired-fails : s < n → pairGood p s ≡ false → false ≡ pairsGood p n
-  paired-fails h e = rw (all-fails (pairGood p) n s h e)
+pub paired-fails : (p : List ℕ) (n s : ℕ) (b : Bool) → b ≡ pairGood p s → not b ≡ true → s < n → false ≡ pairsGood p n
+paired-fails p n s b e i h = rw (all-fails (pairGood p) n s h (sym e ∙ not-true b i))
 
-  module _ (l : ℕ) (e : pairGood p s ≡ true) (g : l ≡ lengthAt p s) where
-    paired-most : at + l ≤ length p
-    paired-most = omega (arith, q .here, pair-of p s e .inside)
-
-    pub paired-turn : s < n → Paired p n (s + 1) (at + l)
-    unfolding beginsAt
-    paired-turn h = record {
+pub paired-turn : (p : List ℕ) (n s at l : ℕ) (b : Bool) → Paired p n s at → b ≡ pairGood p s → not b ≡ false → l ≡ lengthAt p s → s < n
+    → Paired p n (s + 1) (at + l)
+unfolding beginsAt
+paired-turn p n s at l b q e i g h =
+    let right : pairGood p s ≡ true = sym e ∙ not-false b i in
+    record {
       most = omega arith;
-      right = all-more (pairGood p) s (q .right) e;
+      right = all-more (pairGood p) s (q .right) right;
       here = rw (add-one s) (omega (arith, q .here));
-      inside = paired-most;
+      inside = omega (arith, q .here, pair-of p s right .inside);
     }
 
-  pub paired-end : n ≤ s → eqb at (length p) ≡ pairsGood p n
-  paired-end h =
-      let i : s ≡ n = omega (arith, q .most) in
-      let b : at ≡ beginsAt p n = q .here ∙ ap (beginsAt p) i in
-      rw (all-end (pairGood p) n s i (q .right), ← b)
+pub paired-end : (p : List ℕ) (n s at : ℕ) → Paired p n s at → n ≤ s → eqb at (length p) ≡ pairsGood p n
+paired-end p n s at q h =
+    let i : s ≡ n = omega (arith, q .most) in
+    let b : at ≡ beginsAt p n = q .here ∙ ap (beginsAt p) i in
+    rw (all-end (pairGood p) n s i (q .right), ← b)
 
--- ---- the contents, n being S
+-- ---- the contents, n being S and m the words of the contents
 
 module _ (p : List ℕ) (n : ℕ) (e : n ≡ bodiesIn p) where
   pub contents-many : 32 < n → false ≡ contentsGood p
   unfolding contentsGood
   contents-many h = rw (← e, lt-leb n 32 h)
 
-  pub contents-short : n ≤ 32 → length p < contentsWords n → false ≡ contentsGood p
-  unfolding contentsGood
-  contents-short few h = rw (← e, le-leb n 32 few, lt-leb (contentsWords n) (length p) h)
-
-  module _ (few : n ≤ 32) (room : contentsWords n ≤ length p) (second : ℕ) (f : second ≡ getD p 1 0) where
-    pub contents-other : (second ≡ length p → ⊥) → false ≡ contentsGood p
+  module _ (m : ℕ) (few : n ≤ 32) (d : m ≡ contentsWords n) where
+    pub contents-short : length p < m → false ≡ contentsGood p
     unfolding contentsGood
-    contents-other h = rw (← e, le-leb n 32 few, le-leb (contentsWords n) (length p) room, ← f, ne-eqb second (length p) h)
+    contents-short h = rw (← e, le-leb n 32 few, ← d, lt-leb m (length p) h)
 
-    pub contents-all : (b : Bool) → second ≡ length p → b ≡ pairsGood p n → b ≡ contentsGood p
-    unfolding contentsGood
-    contents-all b h g = rw (← e, le-leb n 32 few, le-leb (contentsWords n) (length p) room, ← f, eq-eqb second (length p) h) g
+    module _ (second : ℕ) (room : m ≤ length p) (f : second ≡ getD p 1 0) where
+      pub contents-other : (second ≡ length p → ⊥) → false ≡ contentsGood p
+      unfolding contentsGood
+      contents-other h = rw (← e, le-leb n 32 few, ← d, le-leb m (length p) room, ← f, ne-eqb second (length p) h)
+
+      pub contents-all : (b : Bool) → second ≡ length p → b ≡ pairsGood p n → b ≡ contentsGood p
+      unfolding contentsGood
+      contents-all b h g = rw (← e, le-leb n 32 few, ← d, le-leb m (length p) room, ← f, eq-eqb second (length p) h) g
 
 -- ---- the identifiers
 
@@ -130,8 +128,9 @@ gathering-turn p before ids n s at w q h l e f = record {
 pub gathering-end : (p before ids : List ℕ) (n s : ℕ) → Gathering p before ids n s → n ≤ s → Gathered n p ids
 gathering-end p before ids n s q h = λ u g. q .found u (omega arith)
 
-pub list-gathered : (p ids : List ℕ) (n : ℕ) → Gathered n p ids → listGood n (spaced 0 1 ids) ≡ listGood n (identifierAt p)
-list-gathered p ids n g = list-same n (spaced 0 1 ids) (identifierAt p) (λ s h. ap (λ (i : ℕ). getD ids i 0) (zero-add (1 * s) ∙ one-mul s) ∙ g s h)
+pub list-gathered : (p ids : List ℕ) (n : ℕ) (b : Bool) → b ≡ listGood n (spaced 0 1 ids) → Gathered n p ids → b ≡ listGood n (identifierAt p)
+list-gathered p ids n b e g =
+    e ∙ list-same n (spaced 0 1 ids) (identifierAt p) (λ s h. ap (λ (i : ℕ). getD ids i 0) (zero-add (1 * s) ∙ one-mul s) ∙ g s h)
 
 -- ---- the record of a body, as a program tests it in the body
 
@@ -139,7 +138,7 @@ both-swap : (s t : Bool) → both s t ≡ both t s
 both-swap true t = sym (both-yes t)
 both-swap false t = sym (both-no t)
 
-module _ (b : List ℕ) (l : length b ≡ bodyWords (heldOf b)) where
+module _ (b : List ℕ) (l : length b ≡ pageBodyWords (heldOf b)) where
   -- the slot of a field that is held, and of one that is not
   slot-held : (x : ℕ) → holds x ≡ true → has (heldOf b) x ≡ true → slotGood (recordOf b) x ≡ ruleOf x (drop (placed 31 (heldOf b) x) (drop headWords b))
   unfolding slotGood slotAfter
@@ -193,12 +192,12 @@ module _ (b : List ℕ) (l : length b ≡ bodyWords (heldOf b)) where
         ∙ sym (last-at (recordOf b)) in
         e ∙ ap₂ both (ap₂ heldGood h last) (all-same (countGoodAt b) (countGoodAt (recordOf b)) 4 count-same)
 
-    pub body-ill : head ≡ false → false ≡ recordGood (recordOf b)
-    body-ill h = good-head-ill (recordOf b) head head-same h
+    pub body-ill : not head ≡ true → false ≡ recordGood (recordOf b)
+    body-ill i = good-head-ill (recordOf b) head head-same (not-true head i)
 
-    module _ (h : head ≡ true) where
+    module _ (i : not head ≡ false) where
       held-within : bitAnd (heldOf b) heldMask ≡ heldOf b
-      held-within = head-within b _ (sym e ∙ h)
+      held-within = head-within b _ (sym e ∙ not-false head i)
 
       pub body-held : heldOf b < 2 ^ 31
       body-held = rw held-within at (lt-of-le-of-lt (and-le-r (heldOf b) heldMask) held-small)
@@ -209,20 +208,28 @@ module _ (b : List ℕ) (l : length b ≡ bodyWords (heldOf b)) where
       body-rules kept g =
           let d : drop 1 (take (length b - (headWords - 1)) (drop (headWords - 1) b)) ≡ drop headWords b = ap (drop 1) (rest-whole (headWords - 1) b)
           ∙ drop-drop 1 (headWords - 1) b in
-          good-slots (recordOf b) head head-same kept h (g ∙ rw d (rules-below 31 0 held-within (omega arith) (zero-add _)))
+          good-slots (recordOf b) head head-same kept (not-false head i) (g ∙ rw d (rules-below 31 0 held-within (omega arith) (zero-add _)))
 
--- ---- the page, n being S
+-- ---- the page: k is the answer to its contents, l that to its list, and n is S
 
-module _ (p : List ℕ) where
-  pub page-contents-ill : contentsGood p ≡ false → false ≡ pageOk p
+module _ (p : List ℕ) (k : Bool) (c : k ≡ contentsGood p) where
+  pub page-contents-ill : not k ≡ true → false ≡ pageOk p
   unfolding pageOk
-  page-contents-ill c = rw c
+  page-contents-ill i = rw (← c, not-true k i)
 
-  module _ (n : ℕ) (e : n ≡ bodiesIn p) (c : contentsGood p ≡ true) where
-    pub page-list-ill : listGood n (identifierAt p) ≡ false → false ≡ pageOk p
-    unfolding pageOk
-    page-list-ill l = rw (c, ← e, l)
+  module _ (i : not k ≡ false) where
+    pub contents-passed : contentsGood p ≡ true
+    contents-passed = sym c ∙ not-false k i
 
-    pub page-records : (b : Bool) → listGood n (identifierAt p) ≡ true → b ≡ all n (recordGoodIn p) → b ≡ pageOk p
-    unfolding pageOk
-    page-records b l r = rw (c, ← e, l) r
+    module _ (n : ℕ) (e : n ≡ bodiesIn p) where
+      pub page-few : n ≤ 32
+      page-few = omega (arith, contents-of p contents-passed .few)
+
+      module _ (l : Bool) (f : l ≡ listGood n (identifierAt p)) where
+        pub page-list-ill : not l ≡ true → false ≡ pageOk p
+        unfolding pageOk
+        page-list-ill j = rw (contents-passed, ← e, ← f, not-true l j)
+
+        pub page-records : (b : Bool) → not l ≡ false → b ≡ all n (recordGoodIn p) → b ≡ pageOk p
+        unfolding pageOk
+        page-records b j r = rw (contents-passed, ← e, ← f, not-false l j) r

@@ -1,13 +1,13 @@
 -- How putting back goes. The idea: a body's first words and its held words are put into zeroed words (`filled-record`), and the records are pieces laid one
 -- after the other behind S (`Putting`).
 use mathlib.Core.Path.{_≡_, refl, sym, ap, ap₂, _∙_}
-use mathlib.Core.Bool.{true, false}
+use mathlib.Core.Bool.{Bool, true, false, not}
 use mathlib.Core.List.{List, [], _∷_, _++_, append-nil}
-use Prim.Native.Nat.{ℕ, _+_, _-_, _≤_, _<_}
+use Prim.Native.Nat.{ℕ, _+_, _-_, _^_, _≤_, _<_}
 use native.Mathlib.Omega.{arith}
-use borrow.Author.Tests.{lt-ltb, le-ltb}
+use borrow.Author.Tests.{lt-ltb, le-ltb, not-true, not-false}
 use lib.Bits.{bitAnd}
-use lib.ListN.{length, take, drop, set, replicate, length-replicate}
+use lib.ListN.{length, take, drop, set, replicate, length-replicate, length-set}
 use Rattle.words.specs.Numbers.{PAGE, ROOM}
 use Rattle.words.specs.declared.Length.the-variants.{Accepted, Refused}
 use Rattle.words.specs.Outcome.{measured, Meets}
@@ -23,14 +23,15 @@ use Rattle.fields.specs.Sizes.{sizeOf, sizesOf}
 use Rattle.record.specs.Held.{heldMask, holds, heldBits}
 use Rattle.record.specs.Layout.{headWords, slotWords, recordWords, heldOf, slotIn}
 use Rattle.record.specs.After.{slotAfter, refilled, Inside}
+use Rattle.record.specs.Good.{recordGood}
 use Rattle.record.proofs.SlotLaws.{placed-inside, in-order-same, held-low, held-high}
 use Rattle.record.proofs.HoldLaws.{within-holds}
 use Rattle.record.proofs.AfterLaws.{masked-within, masked-has, masked-place}
-use Rattle.table.specs.Layout.{base, Has, withRecord}
-use Rattle.page.specs.Joined.{joined}
-use Rattle.page.specs.Body.{bodyWords, recordOf}
-use Rattle.page.specs.Layout.{bodiesIn, offsetAt, lengthAt, bodyAt, savedRecord, tableFrom, tableOf}
-use Rattle.page.specs.inner.Tested.{contentsGood, pageOk}
+use Rattle.table.specs.Layout.{base, layoutWords, Has, withRecord}
+use Rattle.page.specs.Pieces.{pieces}
+use Rattle.page.specs.Body.{pageBodyWords, recordOf}
+use Rattle.page.specs.Layout.{bodiesIn, offsetAt, lengthAt, pageBodyAt, savedRecord, tableFrom, tableOf}
+use Rattle.page.specs.inner.Tested.{contentsGood, recordGoodIn, pageOk}
 use Rattle.page.specs.PutBack.{putBackOf}
 use Rattle.page.proofs.BodyLaws.{body-some, record-length}
 use Rattle.page.proofs.ContentsLaws.{contents-of, body-words}
@@ -53,9 +54,9 @@ refilled-masked n at ws slots =
     (ap (λ (l : List ℕ). pick (has n b) (part (at + sizesOf l) (sizeOf b) ws) (slotIn b slots)) (masked-place n b (omega (arith, held-low b e)))))
 
 -- n is the body's held indicator
-module _ (n : ℕ) (b : List ℕ) (e : n ≡ heldOf b) (l : length b ≡ bodyWords (heldOf b)) where
-  fields-inside : Inside (bitAnd n heldMask) headWords b
-  unfolding bodyWords
+module _ (n : ℕ) (b : List ℕ) (e : n ≡ heldOf b) (l : length b ≡ pageBodyWords (heldOf b)) where
+  pub fields-inside : Inside (bitAnd n heldMask) headWords b
+  unfolding pageBodyWords
   fields-inside x y =
       let o : holds x ≡ true = within-holds (bitAnd n heldMask) (masked-within n) x y in
       let h : has n x ≡ true = sym (masked-has n x o) ∙ y in
@@ -85,13 +86,9 @@ module _ (n : ℕ) (b : List ℕ) (e : n ≡ heldOf b) (l : length b ≡ bodyWor
     first-put : rec ≡ put 0 headWords (part 0 headWords b) (replicate recordWords 0)
     first-put = y ∙ ap (put 0 headWords (part 0 headWords b)) z
 
-    pub refill-asks : (length (take (recordWords - headWords) (drop headWords rec)) ≡ slotWords)
-        × (bitAnd (bitAnd n heldMask) heldMask ≡ bitAnd n heldMask) × Inside (bitAnd n heldMask) headWords b
-    refill-asks = (
-      ap length (seen headWords recordWords slotWords rec refl ∙ ap (part headWords slotWords) first-put ∙ slots-blank) ∙ length-replicate {A = ℕ} slotWords 0,
-      masked-within n,
-      fields-inside,
-    )
+    pub refill-slots : length (take (recordWords - headWords) (drop headWords rec)) ≡ slotWords
+    refill-slots =
+        ap length (seen headWords recordWords slotWords rec refl ∙ ap (part headWords slotWords) first-put ∙ slots-blank) ∙ length-replicate {A = ℕ} slotWords 0
 
     pub filled-record : (last : List ℕ) → last ≡ refilled (bitAnd n heldMask) headWords b (take (recordWords - headWords) (drop headWords rec))
         → take headWords rec ++ (last ++ drop (recordWords - headWords) (drop headWords rec)) ≡ recordOf b
@@ -111,75 +108,102 @@ module _ (n : ℕ) (b : List ℕ) (e : n ≡ heldOf b) (l : length b ≡ bodyWor
 module _ (p : List ℕ) (s : ℕ) (c : contentsGood p ≡ true) (h : s < bodiesIn p) where
   pub loaded-length : length (savedRecord p s) ≡ recordWords
   unfolding savedRecord
-  loaded-length = record-length (bodyAt p s) (body-words p (contents-of p c) s h)
+  loaded-length = record-length (pageBodyAt p s) (body-words p (contents-of p c) s h)
 
   module _ (at l : ℕ) (e : at ≡ offsetAt p s) (f : l ≡ lengthAt p s) where
     pub load-inside : at + l ≤ length p
     load-inside = let g = contents-of p c in omega (arith, g .gapless s h, g .inside s h)
 
-    pub load-body : take (at + l - at) (drop at p) ≡ bodyAt p s
-    unfolding bodyAt
+    pub load-body : take (at + l - at) (drop at p) ≡ pageBodyAt p s
+    unfolding pageBodyAt
     load-body = seen at (at + l) l p refl ∙ ap₂ (λ (a n : ℕ). part a n p) e f
 
+  -- a page has few bodies
+  pub load-small : s < 2 ^ 32
+  load-small = omega (arith, contents-of p c .few)
+
   -- what `fill_record` and `body_good` ask of it
-  pub load-asks : (body : List ℕ) → body ≡ bodyAt p s → length body ≡ bodyWords (heldOf body)
+  pub load-asks : (body : List ℕ) → body ≡ pageBodyAt p s → length body ≡ pageBodyWords (heldOf body)
   load-asks body e = rw e (body-words p (contents-of p c) s h)
 
-  pub put-record : (body rec t after : List ℕ) → body ≡ bodyAt p s → rec ≡ recordOf body → after ≡ put (base s) recordWords (part 0 recordWords rec) t
-      → after ≡ withRecord s (savedRecord p s) t
+  pub put-record : (body rec t after : List ℕ) (at : ℕ) → body ≡ pageBodyAt p s → rec ≡ recordOf body → at ≡ base s
+      → after ≡ put at recordWords (part 0 recordWords rec) t → after ≡ withRecord s (savedRecord p s) t
   unfolding withRecord savedRecord
-  put-record body rec t after b e f =
-      f ∙ ap (λ (r : List ℕ). put (base s) recordWords r t) (ap (part 0 recordWords) (e ∙ ap recordOf b) ∙ rw loaded-length at (part-whole (savedRecord p s)))
+  put-record body rec t after at b e a f =
+      f ∙ ap₂ (λ (i : ℕ) (r : List ℕ). put i recordWords r t) a
+      (ap (part 0 recordWords) (e ∙ ap recordOf b) ∙ rw loaded-length at (part-whole (savedRecord p s)))
+
+-- the record of a body is tested in the body
+pub record-in : (p body : List ℕ) (s : ℕ) (b : Bool) → body ≡ pageBodyAt p s → b ≡ recordGood (recordOf body) → b ≡ recordGoodIn p s
+unfolding recordGoodIn savedRecord
+record-in p body s b e g = g ∙ ap (λ (x : List ℕ). recordGood (recordOf x)) e
 
 -- ---- the loop that writes the records
 
 pub record Putting (p before after : List ℕ) (n s : ℕ) : Type 0 where
   pub most : s ≤ n
-  pub laid : Laid before 1 (joined s (savedRecord p)) (base s) after
+  pub laid : Laid before 1 (pieces s (savedRecord p)) (base s) after
 
 pub putting-start : (p before : List ℕ) (n : ℕ) → Putting p before before n 0
 putting-start p before n = record { most = omega arith; laid = laid-none before 1 (savedRecord p) }
 
-module _ (p before after : List ℕ) (n s : ℕ) (w : pageOk p ≡ true) (e : n ≡ bodiesIn p) (l : base (bodiesIn p) ≤ length before)
-    (q : Putting p before after n s) where
-  pub putting-asks : s < n → (contentsGood p ≡ true) × (s < bodiesIn p) × Has s after
-  putting-asks g = (ok-tested p w, omega arith, omega (arith, laid-length (q .laid)))
+module _ (p t after : List ℕ) (n s : ℕ) (w : pageOk p ≡ true) (l : base (bodiesIn p) ≤ length t) (q : Putting p (set t 0 n) after n s)
+    (e : n ≡ bodiesIn p) where
+  pub putting-kept : length after ≡ length t
+  putting-kept = laid-length (q .laid) ∙ simp length-set
 
-  pub putting-turn : (after′ : List ℕ) → s < n → after′ ≡ withRecord s (savedRecord p s) after → Putting p before after′ n (s + 1)
-  unfolding withRecord
-  putting-turn after′ g f =
-      let a = putting-asks g in
-      let i : base s + recordWords ≡ base (s + 1) = omega arith in
-      record {
-        most = omega arith;
-        laid = laid-next s (savedRecord p) (q .laid)
-            (rw i at (laid-part after (savedRecord p s) after′ (base s) recordWords (loaded-length p s (a .0) (a .1)) (a .2) f));
-      }
+  module _ (g : s < n) where
+    pub putting-contents : contentsGood p ≡ true
+    putting-contents = ok-tested p w
 
--- S and the records are the table
-pub table-laid : (p t after : List ℕ) (n s : ℕ) → pageOk p ≡ true → n ≡ bodiesIn p → base (bodiesIn p) ≤ length t → Putting p (set t 0 n) after n s → n ≤ s
-    → after ≡ tableOf p ++ drop (base (bodiesIn p)) t
-unfolding tableOf tableFrom
-table-laid p t after n s w e l q h =
-    let i : s ≡ bodiesIn p = omega (arith, q .most) in
-    let k : length (bodiesIn p ∷ joined (bodiesIn p) (savedRecord p)) ≡ base (bodiesIn p) = back-length p w in
-    let records : Laid (set t 0 n) 1 (joined (bodiesIn p) (savedRecord p)) (base (bodiesIn p)) after = rw i at (q .laid) in
-    let first : Laid t 0 (bodiesIn p ∷ []) 1 (set t 0 n) = rw e (laid-one t 0 (bodiesIn p)) in
-    rw k at (laid-front (then first records) (omega (arith, k)))
+    pub putting-body : s < bodiesIn p
+    putting-body = omega arith
 
--- ---- the answers
+    pub putting-has : Has s after
+    putting-has = omega (arith, putting-kept)
 
-module _ (p t : List ℕ) where
-  pub back-ill : pageOk p ≡ false → Meets measured (putBackOf p t) t (Refused PAGE) t
+    pub putting-turn : (after′ : List ℕ) → after′ ≡ withRecord s (savedRecord p s) after → Putting p (set t 0 n) after′ n (s + 1)
+    unfolding withRecord
+    putting-turn after′ f =
+        let i : base s + recordWords ≡ base (s + 1) = omega arith in
+        record {
+          most = omega arith;
+          laid = laid-next s (savedRecord p) (q .laid)
+              (rw i at (laid-part after (savedRecord p s) after′ (base s) recordWords (loaded-length p s putting-contents putting-body) putting-has f));
+        }
+
+  -- S and the records are the table
+  pub table-laid : n ≤ s → after ≡ tableOf p ++ drop (base (bodiesIn p)) t
+  unfolding tableOf tableFrom
+  table-laid h =
+      let i : s ≡ bodiesIn p = omega (arith, q .most) in
+      let k : length (bodiesIn p ∷ pieces (bodiesIn p) (savedRecord p)) ≡ base (bodiesIn p) = back-length p w in
+      let records : Laid (set t 0 n) 1 (pieces (bodiesIn p) (savedRecord p)) (base (bodiesIn p)) after = rw i at (q .laid) in
+      let first : Laid t 0 (bodiesIn p ∷ []) 1 (set t 0 n) = rw e (laid-one t 0 (bodiesIn p)) in
+      rw k at (laid-front (then first records) (omega (arith, k)))
+
+-- ---- the answers: k is the answer to the page, n is S, and m the words of the layout
+
+module _ (p t : List ℕ) (k : Bool) (c : k ≡ pageOk p) where
+  pub back-ill : not k ≡ true → Meets measured (putBackOf p t) t (Refused PAGE) t
   unfolding putBackOf
-  back-ill w = meets-refused (rw (← page-tested p, w))
+  back-ill i = meets-refused (rw (← page-tested p, ← c, not-true k i))
 
-  module _ (w : pageOk p ≡ true) (n : ℕ) (e : n ≡ bodiesIn p) where
-    pub back-short : length t < base n → Meets measured (putBackOf p t) t (Refused ROOM) t
-    unfolding putBackOf
-    back-short h = meets-refused (rw (← page-tested p, w, ← e, lt-ltb (length t) (base n) h))
+  module _ (i : not k ≡ false) where
+    pub back-well : pageOk p ≡ true
+    back-well = sym c ∙ not-false k i
 
-    pub back-made : (after : List ℕ) → base n ≤ length t → after ≡ tableOf p ++ drop (base (bodiesIn p)) t
-        → Meets measured (putBackOf p t) t (Accepted (base n)) after
-    unfolding putBackOf
-    back-made after h f = meets-length (rw (← page-tested p, w, ← e, le-ltb (length t) (base n) h)) f
+    module _ (n m : ℕ) (e : n ≡ bodiesIn p) (f : m ≡ layoutWords n) where
+      pub back-room : m ≤ length t → base (bodiesIn p) ≤ length t
+      back-room h = omega arith
+
+      pub back-short : length t < m → Meets measured (putBackOf p t) t (Refused ROOM) t
+      unfolding putBackOf
+      back-short h = meets-refused (rw (← page-tested p, back-well, ← e, ← f, lt-ltb (length t) m h))
+
+      pub back-made : (after : List ℕ) → m ≤ length t → after ≡ tableOf p ++ drop (base (bodiesIn p)) t
+          → Meets measured (putBackOf p t) t (Accepted m) after
+      unfolding putBackOf
+      back-made after h g =
+          let r : layoutWords (bodiesIn p) ≡ m = ap layoutWords (sym e) ∙ sym f in
+          meets-length {left = tableOf p ++ drop (layoutWords (bodiesIn p)) t} (rw (← page-tested p, back-well, r, le-ltb (length t) m h)) g

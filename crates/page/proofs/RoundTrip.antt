@@ -12,7 +12,7 @@ use Rattle.table.specs.Layout.{streamsOf, base}
 use Rattle.table.specs.Well.{wellMade}
 use Rattle.page.specs.Layout.{pageFrom, pageOf, pageLength, tableOf}
 use Rattle.page.specs.Good.{pageGood}
-use Rattle.page.specs.Save.{saveOf}
+use Rattle.page.specs.Save.{sizeLimit, saveOf}
 use Rattle.page.specs.PutBack.{putBackOf}
 use Rattle.page.proofs.Bounds.{page-small, page-whole}
 use Rattle.page.proofs.Exact.{table-back, page-passes, table-well, page-back, page-tested}
@@ -21,7 +21,7 @@ use Rattle.page.proofs.Exact.{table-back, page-passes, table-well, page
 pub save-accepted : (t page : List ℕ) → wellMade t ≡ true → pageLength t ≤ length page
     → saveOf t page ≡ accepted (record { says = pageLength t; leaves = pageOf t ++ drop (pageLength t) page })
 unfolding saveOf
-save-accepted t page w h = rw (w, le-ltb 65535 (pageLength t) (omega (arith, page-small t w)), le-ltb (length page) (pageLength t) h)
+save-accepted t page w h = rw (w, le-ltb sizeLimit (pageLength t) (omega (arith, page-small t w)), le-ltb (length page) (pageLength t) h)
 
 -- put back after save is the same layout, and the words past it are those of the lent table
 pub put-back-saved : (t lent : List ℕ) → wellMade t ≡ true → base (streamsOf t) ≤ length lent

@@ -1,6 +1,6 @@
 -- The loop that lays the held words of a record's slots into a page. The idea: what is laid so far, with the slots of the bits that are left, is all held
 -- words (`Squeezing`); a turn lays the slot of the first of these bits.
-use mathlib.Core.Path.{_≡_, refl, sym, ap, _∙_}
+use mathlib.Core.Path.{_≡_, refl, sym, ap, ap₂, _∙_}
 use mathlib.Core.Bool.{true, false}
 use mathlib.Core.Logic.{⊎-elim}
 use mathlib.Core.List.{List, [], _∷_, _++_, append-assoc, append-nil}
@@ -9,6 +9,7 @@ use native.Mathlib.Nat.{add-zero, lt-of-le-of-lt}
 use native.Mathlib.Omega.{arith}
 use lib.Bits.{bitAnd, and-le-r}
 use lib.ListN.{length}
+use Rattle.words.specs.Tests.{among}
 use Rattle.words.specs.Word.{has}
 use Rattle.words.specs.Part.{part, put}
 use Rattle.words.specs.SetBits.{bitsOf}
@@ -24,6 +25,7 @@ use Rattle.record.specs.Layout.{slotWords, slotIn}
 use Rattle.record.specs.After.{heldWords}
 use Rattle.record.proofs.SlotLaws.{in-order-none, in-order-more, held-small}
 use Rattle.record.proofs.HoldLaws.{slot-inside, within-holds}
+use Rattle.record.proofs.CopyLaws.{size-held}
 use Rattle.page.proofs.WriteLaws.{laid-part}
 
 -- the bits of a list are those of held fields
@@ -56,31 +58,38 @@ squeezing-start held at slots page w =
       fits = ap (λ (l : List ℕ). at + sizesOf l) (bits-trim 31 32 held (omega arith) h);
     }
 
-module _ {held at rest to : ℕ} {slots before page : List ℕ} (p : Squeezing held at slots before page rest to) (b rest′ n : ℕ)
-    (cut : bitsOf 32 rest ≡ b ∷ bitsOf 32 rest′) where
-  pub squeezing-holds : holds b ≡ true
+-- a turn: the next bit is b, whose slot begins at the place from and has n words
+module _ (held at rest to b rest′ n : ℕ) (slots before page : List ℕ) (p : Squeezing held at slots before page rest to)
+    (cut : bitsOf 32 rest ≡ b ∷ bitsOf 32 rest′) (e : n ≡ sizeOf b) where
+  squeezing-holds : holds b ≡ true
   squeezing-holds = (rw cut at (p .bits)) .0
 
-  pub squeezing-room : n ≡ sizeOf b → at + sizesOf (bitsOf 31 held) ≤ length before → to + n ≤ length page
-  squeezing-room e h = omega (arith, p .fits, ap sizesOf cut, sizes-more b (bitsOf 32 rest′), laid-length (p .laid))
+  pub squeezing-sized : among n (1 ∷ 2 ∷ 11 ∷ 13 ∷ []) ≡ true
+  squeezing-sized = size-held b n squeezing-holds e
 
-pub squeezing-turn : {held at rest to : ℕ} {slots before page : List ℕ} → Squeezing held at slots before page rest to
-    → (b rest′ n : ℕ) (page′ : List ℕ) → bitsOf 32 rest ≡ b ∷ bitsOf 32 rest′ → n ≡ sizeOf b → holds b ≡ true → length slots ≡ slotWords
-    → to + n ≤ length page → page′ ≡ put to n (part (slotAt b) n slots) page → Squeezing held at slots before page′ rest′ (to + n)
-unfolding slotIn
-squeezing-turn {held} {at} {rest} {to} {slots} {before} {page} p b rest′ n page′ cut e o l room q =
-    let f : ℕ → List ℕ = λ x. slotIn x slots in
-    let k : length (slotIn b slots) ≡ n = part-length (slotAt b) (sizeOf b) slots (omega (arith, slot-inside b o)) ∙ sym e in
-    let w : page′ ≡ put to n (slotIn b slots) page = q ∙ ap (λ (m : ℕ). put to n (part (slotAt b) m slots) page) e in
-    record {
-      done = p .done ++ slotIn b slots;
-      laid = then (p .laid) (laid-part page (slotIn b slots) page′ to n k room w);
-      left =
-          append-assoc (p .done) (slotIn b slots) (inOrder (bitsOf 32 rest′) f)
-          ∙ ap (λ (z : List ℕ). p .done ++ z) (sym (ap (λ (z : List ℕ). inOrder z f) cut ∙ in-order-more b (bitsOf 32 rest′) f)) ∙ p .left;
-      bits = (rw cut at (p .bits)) .1;
-      fits = omega (arith, p .fits, ap sizesOf cut, sizes-more b (bitsOf 32 rest′));
-    }
+  pub squeezing-room : at + sizesOf (bitsOf 31 held) ≤ length before → to + n ≤ length page
+  squeezing-room h = omega (arith, p .fits, ap sizesOf cut, sizes-more b (bitsOf 32 rest′), laid-length (p .laid))
+
+  module _ (from : ℕ) (f : from ≡ slotAt b) (l : length slots ≡ slotWords) where
+    pub squeezing-slot : from + n ≤ length slots
+    squeezing-slot = omega (arith, slot-inside b squeezing-holds)
+
+    pub squeezing-turn : (page′ : List ℕ) → at + sizesOf (bitsOf 31 held) ≤ length before → page′ ≡ put to n (part from n slots) page
+        → Squeezing held at slots before page′ rest′ (to + n)
+    unfolding slotIn
+    squeezing-turn page′ h q =
+        let g : ℕ → List ℕ = λ x. slotIn x slots in
+        let k : length (slotIn b slots) ≡ n = part-length (slotAt b) (sizeOf b) slots (omega (arith, slot-inside b squeezing-holds)) ∙ sym e in
+        let w : page′ ≡ put to n (slotIn b slots) page = q ∙ ap₂ (λ (i m : ℕ). put to n (part i m slots) page) f e in
+        record {
+          done = p .done ++ slotIn b slots;
+          laid = then (p .laid) (laid-part page (slotIn b slots) page′ to n k (squeezing-room h) w);
+          left =
+              append-assoc (p .done) (slotIn b slots) (inOrder (bitsOf 32 rest′) g)
+              ∙ ap (λ (z : List ℕ). p .done ++ z) (sym (ap (λ (z : List ℕ). inOrder z g) cut ∙ in-order-more b (bitsOf 32 rest′) g)) ∙ p .left;
+          bits = (rw cut at (p .bits)) .1;
+          fits = omega (arith, p .fits, ap sizesOf cut, sizes-more b (bitsOf 32 rest′));
+        }
 
 pub squeezing-end : {held at rest to : ℕ} {slots before page : List ℕ} → Squeezing held at slots before page rest to → rest ≡ 0
     → Laid before at (heldWords held slots) to page

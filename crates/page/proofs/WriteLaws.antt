@@ -1,6 +1,5 @@
--- Pieces that are written one after the other. The idea: what is written so far is the pieces joined (`laid-next`), so pairs, bodies and records are laid
--- by one
--- law; and words laid from the front on are followed by what stood there (`laid-front`).
+-- Pieces that are written one after the other. The idea: what is written so far is the pieces so far (`laid-next`), so pairs, bodies and records are laid by
+-- one law; and words laid from the front on are followed by what stood there (`laid-front`).
 use mathlib.Core.Path.{_≡_, refl, sym, ap, _∙_}
 use mathlib.Core.List.{List, [], _∷_, _++_}
 use Prim.Native.Nat.{ℕ, suc, _+_, _≤_, _<_}
@@ -12,8 +11,8 @@ use lib.Seq.{sets, sets-eq, set-comm}
 use Rattle.words.specs.Part.{put}
 use Rattle.words.specs.Laid.{Laid}
 use Rattle.words.proofs.LaidLaws.{then, sets-put}
-use Rattle.page.specs.Joined.{joined}
-use Rattle.page.proofs.JoinedLaws.{joined-none, joined-more}
+use Rattle.page.specs.Pieces.{pieces}
+use Rattle.page.proofs.PieceLaws.{pieces-none, pieces-more}
 
 -- ---- one piece
 
@@ -44,18 +43,18 @@ laid-before {before} {ws} {after} {at} {to} i x p h = record {
       ∙ sets-before ws before at i x h;
 }
 
--- ---- pieces joined
+-- ---- pieces, one after the other
 
-pub laid-none : (before : List ℕ) (at : ℕ) (f : ℕ → List ℕ) → Laid before at (joined 0 f) at before
+pub laid-none : (before : List ℕ) (at : ℕ) (f : ℕ → List ℕ) → Laid before at (pieces 0 f) at before
 laid-none before at f = record {
-  past = sym (ap (λ (l : List ℕ). at + length l) (joined-none f) ∙ add-zero at);
-  kept = sym (ap (sets before at) (joined-none f));
+  past = sym (ap (λ (l : List ℕ). at + length l) (pieces-none f) ∙ add-zero at);
+  kept = sym (ap (sets before at) (pieces-none f));
 }
 
 pub laid-next : {before after after′ : List ℕ} {at to to′ : ℕ} (s : ℕ) (f : ℕ → List ℕ)
-    → Laid before at (joined s f) to after → Laid after to (f s) to′ after′ → Laid before at (joined (s + 1) f) to′ after′
+    → Laid before at (pieces s f) to after → Laid after to (f s) to′ after′ → Laid before at (pieces (s + 1) f) to′ after′
 laid-next {before} {after} {after′} {at} {to} {to′} s f p q =
-    let e : joined s f ++ f s ≡ joined (s + 1) f = sym (ap (λ (n : ℕ). joined n f) (add-one s) ∙ joined-more s f) in
+    let e : pieces s f ++ f s ≡ pieces (s + 1) f = sym (ap (λ (n : ℕ). pieces n f) (add-one s) ∙ pieces-more s f) in
     rw e at (then p q)
 
 -- ---- from the front on

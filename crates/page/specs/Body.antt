@@ -10,12 +10,12 @@ use Rattle.record.specs.Layout.{headWords, slotWords, heldOf, slotsOf}
 use Rattle.record.specs.After.{refilled, heldWords}
 
 -- the body of a record
-unfoldable pub bodyOf : List ℕ → List ℕ
-bodyOf r = part 0 headWords r ++ heldWords (heldOf r) (slotsOf r)
+unfoldable pub pageBody : List ℕ → List ℕ
+pageBody r = part 0 headWords r ++ heldWords (heldOf r) (slotsOf r)
 
 -- the length of a body, by its held indicator
-unfoldable pub bodyWords : ℕ → ℕ
-bodyWords held = headWords + sizesOf (bitsOf 31 held)
+unfoldable pub pageBodyWords : ℕ → ℕ
+pageBodyWords held = headWords + sizesOf (bitsOf 31 held)
 
 -- the record of a body: the held words go to their slots, and the other slots are zero
 unfoldable pub recordOf : List ℕ → List ℕ

@@ -5,8 +5,8 @@ use mathlib.Core.List.{List, [], _∷_, _++_}
 use lib.ListN.{length, getD}
 use Rattle.words.specs.Part.{part}
 use Rattle.table.specs.Layout.{streamsOf, recordAt}
-use Rattle.page.specs.Joined.{joined}
-use Rattle.page.specs.Body.{bodyOf, recordOf}
+use Rattle.page.specs.Pieces.{pieces}
+use Rattle.page.specs.Body.{pageBody, recordOf}
 
 -- ---- the page of n bodies
 
@@ -14,29 +14,33 @@ use Rattle.page.specs.Body.{bodyOf, recordOf}
 abbrev pub contentsWords : ℕ → ℕ
 contentsWords n = 2 + 2 * n
 
+-- where the pair of body s stands
+abbrev pub pairAt : ℕ → ℕ
+pairAt s = 2 + 2 * s
+
 -- where body s begins: "without gaps", after the contents and the bodies before it
 unfoldable pub offsetOf : ℕ → (ℕ → List ℕ) → ℕ → ℕ
-offsetOf n body s = contentsWords n + length (joined s body)
+offsetOf n body s = contentsWords n + length (pieces s body)
 
 -- "offset from word 0 and length of each body"
 unfoldable pub pairOf : ℕ → (ℕ → List ℕ) → ℕ → List ℕ
 pairOf n body s = offsetOf n body s ∷ length (body s) ∷ []
 
 unfoldable pub pageFrom : ℕ → (ℕ → List ℕ) → List ℕ
-pageFrom n body = n ∷ offsetOf n body n ∷ (joined n (pairOf n body) ++ joined n body)
+pageFrom n body = n ∷ offsetOf n body n ∷ (pieces n (pairOf n body) ++ pieces n body)
 
 -- ---- the page of a table
 
 -- the body of stream s
 unfoldable pub savedBody : List ℕ → ℕ → List ℕ
-savedBody t s = bodyOf (recordAt s t)
+savedBody t s = pageBody (recordAt s t)
 
 -- the pairs, and the bodies
 abbrev pub pairsOf : List ℕ → List ℕ
-pairsOf t = joined (streamsOf t) (pairOf (streamsOf t) (savedBody t))
+pairsOf t = pieces (streamsOf t) (pairOf (streamsOf t) (savedBody t))
 
 abbrev pub bodiesOf : List ℕ → List ℕ
-bodiesOf t = joined (streamsOf t) (savedBody t)
+bodiesOf t = pieces (streamsOf t) (savedBody t)
 
 -- the place past the pairs
 abbrev pub bodiesFrom : List ℕ → ℕ
@@ -49,6 +53,10 @@ pageOf t = pageFrom (streamsOf t) (savedBody t)
 unfoldable pub pageLength : List ℕ → ℕ
 pageLength t = offsetOf (streamsOf t) (savedBody t) (streamsOf t)
 
+-- "514 to 2,882 for 32": no page has more words
+abbrev pub mostWords : ℕ
+mostWords = 2882
+
 -- ---- what stands where in a page
 
 -- S
@@ -57,10 +65,10 @@ bodiesIn p = getD p 0 0
 
 -- the offset and the length that the contents give for body s
 abbrev pub offsetAt : List ℕ → ℕ → ℕ
-offsetAt p s = getD p (2 + 2 * s) 0
+offsetAt p s = getD p (pairAt s) 0
 
 abbrev pub lengthAt : List ℕ → ℕ → ℕ
-lengthAt p s = getD p (3 + 2 * s) 0
+lengthAt p s = getD p (pairAt s + 1) 0
 
 -- where body s begins by the lengths before it: "in list order without gaps"
 unfoldable pub beginsAt : List ℕ → ℕ → ℕ
@@ -68,18 +76,18 @@ beginsAt p zero = contentsWords (bodiesIn p)
 beginsAt p (suc s) = beginsAt p s + lengthAt p s
 
 -- body s
-unfoldable pub bodyAt : List ℕ → ℕ → List ℕ
-bodyAt p s = part (offsetAt p s) (lengthAt p s) p
+unfoldable pub pageBodyAt : List ℕ → ℕ → List ℕ
+pageBodyAt p s = part (offsetAt p s) (lengthAt p s) p
 
 -- ---- the table of a page
 
 -- the record of stream s
 unfoldable pub savedRecord : List ℕ → ℕ → List ℕ
-savedRecord p s = recordOf (bodyAt p s)
+savedRecord p s = recordOf (pageBodyAt p s)
 
 -- the layout of n records
 unfoldable pub tableFrom : ℕ → (ℕ → List ℕ) → List ℕ
-tableFrom n rec = n ∷ joined n rec
+tableFrom n rec = n ∷ pieces n rec
 
 unfoldable pub tableOf : List ℕ → List ℕ
 tableOf p = tableFrom (bodiesIn p) (savedRecord p)

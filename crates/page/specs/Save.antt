@@ -1,4 +1,4 @@
--- Document 01: "Save: TABLE, SIZE, ROOM." SIZE is given where "a page exceeds 65,535 words".
+-- Document 01: "Save: TABLE, SIZE, ROOM."
 use Prim.Native.Nat.{ℕ}
 use mathlib.Core.Bool.{not}
 use mathlib.Core.List.{List, [], _∷_, _++_}
@@ -10,8 +10,12 @@ use Rattle.words.specs.Refusals.{Refusals, firstGiven}
 use Rattle.table.specs.Well.{wellMade}
 use Rattle.page.specs.Layout.{pageOf, pageLength}
 
+-- SIZE: "a packet to be written, or a page, exceeds 65,535 words"
+abbrev pub sizeLimit : ℕ
+sizeLimit = 65535
+
 abbrev pub lengthList : List ℕ → Refusals
-lengthList t = (TABLE, not (wellMade t)) ∷ (SIZE, ltb 65535 (pageLength t)) ∷ []
+lengthList t = (TABLE, not (wellMade t)) ∷ (SIZE, ltb sizeLimit (pageLength t)) ∷ []
 
 abbrev pub saveList : List ℕ → List ℕ → Refusals
 saveList t page = lengthList t ++ ((ROOM, ltb (length page) (pageLength t)) ∷ [])

@@ -13,14 +13,14 @@ ghost use Rattle.record.specs.Layout.{slotWords, recordWords};
 ghost use Rattle.record.specs.After.{heldWords};
 ghost use Rattle.record.specs.Good.{recordGood};
 ghost use Rattle.table.specs.Well.{wellMade};
-ghost use Rattle.page.specs.Body.{bodyOf, bodyWords};
-ghost use Rattle.page.specs.Layout.{pageLength, bodiesIn, bodyAt};
+ghost use Rattle.page.specs.Body.{pageBody, pageBodyWords};
+ghost use Rattle.page.specs.Layout.{pageLength, mostWords, bodiesIn, pageBodyAt};
 ghost use Rattle.page.specs.inner.Tested.{contentsGood};
 
 // The length of a body, by its held indicator: the first words, and the words of each held field. The table of sizes is lent.
 pub fn body_words(held: u32, sizes: &[u8; 32]) -> usize
     requires { ⌜ tabled 32 sizeOf (now sizes) ≡ true ⌝ }
-    ensures { λ r. ⌜ (r ≡ bodyWords held) × (r ≤ recordWords) ⌝ }
+    ensures { λ r. ⌜ (r ≡ pageBodyWords held) × (r ≤ recordWords) ⌝ }
 {
     let mut rest = held % 0x8000_0000;
     let mut length = record::inner::HEAD_WORDS;
@@ -35,14 +35,14 @@ pub fn body_words(held: u32, sizes: &[u8; 32]) -> usize
 // The length of the page of a well-made table: the contents, and each body.
 pub fn page_words(table: &[u32]) -> usize
     requires { ⌜ wellMade (now table) ≡ true ⌝ }
-    ensures { λ r. ⌜ (r ≡ pageLength (now (table .entry))) × (r ≤ 2882) ⌝ }
+    ensures { λ r. ⌜ (r ≡ pageLength (now (table .entry))) × (r ≤ mostWords) ⌝ }
 {
     let sizes = fields::inner::SIZES;
     let n = table::inner::streams(table);
-    let mut length = 2 + 2 * n;
+    let mut length = crate::contents::contents_words(n);
     let mut s = 0;
     while s < n {
-        let at = 1 + record::inner::RECORD_WORDS * s;
+        let at = table::inner::record_at(s);
         length += body_words(table[at + 1], &sizes);
         s += 1;
     }
@@ -82,8 +82,8 @@ pub fn write_body(
     sizes: &[u8; 32],
     places: &[u8; 32],
 ) -> usize
-    requires { ⌜ (length (now rec) ≡ recordWords) × (recordGood (now rec) ≡ true) × (at + length (bodyOf (now rec)) ≤ length (now page)) × (tabled 32 sizeOf (now sizes) ≡ true) × (tabled 32 slotAt (now places) ≡ true) ⌝ }
-    ensures { λ r. ⌜ Laid (now (page .entry)) at (bodyOf (now (rec .entry))) r (now (page .exit)) ⌝ }
+    requires { ⌜ (length (now rec) ≡ recordWords) × (recordGood (now rec) ≡ true) × (at + length (pageBody (now rec)) ≤ length (now page)) × (tabled 32 sizeOf (now sizes) ≡ true) × (tabled 32 slotAt (now places) ≡ true) ⌝ }
+    ensures { λ r. ⌜ Laid (now (page .entry)) at (pageBody (now (rec .entry))) r (now (page .exit)) ⌝ }
 {
     words::inner::copy_part(page, at, rec, 0, record::inner::HEAD_WORDS);
     squeeze(
@@ -99,9 +99,9 @@ pub fn write_body(
 // Body s of a page whose contents are right.
 pub fn body_in(page: &[u32], s: usize) -> &[u32]
     requires { ⌜ (contentsGood (now page) ≡ true) × (s < bodiesIn (now page)) ⌝ }
-    ensures { λ r. ⌜ now r ≡ bodyAt (now (page .entry)) s ⌝ }
+    ensures { λ r. ⌜ now r ≡ pageBodyAt (now (page .entry)) s ⌝ }
 {
-    let at = words::inner::word_at(page, 2 + 2 * s) as usize;
-    let end = at + words::inner::word_at(page, 3 + 2 * s) as usize;
+    let at = crate::contents::offset_in(page, s);
+    let end = at + crate::contents::length_in(page, s);
     &page[at..end]
 }

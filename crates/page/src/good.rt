@@ -8,7 +8,7 @@ ghost use Rattle.fields.specs.Sizes.{sizeOf};
 ghost use Rattle.record.specs.Layout.{heldOf};
 ghost use Rattle.record.specs.Good.{recordGood};
 ghost use Rattle.table.specs.Identifiers.{listGood};
-ghost use Rattle.page.specs.Body.{bodyWords, recordOf};
+ghost use Rattle.page.specs.Body.{pageBodyWords, recordOf};
 ghost use Rattle.page.specs.Layout.{contentsWords, bodiesIn, beginsAt};
 ghost use Rattle.page.specs.inner.Tested.{pairGood, pairsGood, contentsGood, identifierAt, Gathered, recordGoodIn, pageOk};
 
@@ -18,8 +18,8 @@ fn pair_good(page: &[u32], s: usize, at: usize, sizes: &[u8; 32]) -> bool
     requires { ⌜ (at ≡ beginsAt (now page) s) × (at ≤ length (now page)) × (s < 32) × (tabled 32 sizeOf (now sizes) ≡ true) ⌝ }
     ensures { λ r. ⌜ r ≡ pairGood (now (page .entry)) s ⌝ }
 {
-    let here = words::inner::word_at(page, 2 + 2 * s) as usize == at;
-    let length = words::inner::word_at(page, 3 + 2 * s) as usize;
+    let here = crate::contents::offset_in(page, s) == at;
+    let length = crate::contents::length_in(page, s);
     let inside = at + length <= page.len();
     let held = words::inner::word_at(page, at + 1);
     let fits = length == crate::bodies::body_words(held, sizes);
@@ -32,13 +32,13 @@ fn pairs_good(page: &[u32], n: usize) -> bool
     ensures { λ r. ⌜ r ≡ pairsGood (now (page .entry)) n ⌝ }
 {
     let sizes = fields::inner::SIZES;
-    let mut at = 2 + 2 * n;
+    let mut at = crate::contents::contents_words(n);
     let mut s = 0;
     while s < n {
         if !pair_good(page, s, at, &sizes) {
             return false;
         }
-        at += words::inner::word_at(page, 3 + 2 * s) as usize;
+        at += crate::contents::length_in(page, s);
         s += 1;
     }
     at == page.len()
@@ -52,7 +52,7 @@ fn contents_good(page: &[u32]) -> bool
     if 32 < n {
         return false;
     }
-    if page.len() < 2 + 2 * n {
+    if page.len() < crate::contents::contents_words(n) {
         return false;
     }
     if words::inner::word_at(page, 1) as usize != page.len() {
@@ -68,7 +68,7 @@ fn gather(ids: &mut [u32], page: &[u32], n: usize)
 {
     let mut s = 0;
     while s < n {
-        let at = words::inner::word_at(page, 2 + 2 * s) as usize;
+        let at = crate::contents::offset_in(page, s);
         ids[s] = words::inner::word_at(page, at);
         s += 1;
     }
@@ -84,9 +84,10 @@ fn list_good(page: &[u32], n: usize) -> bool
     table::inner::list_good(&ids, 0, 1, n)
 }
 
-// Whether the record of a body is good: the body's first words are, and the held fields obey their rules. The slots of the other fields would be zero.
+// Whether the record of a body is good: the body's first words are, and the held fields obey their rules. The slots of the other fields would be zero. `walk`
+// skips the first word that it is given, where the body of a packet has its indicator; so it is given the held words with the one word before them.
 fn body_good(body: &[u32]) -> bool
-    requires { ⌜ length (now body) ≡ bodyWords (heldOf (now body)) ⌝ }
+    requires { ⌜ length (now body) ≡ pageBodyWords (heldOf (now body)) ⌝ }
     ensures { λ r. ⌜ r ≡ recordGood (recordOf (now (body .entry))) ⌝ }
 {
     if !record::inner::head_good(body) {

@@ -1,5 +1,6 @@
 // The page of a table: save and put back.
 mod bodies;
+mod contents;
 mod good;
 mod putting;
 mod saving;
@@ -9,6 +10,9 @@ ghost use Rattle.words.specs.Outcome.{measured, Meets};
 ghost use Rattle.page.specs.Save.{lengthOf, saveOf};
 ghost use Rattle.page.specs.PutBack.{putBackOf};
 
+// SIZE: "a packet to be written, or a page, exceeds 65,535 words".
+const SIZE_LIMIT: usize = 65535;
+
 // The length of the page of a table, for a caller who must make room: TABLE where the table is not well made; SIZE where the page exceeds 65,535 words.
 pub fn page_length(table: &[u32]) -> words::Length
     ensures { λ r. ⌜ measured r ≡ lengthOf (now (table .entry)) ⌝ }
@@ -17,7 +21,7 @@ pub fn page_length(table: &[u32]) -> words::Length
         return words::Length::Refused(words::TABLE);
     }
     let length = bodies::page_words(table);
-    if 65535 < length {
+    if SIZE_LIMIT < length {
         return words::Length::Refused(words::SIZE);
     }
     words::Length::Accepted(length)
@@ -39,15 +43,15 @@ pub fn save(table: &[u32], page: &mut [u32]) -> words::Length
     words::Length::Accepted(length)
 }
 
-// Puts a table back from its page, and answers the layout's length: PAGE where the words are not exactly one well-made page; ROOM where the table is shorter than
-// the layout. A refusal changes nothing; words past the layout stay.
+// Puts a table back from its page, and answers the layout's length: PAGE where the words are not exactly one well-made page; ROOM where the table is shorter
+// than the layout. A refusal changes nothing; words past the layout stay.
 pub fn put_back(page: &[u32], table: &mut [u32]) -> words::Length
     ensures { λ r. ⌜ Meets measured (putBackOf (now (page .entry)) (now (table .entry))) (now (table .entry)) r (now (table .exit)) ⌝ }
 {
     if !good::page_ok(page) {
         return words::Length::Refused(words::PAGE);
     }
-    let length = 1 + record::inner::RECORD_WORDS * words::inner::word_at(page, 0) as usize;
+    let length = table::inner::layout_words(words::inner::word_at(page, 0) as usize);
     if table.len() < length {
         return words::Length::Refused(words::ROOM);
     }

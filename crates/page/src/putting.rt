@@ -6,13 +6,13 @@ ghost use Prim.Native.Nat.{_≤_, _<_};
 ghost use lib.ListN.{length, drop, replicate};
 ghost use Rattle.record.specs.Layout.{recordWords, heldOf};
 ghost use Rattle.table.specs.Layout.{base, Has, withRecord};
-ghost use Rattle.page.specs.Body.{bodyWords, recordOf};
+ghost use Rattle.page.specs.Body.{pageBodyWords, recordOf};
 ghost use Rattle.page.specs.Layout.{bodiesIn, savedRecord, tableOf};
 ghost use Rattle.page.specs.inner.Tested.{contentsGood, pageOk};
 
 // The record of a body, into zeroed words: the body's first words, and the held words into their slots.
 fn fill_record(rec: &mut [u32], body: &[u32])
-    requires { ⌜ (now rec ≡ replicate recordWords 0) × (length (now body) ≡ bodyWords (heldOf (now body))) ⌝ }
+    requires { ⌜ (now rec ≡ replicate recordWords 0) × (length (now body) ≡ pageBodyWords (heldOf (now body))) ⌝ }
     ensures { λ _. ⌜ now (rec .exit) ≡ recordOf (now (body .entry)) ⌝ }
 {
     let held = words::inner::word_at(body, 1) & record::inner::HELD;
@@ -32,7 +32,7 @@ fn put_record(table: &mut [u32], page: &[u32], s: usize)
 {
     let mut rec = [0u32; record::inner::RECORD_WORDS];
     fill_record(&mut rec, crate::bodies::body_in(page, s));
-    let at = 1 + record::inner::RECORD_WORDS * s;
+    let at = table::inner::record_at(s);
     words::inner::copy_part(table, at, &rec, 0, record::inner::RECORD_WORDS);
 }
 

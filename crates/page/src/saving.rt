@@ -2,19 +2,20 @@
 ghost use mathlib.Core.Path.{_≡_};
 ghost use mathlib.Core.Bool.{true};
 ghost use mathlib.Core.List.{_++_};
-ghost use Prim.Native.Nat.{_+_, _*_, _≤_, _<_};
+ghost use Prim.Native.Nat.{_+_, _≤_, _<_};
 ghost use lib.ListN.{length, drop, set};
 ghost use Rattle.words.specs.Laid.{Laid};
 ghost use Rattle.table.specs.Well.{wellMade};
-ghost use Rattle.page.specs.Layout.{pairsOf, bodiesOf, pageOf, pageLength};
+ghost use Rattle.page.specs.Layout.{pairAt, pairsOf, bodiesOf, pageOf, pageLength, mostWords};
 
 // The pair of body s, into the contents: its offset and its size.
 fn write_pair(page: &mut [u32], s: usize, offset: usize, size: usize)
-    requires { ⌜ (3 + 2 * s < length (now page)) × (offset + size ≤ 2882) ⌝ }
-    ensures { λ _. ⌜ now (page .exit) ≡ set (set (now (page .entry)) (2 + 2 * s) offset) (3 + 2 * s) size ⌝ }
+    requires { ⌜ (s < 32) × (pairAt s + 1 < length (now page)) × (offset + size ≤ mostWords) ⌝ }
+    ensures { λ _. ⌜ now (page .exit) ≡ set (set (now (page .entry)) (pairAt s) offset) (pairAt s + 1) size ⌝ }
 {
-    page[2 + 2 * s] = offset as u32;
-    page[3 + 2 * s] = size as u32;
+    let at = crate::contents::pair_at(s);
+    page[at] = offset as u32;
+    page[at + 1] = size as u32;
 }
 
 // The pair and the body of each stream: the pairs are the contents, in list order without gaps, and the bodies stand behind them.
@@ -25,10 +26,10 @@ fn write_streams(page: &mut [u32], table: &[u32])
     let sizes = fields::inner::SIZES;
     let places = record::inner::SLOTS;
     let n = table::inner::streams(table);
-    let mut at = 2 + 2 * n;
+    let mut at = crate::contents::contents_words(n);
     let mut s = 0;
     while s < n {
-        let from = 1 + record::inner::RECORD_WORDS * s;
+        let from = table::inner::record_at(s);
         let end = from + record::inner::RECORD_WORDS;
         let past = crate::bodies::write_body(page, at, &table[from..end], &sizes, &places);
         write_pair(page, s, at, past - at);

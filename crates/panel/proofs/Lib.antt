@@ -8,5 +8,7 @@ pub mod Quotient
 pub mod Pattern
 -- refusals, fields in a record, and the answers
 pub mod ReadingLaws
+-- what the words of a field show
+pub mod ShowLaws
 -- two answers that meet a promise are equal
 pub mod Uniqueness

@@ -5,15 +5,15 @@ use mathlib.Core.Bool.{Bool, true, false, not}
 use mathlib.Core.List.{List, [], _++_}
 use Prim.Native.Nat.{ℕ, _+_, _-_, _≤_, _<_}
 use native.Mathlib.Omega.{arith}
-use borrow.Author.Tests.{lt-ltb, le-ltb, leb-false, ltb-false, not-false}
-use lib.Dec.{ltb, leb}
+use borrow.Author.Tests.{lt-ltb, le-ltb, le-leb, lt-leb, leb-false, ltb-false, not-true, not-false}
+use lib.Dec.{ltb}
 use lib.ListN.{length, take, drop}
-use Rattle.words.specs.Numbers.{ROOM}
+use Rattle.words.specs.Numbers.{TABLE, STREAM, VALUE, ROOM}
 use Rattle.words.specs.Tests.{pick, when}
 use Rattle.words.specs.Part.{part, put}
-use Rattle.words.specs.Outcome.{refused, accepted, measured, Meets}
+use Rattle.words.specs.Outcome.{refused, accepted, after, checked, measured, Meets}
 use Rattle.words.proofs.Cases.{when-most}
-use Rattle.words.proofs.RefusalLaws.{first-passed, either-passed, first-refused, first-fine}
+use Rattle.words.proofs.RefusalLaws.{first-passed, either-passed, after-first}
 use Rattle.words.proofs.MeetLaws.{meets-refused, meets-length}
 use Rattle.words.proofs.PartLaws.{seen, part-part, part-length}
 use Rattle.fields.specs.Sizes.{sizeOf}
@@ -27,12 +27,36 @@ use Rattle.table.proofs.WellLaws.{layout-has, well-whole, well-few}
 use Rattle.panel.specs.Readings.{absent, shownOf, isHeld, recordShows, readingList, askedOf, readingOf, readingPaper}
 use Rattle.panel.specs.HeldWords.{heldIn, copyOf, heldWordsOf}
 use Rattle.panel.specs.declared.Dial.{Dial}
-use Rattle.panel.specs.declared.Dial.the-variants as dial
+use Rattle.words.specs.declared.Check.{Check}
+use Rattle.words.specs.declared.Check.the-variants as checks
 use Rattle.words.specs.declared.Length.{Length}
 use Rattle.words.specs.declared.Length.the-variants as lengths
 
+-- ---- whether a field may be asked for, as a program asks: w is the answer of `well_made`, and n is S
+module _ (t : List ℕ) (s b : ℕ) (w : Bool) (e : w ≡ wellMade t) where
+  pub asked-ill : not w ≡ true → refused TABLE ≡ askedOf t s b
+  unfolding askedOf
+  asked-ill i = rw (← e, not-true w i)
+
+  module _ (n : ℕ) (i : not w ≡ false) (f : n ≡ streamsOf t) where
+    pub asked-undeclared : n ≤ s → refused STREAM ≡ askedOf t s b
+    unfolding askedOf
+    asked-undeclared h = rw (← e, not-false w i, ← f, le-leb n s h)
+
+    pub asked-below : s < n → b < 10 → refused VALUE ≡ askedOf t s b
+    unfolding askedOf
+    asked-below h l = rw (← e, not-false w i, ← f, lt-leb n s h, lt-ltb b 10 l)
+
+    pub asked-above : s < n → 10 ≤ b → 30 < b → refused VALUE ≡ askedOf t s b
+    unfolding askedOf
+    asked-above h l m = rw (← e, not-false w i, ← f, lt-leb n s h, le-ltb b 10 l, lt-ltb 30 b m)
+
+    pub asked-fine : s < n → 10 ≤ b → b ≤ 30 → accepted tt ≡ askedOf t s b
+    unfolding askedOf
+    asked-fine h l m = rw (← e, not-false w i, ← f, lt-leb n s h, le-ltb b 10 l, le-ltb 30 b m)
+
 -- ---- what may be asked for, in facts
-pub asked-facts : (t : List ℕ) (s b : ℕ) → askedOf t s b ≡ accepted tt → (s < 32) × Has s t × (10 ≤ b) × (b ≤ 30)
+asked-facts : (t : List ℕ) (s b : ℕ) → askedOf t s b ≡ accepted tt → (s < 32) × Has s t × (10 ≤ b) × (b ≤ 30)
 unfolding askedOf
 asked-facts t s b e =
     let a = first-passed (readingList t s b) _ tt e .0 in
@@ -41,33 +65,51 @@ asked-facts t s b e =
     let v = either-passed (ltb b 10) (ltb 30 b) (a .1 .1 .0) in
     (omega (arith, well-few t w), layout-has t s (well-whole t w) g, ltb-false b 10 (v .0), ltb-false 30 b (v .1))
 
--- ---- the public answers
+-- ---- the public answers, k being what the check found
 module _ (t : List ℕ) (s b : ℕ) where
-  pub reading-refused : (n : ℕ) → refused n ≡ askedOf t s b → readingPaper (dial.Refused n) ≡ readingOf t s b
+  reading-asked : readingOf t s b ≡ after (askedOf t s b) (accepted (recordShows b (recordAt s t)))
   unfolding readingOf askedOf
-  reading-refused n e = sym (first-refused (readingList t s b) tt n _ (sym e))
+  reading-asked = sym (after-first (readingList t s b) tt _)
 
-  pub reading-shown : (r : Dial) → accepted tt ≡ askedOf t s b → readingPaper r ≡ accepted (recordShows b (recordAt s t)) → readingPaper r ≡ readingOf t s b
-  unfolding readingOf askedOf
-  reading-shown r e h = h ∙ sym (first-fine (readingList t s b) tt tt _ (sym e))
-
-  pub words-refused : (out : List ℕ) (n : ℕ) → refused n ≡ askedOf t s b → Meets measured (heldWordsOf t s b out) out (lengths.Refused n) out
-  unfolding heldWordsOf askedOf
-  words-refused out n e = meets-refused (first-refused (readingList t s b) tt n _ (sym e))
-
-  pub words-copied : (out last : List ℕ) (r : Length) → accepted tt ≡ askedOf t s b → Meets measured (copyOf (heldIn b (recordAt s t)) out) out r last
-      → Meets measured (heldWordsOf t s b out) out r last
+  words-asked : (out : List ℕ) → heldWordsOf t s b out ≡ after (askedOf t s b) (copyOf (heldIn b (recordAt s t)) out)
   unfolding heldWordsOf askedOf copyOf
-  words-copied out last r e h =
-      let f : heldWordsOf t s b out ≡ copyOf (heldIn b (recordAt s t)) out = first-fine (readingList t s b) tt tt _ (sym e) in
-      rw f h
+  words-asked out = sym (after-first (readingList t s b) tt _)
 
--- ---- a field in a record
-pub shows-absent : (r : List ℕ) (b : ℕ) → isHeld b r ≡ false → accepted absent ≡ accepted (recordShows b r)
+  module _ (k : Check) (e : checked k ≡ askedOf t s b) where
+    fine : k ≡ checks.Fine → askedOf t s b ≡ accepted tt
+    fine f = sym e ∙ ap checked f
+
+    pub asked-few : k ≡ checks.Fine → s < 32
+    asked-few f = asked-facts t s b (fine f) .0
+
+    pub asked-has : k ≡ checks.Fine → Has s t
+    asked-has f = asked-facts t s b (fine f) .1
+
+    pub asked-least : k ≡ checks.Fine → 10 ≤ b
+    asked-least f = asked-facts t s b (fine f) .2
+
+    pub asked-most : k ≡ checks.Fine → b ≤ 30
+    asked-most f = asked-facts t s b (fine f) .3
+
+    pub reading-refused : (n : ℕ) → k ≡ checks.Refused n → refused n ≡ readingOf t s b
+    reading-refused n f = let g : askedOf t s b ≡ refused n = sym e ∙ ap checked f in rw (reading-asked, g)
+
+    pub reading-shown : (r : Dial) → k ≡ checks.Fine → readingPaper r ≡ accepted (recordShows b (recordAt s t)) → readingPaper r ≡ readingOf t s b
+    reading-shown r f h = rw (reading-asked, fine f) h
+
+    pub words-refused : (out : List ℕ) (n : ℕ) → k ≡ checks.Refused n → Meets measured (heldWordsOf t s b out) out (lengths.Refused n) out
+    words-refused out n f = let g : askedOf t s b ≡ refused n = sym e ∙ ap checked f in meets-refused (rw (words-asked, g))
+
+    pub words-copied : (out last : List ℕ) (r : Length) → k ≡ checks.Fine → Meets measured (copyOf (heldIn b (recordAt s t)) out) out r last
+        → Meets measured (heldWordsOf t s b out) out r last
+    words-copied out last r f h = rw (words-asked, fine f) h
+
+-- ---- a field in a record: h is whether it is held, at where its slot begins, and z its words
+pub shows-absent : (r : List ℕ) (b : ℕ) (h : Bool) → h ≡ isHeld b r → not h ≡ true → accepted absent ≡ accepted (recordShows b r)
 unfolding recordShows
-shows-absent r b e = rw e
+shows-absent r b h e i = rw (← e, not-true h i)
 
-module _ (r : List ℕ) (b at : ℕ) (l : length r ≡ recordWords) (lo : 10 ≤ b) (hi : b ≤ 30) (ea : at ≡ slotAt b) where
+module _ (r : List ℕ) (b at z : ℕ) (l : length r ≡ recordWords) (lo : 10 ≤ b) (hi : b ≤ 30) (ea : at ≡ slotAt b) (ez : z ≡ sizeOf b) where
   held-here : holds b ≡ true
   held-here = held-all b lo (omega arith)
 
@@ -75,14 +117,16 @@ module _ (r : List ℕ) (b at : ℕ) (l : length r ≡ recordWords) (lo : 10 ≤
   unfolding slotOf slotIn slotsOf
   slot-is = rw ea (part-part (slotAt b) (sizeOf b) headWords slotWords r (slot-inside b held-here))
 
-  pub slot-most : headWords + at + sizeOf b ≤ length r
+  pub slot-most : headWords + at + z ≤ length r
   slot-most = omega (arith, slot-inside b held-here)
 
-  pub shows-held : (n : ℕ) (d : Dial) → n ≡ sizeOf b → isHeld b r ≡ true
-      → readingPaper d ≡ accepted (shownOf b (take (headWords + at + n - (headWords + at)) (drop (headWords + at) r))) → readingPaper d ≡ accepted (recordShows b r)
+  pub shows-held : (h : Bool) (d : Dial) → h ≡ isHeld b r → not h ≡ false
+      → readingPaper d ≡ accepted (shownOf b (take (headWords + at + z - (headWords + at)) (drop (headWords + at) r)))
+      → readingPaper d ≡ accepted (recordShows b r)
   unfolding recordShows
-  shows-held n d en e h =
-      rw e (h ∙ ap (λ (ws : List ℕ). accepted (shownOf b ws)) (seen (headWords + at) (headWords + at + n) n r refl ∙ rw en (sym slot-is)))
+  shows-held h d e i p =
+      rw (← e, not-false h i) (p ∙ ap (λ (ws : List ℕ). accepted (shownOf b ws))
+      (seen (headWords + at) (headWords + at + z) z r refl ∙ rw ez (sym slot-is)))
 
   -- the held words are a part of the record
   part-when : (t : Bool) → pick t (slotOf b r) [] ≡ part (headWords + at) (when t (sizeOf b)) r
@@ -90,30 +134,41 @@ module _ (r : List ℕ) (b at : ℕ) (l : length r ≡ recordWords) (lo : 10 ≤
   part-when true = slot-is
   part-when false = refl
 
-  module _ (n : ℕ) (en : n ≡ when (isHeld b r) (sizeOf b)) where
+  module _ (n : ℕ) (h : Bool) (eh : h ≡ isHeld b r) (en : n ≡ when h z) where
     pub held-most : headWords + at + n ≤ length r
-    held-most = omega (arith, slot-most, when-most (isHeld b r) (sizeOf b))
+    held-most = omega (arith, slot-most, when-most h z)
 
     held-part : heldIn b r ≡ part (headWords + at) n r
     unfolding heldIn
-    held-part = part-when (isHeld b r) ∙ ap (λ (k : ℕ). part (headWords + at) k r) (sym en)
+    held-part = part-when (isHeld b r) ∙ ap (λ (k : ℕ). part (headWords + at) k r) (rw (← eh, ← ez) (sym en))
 
     held-length : length (heldIn b r) ≡ n
     held-length = ap length held-part ∙ part-length (headWords + at) n r held-most
 
-    pub copy-room : (out : List ℕ) → length out < n → Meets measured (copyOf (heldIn b r) out) out (lengths.Refused ROOM) out
-    unfolding copyOf
-    copy-room out h = meets-refused (rw (held-length, lt-ltb (length out) n h))
-
     pub copy-made : (out last : List ℕ) → n ≤ length out → last ≡ put 0 n (part (headWords + at) n r) out
         → Meets measured (copyOf (heldIn b r) out) out (lengths.Accepted n) last
     unfolding copyOf put
-    copy-made out last h p =
-        meets-length {left = heldIn b r ++ drop n out} (rw (held-length, le-ltb (length out) n h)) (p ∙ ap (λ (ws : List ℕ). ws ++ drop n out) (sym held-part))
+    copy-made out last o p =
+        meets-length {left = heldIn b r ++ drop n out} (rw (held-length, le-ltb (length out) n o))
+        (p ∙ ap (λ (ws : List ℕ). ws ++ drop n out) (sym held-part))
 
--- ---- a record that is lent
-pub copy-lent : (t out last : List ℕ) (s b : ℕ) (r : Length)
-    → Meets measured (copyOf (heldIn b (take (base s + recordWords - base s) (drop (base s) t))) out) out r last
-    → Meets measured (copyOf (heldIn b (recordAt s t)) out) out r last
-unfolding recordAt
-copy-lent t out last s b r h = subst (λ (l : List ℕ). Meets measured (copyOf (heldIn b l) out) out r last) (seen (base s) (base s + recordWords) recordWords t refl) h
+pub copy-room : (r out : List ℕ) (b z n : ℕ) (h : Bool) → length r ≡ recordWords → 10 ≤ b → b ≤ 30 → z ≡ sizeOf b → h ≡ isHeld b r → n ≡ when h z
+    → length out < n → Meets measured (copyOf (heldIn b r) out) out (lengths.Refused ROOM) out
+unfolding copyOf
+copy-room r out b z n h l lo hi ez eh en o =
+    let k : length (heldIn b r) ≡ n = held-length r b (slotAt b) z l lo hi refl ez n h eh en in
+    meets-refused (rw (k, lt-ltb (length out) n o))
+
+-- ---- a record that is lent from its place on
+module _ (t : List ℕ) (s b at : ℕ) (e : at ≡ base s) where
+  lent-record : take (at + recordWords - at) (drop at t) ≡ recordAt s t
+  unfolding recordAt
+  lent-record = seen at (at + recordWords) recordWords t refl ∙ ap (λ (a : ℕ). part a recordWords t) e
+
+  pub read-lent : (d : Dial) → readingPaper d ≡ accepted (recordShows b (take (at + recordWords - at) (drop at t)))
+      → readingPaper d ≡ accepted (recordShows b (recordAt s t))
+  read-lent d h = h ∙ ap (λ (r : List ℕ). accepted (recordShows b r)) lent-record
+
+  pub copy-lent : (out last : List ℕ) (r : Length) → Meets measured (copyOf (heldIn b (take (at + recordWords - at) (drop at t))) out) out r last
+      → Meets measured (copyOf (heldIn b (recordAt s t)) out) out r last
+  copy-lent out last r h = subst (λ (l : List ℕ). Meets measured (copyOf (heldIn b l) out) out r last) lent-record h

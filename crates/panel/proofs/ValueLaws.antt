@@ -1,15 +1,16 @@
 -- Numbers out of held words. The idea: two's complement is `pos` below the sign bit's weight and `negsuc` from there on, so that a range, a remainder and a
 -- machine number follow by cases; and what a division leaves below zero says that it stands 1 above rounding down.
 use mathlib.Core.Path.{_≡_, refl, sym, ap, subst, _∙_}
+use mathlib.Core.Bool.{true, false}
 use mathlib.Core.Logic.{⊎-elim}
 use Prim.Native.Nat.{ℕ, zero, suc, _+_, _-_, _*_, _/_, _%_, _^_, _≤_, _<_}
 use native.Mathlib.Nat.{le-of-lt, lt-of-lt-of-le, lt-of-le-of-lt}
 use native.Mathlib.Omega.{arith}
 use borrow.Author.Needs.{sfits-of}
 use borrow.Author.Tests.{lt-ltb, le-ltb, lt-leb}
-use lib.Dec.{T, le→leb, lt→ltb}
+use lib.Dec.{T, lit≤, le→leb, lt→ltb}
 use lib.IntN.{ℤ, pos, negsuc, negℤ, _+ℤ_, _-ℤ_, _*ℤ_}
-use lib.Ieee.{binary32, inFloat}
+use lib.Ieee.{Float, binary32, inFloat, div, ofInt}
 use lib.Pow.{pow-add, pow-mono}
 use lib.Signed.{mag, ltZ, quotZ, remZ, mag-rem}
 use mir.Syntax.{w64}
@@ -20,6 +21,9 @@ use Rattle.words.specs.Outcome.{refused, accepted}
 use Rattle.words.specs.Word.{highFirst}
 use Rattle.words.proofs.Cases.{le-or-lt, accepted-same}
 use Rattle.payload_format.specs.Signs.{twosComplement, signedOf}
+use Rattle.payload_format.specs.Answers.{shownPaper}
+use Rattle.payload_format.specs.declared.signs.Shown.{Shown}
+use Rattle.payload_format.specs.declared.signs.Shown.the-variants as shown
 use Rattle.panel.specs.Values.{unitsOf, floorDiv, floorRem}
 
 -- ---- what the machine reads back from a signed number's bits
@@ -53,14 +57,17 @@ module _ (w x : ℕ) (lo : 1 ≤ w) (hi : w ≤ 64) (b : x < 2 ^ w) where
   unfolding signedOf
   value-fits = simp (le-ltb w 1 lo, le-ltb 64 w hi, lt-leb (2 ^ w) x b)
 
-  pub value-told : (z : ℤ) → accepted z ≡ signedOf w x → toZ w64 (ofZ w64 z) ≡ twosComplement w x
-  value-told z e =
-      let i : z ≡ twosComplement w x = accepted-same (e ∙ value-fits) in
-      let most : 2 ^ (w - 1) ≤ 2 ^ 63 = pow-mono {i = w - 1} {j = 63} (omega arith) in
-      back z (subst (λ (y : ℤ). mag y < 2 ^ 63) (sym i) (lt-of-lt-of-le (value-mag w x lo b) most)) i
+  module _ (k : Shown) (e : shownPaper k ≡ signedOf w x) where
+    pub value-told : (z : ℤ) → k ≡ shown.Value z → toZ w64 (ofZ w64 z) ≡ twosComplement w x
+    value-told z f =
+        let i : z ≡ twosComplement w x = accepted-same (sym (ap shownPaper f) ∙ e ∙ value-fits) in
+        let most : 2 ^ (w - 1) ≤ 2 ^ 63 = pow-mono {i = w - 1} {j = 63} (omega arith) in
+        back z (subst (λ (y : ℤ). mag y < 2 ^ 63) (sym i) (lt-of-lt-of-le (value-mag w x lo b) most)) i
 
-  pub value-untold : (n : ℕ) → refused n ≡ signedOf w x → ⊥
-  value-untold n e = let f : refused n ≡ accepted (twosComplement w x) = e ∙ value-fits in let z : _≡_ {A = ℕ} 0 1 = cc in omega arith
+    pub value-untold : (n : ℕ) (y : ℤ) → k ≡ shown.Refused n → y ≡ twosComplement w x
+    value-untold n y f =
+        let g : refused n ≡ accepted (twosComplement w x) = sym (ap shownPaper f) ∙ e ∙ value-fits in
+        let z : _≡_ {A = ℕ} 0 1 = cc in absurd (omega arith)
 
 -- ---- a frequency's parts are the lower 20 bits of its second word
 pub parts-is : (h l : ℕ) → h < 2 ^ 32 → l < 2 ^ 32 → floorRem (unitsOf h l) 1048576 ≡ l % 1048576
@@ -72,12 +79,29 @@ parts-is h l p q =
     (le-or-lt (2 ^ 63) (highFirst h l))
 
 -- ---- a signed number that an f32 has
-pub in-float : (z : ℤ) → mag z < 2 ^ 24 → T (inFloat binary32 z)
+in-float : (z : ℤ) → mag z < 2 ^ 24 → T (inFloat binary32 z)
 unfolding inFloat
 in-float (pos n) h = le→leb n (2 ^ 24) (le-of-lt h)
 in-float (negsuc n) h = lt→ltb n (2 ^ 24) h
 
+-- a signed half of a word, over a float
+module _ (half : ℕ) (z : ℤ) (h : half < 65536) (b : mag z < 2 ^ 63) (e : z ≡ twosComplement 16 half) where
+  pub half-in-float : T (inFloat binary32 (toZ w64 (ofZ w64 z)))
+  half-in-float =
+      subst (λ (y : ℤ). T (inFloat binary32 y)) (sym (back z b e)) (in-float (twosComplement 16 half) (omega (arith, value-mag 16 half (lit≤ tt) h)))
+
+  pub half-over : (by : Float) → div binary32 (ofInt binary32 (toZ w64 (ofZ w64 z))) by ≡ div binary32 (ofInt binary32 (twosComplement 16 half)) by
+  half-over by = ap (λ (y : ℤ). div binary32 (ofInt binary32 y) by) (back z b e)
+
 -- ---- rounding down
+
+-- whether a machine number is below zero
+module _ (z : ℤ) (b : mag z < 2 ^ 63) where
+  pub rounded-below : ltZ (toZ w64 (ofZ w64 z)) (pos 0) ≡ true → pos 1 ≡ pick (ltZ z (pos 0)) (pos 1) (pos 0)
+  rounded-below h = rw (ap (λ (y : ℤ). ltZ y (pos 0)) (sym (back z b refl)) ∙ h)
+
+  pub rounded-not : ltZ (toZ w64 (ofZ w64 z)) (pos 0) ≡ false → pos 0 ≡ pick (ltZ z (pos 0)) (pos 1) (pos 0)
+  rounded-not h = rw (ap (λ (y : ℤ). ltZ y (pos 0)) (sym (back z b refl)) ∙ h)
 
 -- -p + r
 sum-below : (p r n : ℕ) → p ≡ r + suc n → negℤ (pos p) +ℤ pos r ≡ negsuc n
@@ -122,8 +146,8 @@ module _ (z : ℤ) (h : mag z < 2 ^ 63) where
       (e : up ≡ pick (ltZ (toZ w64 (ofZ w64 (remZ (toZ w64 (ofZ w64 z)) (pos 1048576)))) (pos 0)) (pos 1) (pos 0)) where
     pub floored : toZ w64 (ofZ w64 (quotZ (toZ w64 (ofZ w64 z)) (pos 1048576))) -ℤ toZ w64 (ofZ w64 up) ≡ floorDiv z 1048576
     floored =
-        rw (back up b refl, e, back z h refl, back (quotZ z (pos 1048576)) (quot-mag z h) refl, back (remZ z (pos 1048576)) (lt-of-le-of-lt (mag-rem z (pos 1048576)) h) refl)
-        (floor-is z)
+        let r : mag (remZ z (pos 1048576)) < 2 ^ 63 = lt-of-le-of-lt (mag-rem z (pos 1048576)) h in
+        rw (back up b refl, e, back z h refl, back (quotZ z (pos 1048576)) (quot-mag z h) refl, back (remZ z (pos 1048576)) r refl) (floor-is z)
 
     pub floored-fits : SFits w64 (toZ w64 (ofZ w64 (quotZ (toZ w64 (ofZ w64 z)) (pos 1048576))) -ℤ toZ w64 (ofZ w64 up))
     floored-fits = subst (λ (y : ℤ). SFits w64 y) (sym floored) (sfits-of (floor-mag z h))

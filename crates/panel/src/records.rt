@@ -48,7 +48,7 @@ pub fn read_at(table: &[u32], stream: usize, bit: u32) -> crate::Dial
     requires { ⌜ (stream < 32) × Has stream (now table) × (10 ≤ bit) × (bit ≤ 30) ⌝ }
     ensures { λ r. ⌜ readingPaper r ≡ accepted (recordShows bit (recordAt stream (now (table .entry)))) ⌝ }
 {
-    let at = 1 + record::inner::RECORD_WORDS * stream;
+    let at = table::inner::record_at(stream);
     let end = at + record::inner::RECORD_WORDS;
     read_record(&table[at..end], bit)
 }
@@ -58,7 +58,7 @@ pub fn copy_at(table: &[u32], stream: usize, bit: u32, out: &mut [u32]) -> words
     requires { ⌜ (stream < 32) × Has stream (now table) × (10 ≤ bit) × (bit ≤ 30) ⌝ }
     ensures { λ r. ⌜ Meets measured (copyOf (heldIn bit (recordAt stream (now (table .entry)))) (now (out .entry))) (now (out .entry)) r (now (out .exit)) ⌝ }
 {
-    let at = 1 + record::inner::RECORD_WORDS * stream;
+    let at = table::inner::record_at(stream);
     let end = at + record::inner::RECORD_WORDS;
     copy_record(&table[at..end], bit, out)
 }

@@ -51,7 +51,8 @@ pub fn units(high: u32, low: u32) -> i64
     value_of(64, words::inner::high_first(high, low))
 }
 
-// How far a division, which rounds towards zero, stands above one that rounds down: 1 where it leaves something below zero, and else 0.
+// What is to be taken off a quotient that was rounded towards zero, so that it is rounded down: 1 where the division left something below zero, and else 0.
+// -3 / 2 is -1 and leaves -1: rounded down it is -2.
 fn rounded_up(left: i64) -> i64
     ensures { λ r. ⌜ r ≡ pick (ltZ left (pos 0)) (pos 1) (pos 0) ⌝ }
 {

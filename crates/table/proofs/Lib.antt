@@ -1,5 +1,7 @@
 -- The laws of tables, each beside its kin.
 
+-- a loop that tests one number after the other
+pub mod TestLaws
 -- records of a table: read, replaced
 pub mod RecordLaws
 -- lists of identifiers

@@ -1,11 +1,11 @@
 -- Lists of identifiers. The idea: `listGood` says what `GoodList` says in facts (`list-of`, `of-list`), and looks at the identifiers alone, not where they
 -- stand (`list-same`).
-use mathlib.Core.Path.{_≡_, ap, _∙_}
+use mathlib.Core.Path.{_≡_, sym, ap, _∙_}
 use mathlib.Core.Bool.{Bool, true, false, not}
 use mathlib.Core.Logic.{⊎-elim}
 use mathlib.Core.List.{List}
 use Prim.Native.Nat.{ℕ, _+_, _*_, _≤_, _<_}
-use native.Mathlib.Nat.{mul-le-mul-left, mul-suc, zero-add, one-mul}
+use native.Mathlib.Nat.{mul-le-mul-left, mul-suc, zero-add, one-mul, le-of-lt}
 use native.Mathlib.Omega.{arith}
 use borrow.Author.Tests.{eq-eqb, ne-eqb, le-leb, leb-true, eqb-false, not-true}
 use lib.Dec.{eqb, leb}
@@ -13,18 +13,38 @@ use lib.ListN.{length, getD}
 use Rattle.words.specs.Tests.{both}
 use Rattle.words.specs.All.{all}
 use Rattle.words.proofs.Cases.{le-or-lt, both-left, both-right, both-true}
-use Rattle.words.proofs.AllLaws.{all-at, all-intro, all-same, First, first-is, first-one}
+use Rattle.words.proofs.AllLaws.{all-more, all-fails, all-at, all-intro, all-same, First, first-is, first-one}
 use Rattle.table.specs.Layout.{streamsOf}
 use Rattle.table.specs.Identifiers.{spaced, listed, declared, apart, listGood, streamOf}
 use Rattle.table.specs.Well.{GoodList}
+use Rattle.table.proofs.TestLaws.{test-ended}
 
 -- ---- identifiers at equal distances
 
-pub spaced-less : (first step u s : ℕ) → u ≤ s → first + step * u ≤ first + step * s
-spaced-less first step u s h = omega (arith, mul-le-mul-left step h)
+pub spaced-before : (first step u s l : ℕ) → first + step * s < l → u < s → first + step * u < l
+spaced-before first step u s l g h = omega (arith, mul-le-mul-left step (le-of-lt h))
 
 pub spaced-inside : (first step s n l : ℕ) → 1 ≤ step → s < n → first + step * n ≤ l → first + step * s < l
 spaced-inside first step s n l o h g = omega (arith, mul-le-mul-left step h, mul-suc step s)
+
+-- ---- the loop that looks for an identifier among those before it
+
+-- the identifier of u is not that of s
+unfoldable pub others : (ℕ → ℕ) → ℕ → ℕ → Bool
+others id s u = not (eqb (id u) (id s))
+
+module _ (id : ℕ → ℕ) (s u mine : ℕ) (e : mine ≡ id s) where
+  pub apart-more : all u (others id s) ≡ true → (id u ≡ mine → ⊥) → all (u + 1) (others id s) ≡ true
+  unfolding others
+  apart-more a n = all-more (others id s) u a (ap not (ne-eqb (id u) (id s) (λ i. n (i ∙ sym e))))
+
+  pub apart-twice : u < s → id u ≡ mine → false ≡ apart id s
+  unfolding apart others
+  apart-twice h i = sym (all-fails (others id s) s u h (ap not (eq-eqb (id u) (id s) (i ∙ e))))
+
+pub apart-ended : (id : ℕ → ℕ) (s u : ℕ) → all u (others id s) ≡ true → u ≤ s → s ≤ u → true ≡ apart id s
+unfolding apart others
+apart-ended id s u a h g = test-ended (others id s) s u a h g
 
 -- ---- the test as facts
 
@@ -72,7 +92,8 @@ module _ (t : List ℕ) (identifier s n : ℕ) (e : n ≡ streamsOf t) (before :
 
   pub stream-none : s ≡ n → n ≡ streamOf identifier t
   unfolding streamOf
-  stream-none i = rw i at (first-one (streamsOf t) s (λ u. eqb (declared t u) identifier) (record { most = omega arith; passes = λ g. absurd (omega arith); before = before }))
+  stream-none i = rw i at
+      (first-one (streamsOf t) s (λ u. eqb (declared t u) identifier) (record { most = omega arith; passes = λ g. absurd (omega arith); before = before }))
 
 -- what it is: one of the list where it is below S
 pub stream-is : (identifier : ℕ) (t : List ℕ) → First (streamsOf t) (λ s. eqb (declared t s) identifier) (streamOf identifier t)

@@ -10,7 +10,7 @@ use lib.ListN.{length, drop, getD}
 use Rattle.words.proofs.Cases.{le-or-lt, same-or-not}
 use Rattle.words.proofs.PartLaws.{getD-part, part-length, put-length, part-put, part-put-before, part-put-after, getD-put-before, drop-put-after}
 use Rattle.record.specs.Layout.{recordWords, identifierOf}
-use Rattle.table.specs.Layout.{streamsOf, base, Has, recordAt, withRecord}
+use Rattle.table.specs.Layout.{streamsOf, base, layoutWords, Has, recordAt, withRecord}
 use Rattle.table.specs.Identifiers.{declared}
 
 pub record-length : (s : ℕ) (t : List ℕ) → Has s t → length (recordAt s t) ≡ recordWords
@@ -43,9 +43,9 @@ module _ (s : ℕ) (r t : List ℕ) (h : Has s t) (l : length r ≡ recordWords)
   unfolding withRecord
   streams-with = getD-put-before (base s) recordWords r t h l 0 (omega arith)
 
-  pub past-with : (n : ℕ) → s < n → drop (base n) (withRecord s r t) ≡ drop (base n) t
+  pub past-with : (n : ℕ) → s < n → drop (layoutWords n) (withRecord s r t) ≡ drop (layoutWords n) t
   unfolding withRecord
-  past-with n g = drop-put-after (base s) recordWords r t h l (base n) (omega arith)
+  past-with n g = drop-put-after (base s) recordWords r t h l (layoutWords n) (omega arith)
 
   -- the list, where the record keeps its identifier
   pub declared-with : identifierOf r ≡ declared t s → (u : ℕ) → declared (withRecord s r t) u ≡ declared t u

@@ -1,22 +1,24 @@
 -- A well-made table. The idea: `wellMade` says what `WellMade` says in facts (`well-of`, `of-well`); a record replaced by a good one of the same identifier
 -- keeps each of these facts (`well-with`).
-use mathlib.Core.Path.{_≡_, sym, _∙_}
-use mathlib.Core.Bool.{Bool, true, false}
+use mathlib.Core.Path.{_≡_, refl, sym, ap, _∙_}
+use mathlib.Core.Bool.{Bool, true, false, not}
 use mathlib.Core.Logic.{⊎-elim}
 use mathlib.Core.List.{List}
-use Prim.Native.Nat.{ℕ, _≤_, _<_}
+use Prim.Native.Nat.{ℕ, _+_, _-_, _^_, _≤_, _<_}
 use native.Mathlib.Omega.{arith}
-use borrow.Author.Tests.{le-leb, lt-leb, leb-true}
+use borrow.Author.Tests.{le-leb, lt-leb, leb-true, not-true, not-false}
 use lib.Dec.{leb}
-use lib.ListN.{length}
+use lib.ListN.{length, take, drop}
+use Rattle.words.specs.Part.{part}
 use Rattle.words.specs.Tests.{both}
 use Rattle.words.specs.All.{all}
 use Rattle.words.proofs.Cases.{same-or-not, both-left, both-right, both-true}
 use Rattle.words.proofs.AllLaws.{all-at, all-intro}
+use Rattle.words.proofs.PartLaws.{seen}
 use Rattle.record.specs.Layout.{recordWords, identifierOf}
 use Rattle.record.specs.Good.{recordGood}
 use Rattle.record.proofs.GoodLaws.{good-of, of-good}
-use Rattle.table.specs.Layout.{streamsOf, base, Has, recordAt, withRecord}
+use Rattle.table.specs.Layout.{streamsOf, base, layoutWords, Has, recordAt, withRecord}
 use Rattle.table.specs.Identifiers.{spaced, declared, listGood}
 use Rattle.table.specs.Well.{recordGoodAt, wellMade, WellMade}
 use Rattle.table.proofs.RecordLaws.{record-length, with-length, record-with, record-with-other, streams-with, declared-with}
@@ -25,12 +27,12 @@ use Rattle.table.proofs.ListLaws.{list-of, of-list, list-same}
 -- ---- the test as facts
 
 -- a layout that is there has each record
-pub layout-has : (t : List ℕ) (s : ℕ) → base (streamsOf t) ≤ length t → s < streamsOf t → Has s t
+pub layout-has : (t : List ℕ) (s : ℕ) → layoutWords (streamsOf t) ≤ length t → s < streamsOf t → Has s t
 layout-has t s h g = omega arith
 
 module _ (t : List ℕ) (e : wellMade t ≡ true) where
   abbrev there : Bool
-  there = leb (base (streamsOf t)) (length t)
+  there = leb (layoutWords (streamsOf t)) (length t)
 
   abbrev valid : Bool
   valid = listGood (streamsOf t) (declared t)
@@ -38,9 +40,9 @@ module _ (t : List ℕ) (e : wellMade t ≡ true) where
   abbrev good : Bool
   good = all (streamsOf t) (recordGoodAt t)
 
-  pub well-whole : base (streamsOf t) ≤ length t
+  pub well-whole : layoutWords (streamsOf t) ≤ length t
   unfolding wellMade
-  well-whole = leb-true (base (streamsOf t)) (length t) (both-left there (both valid good) e)
+  well-whole = leb-true (layoutWords (streamsOf t)) (length t) (both-left there (both valid good) e)
 
   well-rest : both (listGood (streamsOf t) (declared t)) (all (streamsOf t) (recordGoodAt t)) ≡ true
   unfolding wellMade
@@ -64,10 +66,10 @@ module _ (t : List ℕ) (e : wellMade t ≡ true) where
   }
 
 -- from the tests' own answers
-pub well-from : (t : List ℕ) → base (streamsOf t) ≤ length t → listGood (streamsOf t) (declared t) ≡ true
+pub well-from : (t : List ℕ) → layoutWords (streamsOf t) ≤ length t → listGood (streamsOf t) (declared t) ≡ true
     → ((s : ℕ) → s < streamsOf t → recordGood (recordAt s t) ≡ true) → wellMade t ≡ true
 unfolding wellMade recordGoodAt
-well-from t h l r = both-true _ _ (le-leb (base (streamsOf t)) (length t) h) (both-true _ _ l (all-intro (recordGoodAt t) (streamsOf t) r))
+well-from t h l r = both-true _ _ (le-leb (layoutWords (streamsOf t)) (length t) h) (both-true _ _ l (all-intro (recordGoodAt t) (streamsOf t) r))
 
 pub of-well : (t : List ℕ) → WellMade t → wellMade t ≡ true
 of-well t w = well-from t (w .whole) (of-list (streamsOf t) (declared t) (w .list)) (λ s h. of-good (recordAt s t) (w .records s h))
@@ -92,17 +94,34 @@ module _ (s : ℕ) (r t : List ℕ) (w : wellMade t ≡ true) (h : s < streamsOf
       ⊎-elim (λ (e : u ≡ s). rw (e, record-with s r t has-it l) g)
       (λ (o : u ≡ s → ⊥). rw (record-with-other s r t has-it l u o) (well-record t w u (rw n at k))) (same-or-not u s))
 
--- ---- the tests as a program makes them, n being S
+-- ---- the tests as a program makes them
 
-module _ (t : List ℕ) (n : ℕ) (e : n ≡ streamsOf t) where
-  pub well-short : length t < base n → false ≡ wellMade t
-  unfolding wellMade
-  well-short h = rw (sym e, lt-leb (base n) (length t) h)
+-- the record is lent from its place on
+pub record-tested : (t : List ℕ) (s at : ℕ) (b : Bool) → at ≡ base s → b ≡ recordGood (take (at + recordWords - at) (drop at t)) → b ≡ recordGoodAt t s
+unfolding recordGoodAt recordAt
+record-tested t s at b e h = h ∙ ap recordGood (seen at (at + recordWords) recordWords t refl ∙ ap (λ (a : ℕ). part a recordWords t) e)
 
-  pub well-unlisted : base n ≤ length t → listGood n (spaced 1 recordWords t) ≡ false → false ≡ wellMade t
+-- n is S, m the words of its layout, and l the answer to its list
+module _ (t : List ℕ) (n m : ℕ) (e : n ≡ streamsOf t) (f : m ≡ layoutWords n) where
+  pub well-short : length t < m → false ≡ wellMade t
   unfolding wellMade
-  well-unlisted h l = rw (sym e, le-leb (base n) (length t) h, l)
+  well-short h = rw (sym e, ← f, lt-leb m (length t) h)
 
-  pub well-all : (b : Bool) → base n ≤ length t → listGood n (spaced 1 recordWords t) ≡ true → b ≡ all n (recordGoodAt t) → b ≡ wellMade t
-  unfolding wellMade
-  well-all b h l r = rw (sym e, le-leb (base n) (length t) h, l) r
+  module _ (l : Bool) (h : m ≤ length t) (g : l ≡ listGood n (spaced 1 recordWords t)) where
+    pub well-unlisted : not l ≡ true → false ≡ wellMade t
+    unfolding wellMade
+    well-unlisted o = rw (sym e, ← f, le-leb m (length t) h, ← g, not-true l o)
+
+    pub well-all : (b : Bool) → not l ≡ false → b ≡ all n (recordGoodAt t) → b ≡ wellMade t
+    unfolding wellMade
+    well-all b o r = rw (sym e, ← f, le-leb m (length t) h, ← g, not-false l o) r
+
+-- a list that was passed is short
+pub listed-few : (l : Bool) (n : ℕ) (id : ℕ → ℕ) → l ≡ listGood n id → not l ≡ false → n ≤ 32
+listed-few l n id g o = list-of n id (sym g ∙ not-false l o) .few
+
+pub listed-small : (l : Bool) (n : ℕ) (id : ℕ → ℕ) → l ≡ listGood n id → not l ≡ false → n < 2 ^ 32
+listed-small l n id g o = omega (arith, listed-few l n id g o)
+
+pub layout-there : (t : List ℕ) (n m : ℕ) → m ≡ layoutWords n → m ≤ length t → base n ≤ length t
+layout-there t n m f h = omega arith

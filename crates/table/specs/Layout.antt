@@ -10,9 +10,13 @@ use Rattle.record.specs.Layout.{recordWords}
 abbrev pub streamsOf : List ℕ → ℕ
 streamsOf t = getD t 0 0
 
--- where the record of stream s begins; the layout of n streams ends where that of stream n would
+-- where the record of stream s begins
 abbrev pub base : ℕ → ℕ
 base s = 1 + recordWords * s
+
+-- the words of the layout of n streams: S, and n records
+abbrev pub layoutWords : ℕ → ℕ
+layoutWords n = 1 + recordWords * n
 
 -- a table has the record of stream s
 abbrev pub Has : ℕ → List ℕ → Type 0

@@ -8,7 +8,7 @@ use lib.ListN.{length}
 use Rattle.words.specs.Tests.{both}
 use Rattle.words.specs.All.{all}
 use Rattle.record.specs.Good.{recordGood, Good}
-use Rattle.table.specs.Layout.{streamsOf, base, recordAt}
+use Rattle.table.specs.Layout.{streamsOf, layoutWords, recordAt}
 use Rattle.table.specs.Identifiers.{declared, listGood}
 
 unfoldable pub recordGoodAt : List ℕ → ℕ → Bool
@@ -16,7 +16,7 @@ recordGoodAt t s = recordGood (recordAt s t)
 
 unfoldable pub wellMade : List ℕ → Bool
 wellMade t =
-    both (leb (base (streamsOf t)) (length t))
+    both (leb (layoutWords (streamsOf t)) (length t))
     (both (listGood (streamsOf t) (declared t))
     (all (streamsOf t) (recordGoodAt t)))
 
@@ -28,6 +28,6 @@ pub record GoodList (n : ℕ) (id : ℕ → ℕ) : Type 0 where
   pub apart : (u s : ℕ) → u < s → s < n → id u ≡ id s → ⊥
 
 pub record WellMade (t : List ℕ) : Type 0 where
-  pub whole : base (streamsOf t) ≤ length t
+  pub whole : layoutWords (streamsOf t) ≤ length t
   pub list : GoodList (streamsOf t) (declared t)
   pub records : (s : ℕ) → s < streamsOf t → Good (recordAt s t)

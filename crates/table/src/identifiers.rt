@@ -6,14 +6,14 @@ ghost use Rattle.words.specs.All.{all};
 ghost use Rattle.table.specs.Identifiers.{spaced, apart, listGood};
 
 // Whether no identifier before number s is that of s.
-fn is_apart(words: &[u32], first: usize, step: usize, s: usize) -> bool
-    requires { ⌜ first + step * s < length (now words) ⌝ }
-    ensures { λ r. ⌜ r ≡ apart (spaced first step (now (words .entry))) s ⌝ }
+fn is_apart(ws: &[u32], first: usize, step: usize, s: usize) -> bool
+    requires { ⌜ first + step * s < length (now ws) ⌝ }
+    ensures { λ r. ⌜ r ≡ apart (spaced first step (now (ws .entry))) s ⌝ }
 {
-    let mine = words[first + step * s];
+    let mine = ws[first + step * s];
     let mut u = 0;
     while u < s {
-        if words[first + step * u] == mine {
+        if ws[first + step * u] == mine {
             return false;
         }
         u += 1;
@@ -22,13 +22,13 @@ fn is_apart(words: &[u32], first: usize, step: usize, s: usize) -> bool
 }
 
 // Whether no identifier of n stands twice.
-fn all_apart(words: &[u32], first: usize, step: usize, n: usize) -> bool
-    requires { ⌜ (1 ≤ step) × (first + step * n ≤ length (now words)) ⌝ }
-    ensures { λ r. ⌜ r ≡ all n (apart (spaced first step (now (words .entry)))) ⌝ }
+fn all_apart(ws: &[u32], first: usize, step: usize, n: usize) -> bool
+    requires { ⌜ (1 ≤ step) × (first + step * n ≤ length (now ws)) ⌝ }
+    ensures { λ r. ⌜ r ≡ all n (apart (spaced first step (now (ws .entry)))) ⌝ }
 {
     let mut s = 0;
     while s < n {
-        if !is_apart(words, first, step, s) {
+        if !is_apart(ws, first, step, s) {
             return false;
         }
         s += 1;
@@ -37,9 +37,9 @@ fn all_apart(words: &[u32], first: usize, step: usize, n: usize) -> bool
 }
 
 // Whether the list is 1 to 32 identifiers, none twice.
-pub fn list_good(words: &[u32], first: usize, step: usize, n: usize) -> bool
-    requires { ⌜ (1 ≤ step) × (first + step * n ≤ length (now words)) ⌝ }
-    ensures { λ r. ⌜ r ≡ listGood n (spaced first step (now (words .entry))) ⌝ }
+pub fn list_good(ws: &[u32], first: usize, step: usize, n: usize) -> bool
+    requires { ⌜ (1 ≤ step) × (first + step * n ≤ length (now ws)) ⌝ }
+    ensures { λ r. ⌜ r ≡ listGood n (spaced first step (now (ws .entry))) ⌝ }
 {
     if n < 1 {
         return false;
@@ -47,5 +47,5 @@ pub fn list_good(words: &[u32], first: usize, step: usize, n: usize) -> bool
     if 32 < n {
         return false;
     }
-    all_apart(words, first, step, n)
+    all_apart(ws, first, step, n)
 }

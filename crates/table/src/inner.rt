@@ -2,7 +2,7 @@
 pub use crate::identifiers::list_good;
 ghost use mathlib.Core.Path.{_≡_};
 ghost use Prim.Native.Nat.{_^_, _<_};
-ghost use Rattle.table.specs.Layout.{streamsOf, base};
+ghost use Rattle.table.specs.Layout.{streamsOf, base, layoutWords};
 
 // S, the number of streams; 0 of no words.
 pub fn streams(table: &[u32]) -> usize
@@ -11,7 +11,15 @@ pub fn streams(table: &[u32]) -> usize
     words::inner::word_at(table, 0) as usize
 }
 
-// Where the record of stream s begins; that of stream S would begin where the layout ends.
+// The words of the layout of n streams.
+pub fn layout_words(n: usize) -> usize
+    requires { ⌜ n < 2 ^ 32 ⌝ }
+    ensures { λ r. ⌜ (r ≡ layoutWords n) × (r < 2 ^ 39) ⌝ }
+{
+    1 + record::inner::RECORD_WORDS * n
+}
+
+// Where the record of stream s begins.
 pub fn record_at(s: usize) -> usize
     requires { ⌜ s < 2 ^ 32 ⌝ }
     ensures { λ r. ⌜ (r ≡ base s) × (r < 2 ^ 39) ⌝ }

@@ -8,8 +8,8 @@ ghost use Rattle.words.specs.Outcome.{measured, Meets};
 ghost use Rattle.table.specs.Well.{wellMade};
 ghost use Rattle.table.specs.Start.{startOf};
 
-// Starts a table for a list of identifiers, and answers the layout's length: LIST for 0 or over 32 of them, or one twice; ROOM where the table is shorter than the layout. Words past the
-// layout stay.
+// Starts a table for a list of identifiers, and answers the layout's length: LIST for 0 or over 32 of them, or one twice; ROOM where the table is shorter than
+// the layout. Words past the layout stay.
 pub fn start(ids: &[u32], table: &mut [u32]) -> words::Length
     ensures { λ r. ⌜ Meets measured (startOf (now (ids .entry)) (now (table .entry))) (now (table .entry)) r (now (table .exit)) ⌝ }
 {
@@ -17,7 +17,7 @@ pub fn start(ids: &[u32], table: &mut [u32]) -> words::Length
     if !identifiers::list_good(ids, 0, 1, n) {
         return words::Length::Refused(words::LIST);
     }
-    let length = 1 + record::inner::RECORD_WORDS * n;
+    let length = inner::layout_words(n);
     if table.len() < length {
         return words::Length::Refused(words::ROOM);
     }
@@ -31,7 +31,7 @@ pub fn well_made(table: &[u32]) -> bool
     ensures { λ r. ⌜ r ≡ wellMade (now (table .entry)) ⌝ }
 {
     let n = inner::streams(table);
-    if table.len() < 1 + record::inner::RECORD_WORDS * n {
+    if table.len() < inner::layout_words(n) {
         return false;
     }
     if !identifiers::list_good(table, 1, record::inner::RECORD_WORDS, n) {

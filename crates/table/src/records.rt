@@ -1,7 +1,7 @@
 // The records of a table: made fresh, and tested.
 ghost use mathlib.Core.Path.{_≡_};
 ghost use mathlib.Core.List.{_++_};
-ghost use Prim.Native.Nat.{_+_, _*_, _≤_, _<_};
+ghost use Prim.Native.Nat.{_+_, _≤_, _<_};
 ghost use lib.ListN.{length, take, drop};
 ghost use Rattle.words.specs.All.{all};
 ghost use Rattle.table.specs.Layout.{base, Has, withRecord};
@@ -15,7 +15,7 @@ fn write_record(table: &mut [u32], s: usize, identifier: u32)
 {
     let mut rec = [0u32; record::inner::RECORD_WORDS];
     rec[0] = identifier;
-    let at = 1 + record::inner::RECORD_WORDS * s;
+    let at = crate::inner::record_at(s);
     words::inner::copy_part(table, at, &rec, 0, record::inner::RECORD_WORDS);
 }
 
@@ -36,7 +36,7 @@ fn record_good_at(table: &[u32], s: usize) -> bool
     requires { ⌜ (s < 32) × Has s (now table) ⌝ }
     ensures { λ r. ⌜ r ≡ recordGoodAt (now (table .entry)) s ⌝ }
 {
-    let at = 1 + record::inner::RECORD_WORDS * s;
+    let at = crate::inner::record_at(s);
     let end = at + record::inner::RECORD_WORDS;
     record::inner::record_good(&table[at..end])
 }

@@ -10,7 +10,7 @@ use Rattle.words.specs.Tests.{both}
 use Rattle.words.specs.All.{all}
 use Rattle.record.specs.Good.{recordGood}
 use Rattle.table.specs.Identifiers.{listed, listGood}
-use Rattle.page.specs.Body.{bodyWords}
+use Rattle.page.specs.Body.{pageBodyWords}
 use Rattle.page.specs.Layout.{contentsWords, bodiesIn, offsetAt, lengthAt, beginsAt, savedRecord}
 
 -- "offset from word 0 and length of each body, in list order without gaps": body s begins where the one before it ends, it ends inside the page, and its
@@ -19,7 +19,7 @@ unfoldable pub pairGood : List ℕ → ℕ → Bool
 pairGood p s =
     both (eqb (offsetAt p s) (beginsAt p s))
     (both (leb (beginsAt p s + lengthAt p s) (length p))
-    (eqb (lengthAt p s) (bodyWords (getD p (beginsAt p s + 1) 0))))
+    (eqb (lengthAt p s) (pageBodyWords (getD p (beginsAt p s + 1) 0))))
 
 -- n pairs, and nothing after the last body
 abbrev pub pairsGood : List ℕ → ℕ → Bool
@@ -59,5 +59,5 @@ pub record GoodContents (p : List ℕ) : Type 0 where
   pub second : getD p 1 0 ≡ length p
   pub gapless : (s : ℕ) → s < bodiesIn p → offsetAt p s ≡ beginsAt p s
   pub inside : (s : ℕ) → s < bodiesIn p → beginsAt p s + lengthAt p s ≤ length p
-  pub lengths : (s : ℕ) → s < bodiesIn p → lengthAt p s ≡ bodyWords (getD p (beginsAt p s + 1) 0)
+  pub lengths : (s : ℕ) → s < bodiesIn p → lengthAt p s ≡ pageBodyWords (getD p (beginsAt p s + 1) 0)
   pub ends : beginsAt p (bodiesIn p) ≡ length p

@@ -4,10 +4,7 @@ use borrow.Author.Needs.{needs}
 use Rattle.panel.proofs.records.is_held.Statement.{statement}
 use Rattle.panel.proofs.records.is_held.Tie as tie
 
-returns : tie.Need-returns
-unfolding isHeld
-returns c = search needs
-
 pub is-held-spec : {M : Type 1} → statement M
+unfolding isHeld
 is-held-spec =
-    tie.close (tie.spec (λ c. search needs) (λ c. search needs) returns)
+    tie.close (tie.spec (λ c. search needs) (λ c. search needs) (λ c. search needs))

@@ -1,12 +1,11 @@
 -- `records_good` meets its promise: the records passed are good.
 use Prim.Native.Nat.{_≤_, _-_}
-use mathlib.Core.Path.{_≡_, sym, _∙_}
+use mathlib.Core.Path.{_≡_}
 use mathlib.Core.Bool.{true}
-use borrow.Author.Tests.{not-true, not-false}
 use Rattle.words.specs.All.{all}
-use Rattle.words.proofs.AllLaws.{all-none, all-more, all-fails, all-end}
+use Rattle.words.proofs.AllLaws.{all-none}
 use Rattle.table.specs.Well.{recordGoodAt}
-use native.Mathlib.Omega.{arith}
+use Rattle.table.proofs.TestLaws.{test-passed, test-failed, test-ended}
 use borrow.Author.Needs.{needs}
 use Rattle.table.proofs.records.records_good.Statement.{statement}
 use Rattle.table.proofs.records.records_good.Tie as tie
@@ -17,21 +16,9 @@ Inv-loop table n s₀ s = (s ≤ n) × (all s (recordGoodAt table) ≡ true)
 abbrev μ-loop : tie.MeasureT-loop
 μ-loop table n s₀ s = n - s
 
-loop-holds : tie.Need-loop-holds Inv-loop μ-loop
-loop-holds c = (search needs, all-none _)
-
-returns : tie.Need-returns Inv-loop μ-loop
-returns c =
-    sym (all-fails _ _ (c .before .before .before .loop .s) (c .before .before .loop-test .taken)
-    (sym (c .before .record-good-at .ensures) ∙ not-true _ (c .if1 .taken)))
-
-loop-again : tie.Need-loop-again Inv-loop μ-loop
-loop-again c =
-    (search needs, all-more _ _ (c .before .before .before .loop .inv .1) (sym (c .before .record-good-at .ensures) ∙ not-false _ (c .if1 .left)))
-
-returns-2 : tie.Need-returns-2 Inv-loop μ-loop
-returns-2 c = sym (all-end _ _ _ (omega arith) (c .before .loop .inv .1))
-
 pub records-good-spec : {M : Type 1} → statement M
 records-good-spec =
-    tie.close (tie.spec Inv-loop μ-loop loop-holds (λ c κs. search needs) returns (λ c. search needs) (λ c. search needs) loop-again returns-2)
+    tie.close
+    (tie.spec
+    Inv-loop μ-loop (λ c. search (needs, all-none)) (λ c κs. search needs) (λ c. search test-failed) (λ c. search needs) (λ c. search needs)
+    (λ c. search (needs, test-passed)) (λ c. search test-ended))

@@ -1,17 +1,11 @@
 -- `write_record` meets its promise: the array is the fresh record, and its copy is the record replaced.
-use Rattle.words.specs.Part.{part}
-use Rattle.table.specs.Layout.{withRecord}
-use Rattle.table.specs.Start.{freshRecord}
+use Rattle.table.proofs.StartLaws.{record-copied}
 use borrow.Author.Needs.{needs}
 use Rattle.table.proofs.records.write_record.Statement.{statement}
 use Rattle.table.proofs.records.write_record.Tie as tie
-
-returns : tie.Need-returns
-unfolding withRecord part freshRecord
-returns c = c .before .before .copy-part .ensures
 
 pub write-record-spec : {M : Type 1} → statement M
 write-record-spec =
     tie.close
     (tie.spec
-    (λ c. search needs) (λ c. search needs) (λ c. search needs) (λ c. search needs) (λ c κs. search needs) (λ c. search needs) returns)
+    (λ c. search needs) (λ c κs. search needs) (λ c. search needs) (λ c κs. search needs) (λ c. search needs) (λ c. search record-copied))

@@ -3,6 +3,6 @@ use Prim.Native.Nat.{ℕ, zero, suc}
 use mathlib.Core.List.{List, [], _++_}
 
 -- the pieces of numbers 0 to n - 1
-unfoldable pub joined : ℕ → (ℕ → List ℕ) → List ℕ
-joined zero f = []
-joined (suc n) f = joined n f ++ f n
+unfoldable pub pieces : ℕ → (ℕ → List ℕ) → List ℕ
+pieces zero f = []
+pieces (suc n) f = pieces n f ++ f n
