@@ -10,16 +10,12 @@ use lib.Dec.{eqb, ltb}
 use lib.ListN.{length, getD}
 use Rattle.words.specs.Tests.{pick}
 use Rattle.words.specs.Outcome.{Outcome, refused, accepted, after}
-use Rattle.words.proofs.Cases.{passed, after-passed}
+use Rattle.words.proofs.Cases.{passed, after-passed, after-assoc}
 use Rattle.packet.specs.Header.{typeOf, reservedOf, sizeOf}
 use Rattle.packet.specs.Parts.{requiredOf, bodyOf, packetOf}
 use Rattle.packet.specs.Read.{headerChecks, sizeChecks, prologueChecks, bodyChecks, checksOf, readOf}
 use Rattle.packet.specs.Front.{headedChecks, frontChecks}
 use Rattle.packet.proofs.ReadLaws.{sized}
-
-after-assoc : {A B C : Type 0} (a : Outcome A) (b : Outcome B) (c : Outcome C) → after (after a b) c ≡ after a (after b c)
-after-assoc (refused n) b c = refl
-after-assoc (accepted x) b c = refl
 
 checks-headed : (w : ℕ) (ws : List ℕ) → checksOf w ws ≡ after (headedChecks w ws) (bodyChecks (typeOf w) (bodyOf w ws))
 unfolding checksOf headedChecks

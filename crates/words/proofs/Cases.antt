@@ -1,6 +1,6 @@
 -- Definitions that go by tests: the rule set for `search`, case splits, and what an accepted answer says of the tests before it.
-use mathlib.Core.Path.{_≡_, refl}
-use mathlib.Core.Bool.{Bool, true, false}
+use mathlib.Core.Path.{_≡_, refl, sym}
+use mathlib.Core.Bool.{Bool, true, false, not}
 use mathlib.Core.Logic.{_⊎_, inl, inr, ⊎-elim}
 use Prim.Native.Nat.{ℕ, zero, suc, _≤_, _<_, zero-le, suc-le-suc}
 use native.Mathlib.Nat.{le-refl}
@@ -59,6 +59,18 @@ pub both-assoc : (a b c : Bool) → both (both a b) c ≡ both a (both b c)
 both-assoc true b c = refl
 both-assoc false b c = refl
 
+-- neither of two tests holds
+pub neither : (a b : Bool) → pick a true b ≡ false → (a ≡ false) × (b ≡ false)
+neither true b e = absurd (true-is-false e)
+neither false b e = (refl, e)
+
+-- two tests agree
+pub same-tests : (a b : Bool) → pick a b (not b) ≡ true → a ≡ b
+same-tests true true e = refl
+same-tests true false e = sym e
+same-tests false true e = e
+same-tests false false e = refl
+
 -- ---- a test that matters only where another holds
 pub pick-true : (t a : Bool) → (t ≡ true → a ≡ true) → pick t a true ≡ true
 pick-true true a f = f refl
@@ -80,6 +92,11 @@ module _ {A : Type 0} where
   pub after-passed : {B : Type 0} (o : Outcome B) (rest : Outcome A) (a : A) → after o rest ≡ accepted a → (b : B) × (o ≡ accepted b) × (rest ≡ accepted a)
   after-passed (refused n) rest a e = let z : _≡_ {A = ℕ} 0 1 = cc in absurd (omega arith)
   after-passed (accepted b) rest a e = (b, refl, e)
+
+  -- checks in groups
+  pub after-assoc : {B C : Type 0} (a : Outcome B) (b : Outcome C) (c : Outcome A) → after (after a b) c ≡ after a (after b c)
+  after-assoc (refused n) b c = refl
+  after-assoc (accepted x) b c = refl
 
   -- what follows some checks matters only where they found nothing
   pub after-same : {B : Type 0} (o : Outcome B) (r s : Outcome A) → ((b : B) → o ≡ accepted b → r ≡ s) → after o r ≡ after o s

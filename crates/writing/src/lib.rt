@@ -2,14 +2,23 @@
 mod fit;
 pub mod inner;
 mod laying;
+mod parts;
 
+ghost use mathlib.Core.Path.{_≡_};
 ghost use Rattle.words.specs.Outcome.{Meets};
-ghost use Rattle.writing.specs.Write.{writeOf, writtenPaper};
+ghost use Rattle.writing.specs.Write.{bit, writeOf, writtenPaper};
 
 // What writing answers: the number of words written, or the number of the refusal.
 pub enum Written {
     Accepted(usize),
     Refused(u32),
+}
+
+// 1 for a flag that is set.
+fn bit_of(flag: bool) -> u32
+    ensures { λ r. ⌜ r ≡ bit flag ⌝ }
+{
+    if flag { 1 } else { 0 }
 }
 
 // Writes a packet, its body given as words, into the part of a buffer that starts at a word of the caller's choice, and answers how many words
@@ -19,13 +28,13 @@ pub fn write(parts: packet::Parts, body: &[u32], out: &mut [u32], at: usize) -> 
 {
     let fraction = parts.fraction;
     let q = [
-        0,
-        0,
-        0,
-        0,
-        0,
-        0,
-        0,
+        parts.kind,
+        bit_of(parts.classed),
+        bit_of(parts.trailed),
+        bit_of(parts.tsm),
+        parts.tsi,
+        parts.tsf,
+        parts.count,
         parts.identifier,
         parts.oui,
         parts.information,
@@ -35,5 +44,5 @@ pub fn write(parts: packet::Parts, body: &[u32], out: &mut [u32], at: usize) -> 
         (fraction % 0x1_0000_0000) as u32,
         parts.trailer,
     ];
-    inner::write_given(parts, &q, body, out, at)
+    inner::write_parts(&q, body, out, at)
 }
