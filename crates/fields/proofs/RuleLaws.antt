@@ -1,21 +1,24 @@
 -- The field rules. The idea: every rule looks at the first word alone, but for device (17), which looks at two; so a rule of a field from bit 10 up,
--- which has a word (device has two), is the rule of its own words. And a rule is a limit of the first word and what else is asked (`rule-limit`).
-use mathlib.Core.Path.{_≡_, sym, _∙_}
-use mathlib.Core.Bool.{Bool, true, false}
+-- which has a word (device has two), is the rule of its own words. A rule is a limit of the first word and what else is asked (`rule-limit`); and the
+-- fields that have one are the bits of one constant (`ruled-bit`).
+use mathlib.Core.Path.{_≡_, refl, sym, _∙_}
+use mathlib.Core.Bool.{Bool, true, false, not}
 use mathlib.Core.Logic.{⊎-elim}
 use mathlib.Core.List.{List, [], _∷_}
-use Prim.Native.Nat.{ℕ, _/_, _%_, _^_, _≤_, _<_}
+use Prim.Native.Nat.{ℕ, _+_, _/_, _%_, _^_, _≤_, _<_}
 use native.Mathlib.Omega.{arith}
 use borrow.Author.Tests.{eqb-true, eq-eqb, ne-eqb, lt-ltb, le-ltb}
 use lib.Dec.{eqb, ltb}
 use lib.ListN.{take, drop, getD}
 use lib.Seq.{getD-take}
 use Rattle.words.specs.Tests.{pick, both, among}
-use Rattle.words.proofs.Cases.{true-or-false, le-or-lt, both-yes}
-use Rattle.fields.specs.Sizes.{sizeOf}
+use Rattle.words.specs.All.{all}
+use Rattle.words.proofs.Cases.{true-or-false, le-or-lt, true-is-false, both-yes, neither, same-tests}
+use Rattle.words.proofs.AllLaws.{all-at}
+use Rattle.fields.specs.Sizes.{sizeOf, wordsOf}
 use Rattle.fields.specs.Rules.{ruleOf, notNegative, upperHalfZero, deviceRule, stateRule, formatRule, asciiRule, listsRule}
-use Rattle.fields.specs.Limits.{limitOf, firstOk, deviceSecond, moreOk}
-use Rattle.fields.proofs.PlaceLaws.{first-word}
+use Rattle.fields.specs.inner.Limits.{ruled, limitOf, firstOk, deviceSecond, moreOk}
+use Rattle.fields.proofs.PlaceLaws.{first-word, second-word}
 use Rattle.fields.proofs.SizeLaws.{size-some}
 
 -- a rule other than device's is the same for the same first word
@@ -63,13 +66,13 @@ first-small b u h =
     (λ q. one (among b (17 ∷ 9 ∷ [])) (2 ^ 24) (2 ^ 32) (λ r. lt-ltb u (2 ^ 24) (omega arith)) (λ r. lt-ltb u (2 ^ 32) (omega arith))))
 
 abbrev Limited : ℕ → List ℕ → Type 0
-Limited b ws = ruleOf b ws ≡ both (firstOk b (getD ws 0 0)) (moreOk b ws)
+Limited b ws = ruleOf b ws ≡ both (firstOk b (getD ws 0 0)) (moreOk b (getD ws 0 0) (getD ws 1 0))
 
 or-row : (b n : ℕ) (ws : List ℕ) → Limited n ws → (eqb b n ≡ false → Limited b ws) → Limited b ws
 or-row b n ws s f = ⊎-elim (λ t. let e : b ≡ n = eqb-true b n t in rw e s) f (true-or-false (eqb b n))
 
-pub rule-limit : (b : ℕ) (ws : List ℕ) → getD ws 0 0 < 2 ^ 32 → ruleOf b ws ≡ both (firstOk b (getD ws 0 0)) (moreOk b ws)
-unfolding ruleOf firstOk limitOf moreOk deviceSecond notNegative upperHalfZero deviceRule asciiRule
+pub rule-limit : (b : ℕ) (ws : List ℕ) → getD ws 0 0 < 2 ^ 32 → ruleOf b ws ≡ both (firstOk b (getD ws 0 0)) (moreOk b (getD ws 0 0) (getD ws 1 0))
+unfolding ruleOf firstOk limitOf moreOk deviceSecond notNegative upperHalfZero deviceRule stateRule formatRule asciiRule listsRule
 rule-limit b ws h =
     let u : ℕ = getD ws 0 0 in
     or-row b 29 ws (sign-free u h ∙ sym (both-yes (ltb u (2 ^ 31)))) (λ p.
@@ -80,21 +83,66 @@ rule-limit b ws h =
     or-row b 9 ws (byte-free u h ∙ sym (both-yes (ltb u (2 ^ 24)))) (λ v.
     rw (p, q, r, s, t, v, lt-ltb u (2 ^ 32) h)))))))
 
--- the rule of a field at a place of a body, its first word u: below the limit it is what else is asked, and else it is broken
-module _ (b u at : ℕ) (body : List ℕ) (e : u ≡ getD body at 0) (h : u < 2 ^ 32) where
-  limit-at : ruleOf b (drop at body) ≡ both (firstOk b u) (moreOk b (drop at body))
-  limit-at =
-      let f : getD (drop at body) 0 0 ≡ u = first-word at body ∙ sym e in
-      rw (← f) (rule-limit b (drop at body) (rw f h))
-
-  pub rule-below : (more : Bool) → firstOk b u ≡ true → more ≡ moreOk b (drop at body) → more ≡ ruleOf b (drop at body)
-  rule-below more f m = m ∙ sym (limit-at ∙ rw f)
-
-  pub rule-broken : firstOk b u ≡ false → false ≡ ruleOf b (drop at body)
-  rule-broken f = sym (limit-at ∙ rw f)
-
 -- nothing else is asked of a field above bit 17
-pub more-above : (b : ℕ) (ws : List ℕ) → 17 < b → moreOk b ws ≡ true
+more-above : (b u v : ℕ) → 17 < b → moreOk b u v ≡ true
 unfolding moreOk
-more-above b ws h =
+more-above b u v h =
     rw (ne-eqb b 17 (λ e. omega arith), ne-eqb b 16 (λ e. omega arith), ne-eqb b 15 (λ e. omega arith), ne-eqb b 8 (λ e. omega arith))
+
+-- the rule of a field whose words are the first of ws, by the answer `below` to whether the first is below its limit
+module _ (b : ℕ) (ws : List ℕ) (below : Bool) (f : below ≡ firstOk b (getD ws 0 0)) (h : getD ws 0 0 < 2 ^ 32) where
+  pub rule-broken : below ≡ false → false ≡ ruleOf b ws
+  rule-broken over = sym (rule-limit b ws h ∙ rw (← f, over))
+
+  pub rule-above : below ≡ true → 17 < b → true ≡ ruleOf b ws
+  rule-above under g = sym (rule-limit b ws h ∙ rw (← f, under) (more-above b (getD ws 0 0) (getD ws 1 0) g))
+
+  pub rule-more : below ≡ true → (v : ℕ) (more : Bool) → v ≡ getD ws 1 0 → more ≡ moreOk b (getD ws 0 0) v → more ≡ ruleOf b ws
+  rule-more under v more e m = m ∙ rw e (sym (rule-limit b ws h ∙ rw (← f, under)))
+
+-- the same of a field at a place of a body, whose first word is u
+module _ (b u at : ℕ) (body : List ℕ) (e : u ≡ getD body at 0) (below : Bool) (f : below ≡ firstOk b u) (h : u < 2 ^ 32) where
+  first-is : u ≡ getD (drop at body) 0 0
+  first-is = e ∙ sym (first-word at body)
+
+  pub rule-broken-at : below ≡ false → false ≡ ruleOf b (drop at body)
+  rule-broken-at = rule-broken b (drop at body) below (f ∙ rw first-is) (rw (← first-is) h)
+
+  pub rule-above-at : below ≡ true → 17 < b → true ≡ ruleOf b (drop at body)
+  rule-above-at = rule-above b (drop at body) below (f ∙ rw first-is) (rw (← first-is) h)
+
+  pub rule-more-at : below ≡ true → (v : ℕ) (more : Bool) → v ≡ getD body (at + 1) 0 → more ≡ moreOk b u v → more ≡ ruleOf b (drop at body)
+  rule-more-at under v more g m =
+      rule-more b (drop at body) below (f ∙ rw first-is) (rw (← first-is) h) under v more (g ∙ sym (second-word at body)) (rw first-is at m)
+
+-- ---- the fields that have a rule, as the bits of one constant
+
+bit-right : ℕ → Bool
+bit-right b = pick (eqb (556237568 / 2 ^ b % 2) 1) (ruled b) (not (ruled b))
+
+pub ruled-bit : (b : ℕ) → b < 32 → eqb (556237568 / 2 ^ b % 2) 1 ≡ ruled b
+unfolding bit-right all ruled
+ruled-bit b h = same-tests (eqb (556237568 / 2 ^ b % 2) 1) (ruled b) (all-at bit-right 32 b h refl)
+
+-- what is not among some numbers is none of them
+none-of : (b n : ℕ) (xs : List ℕ) → among b xs ≡ false → among n xs ≡ true → eqb b n ≡ false
+none-of b n [] e m = absurd (true-is-false (sym m))
+none-of b n (x ∷ xs) e m =
+    let apart = neither (eqb b x) (among b xs) e in
+    ⊎-elim (λ t. let k : n ≡ x = eqb-true n x t in rw k (apart .0)) (λ f. none-of b n xs (apart .1) (rw f at m)) (true-or-false (eqb n x))
+
+-- a field that has none is of fixed size and obeys, by the answer `has` to whether it has one
+module _ (b : ℕ) (ws : List ℕ) (has : Bool) (e : has ≡ ruled b) (none : has ≡ false) where
+  other : (n : ℕ) → ruled n ≡ true → eqb b n ≡ false
+  unfolding ruled
+  other n m = none-of b n (29 ∷ 24 ∷ 21 ∷ 18 ∷ 17 ∷ 16 ∷ 15 ∷ 9 ∷ 8 ∷ []) (sym e ∙ none) m
+
+  pub unruled-past : (at n : ℕ) → n ≡ sizeOf b → at + n ≡ at + wordsOf b ws
+  unfolding ruled wordsOf
+  unruled-past at n size = rw (size, other 9 refl, other 8 refl)
+
+  pub unruled-kept : (kept : Bool) → kept ≡ both kept (ruleOf b ws)
+  unfolding ruled ruleOf
+  unruled-kept kept =
+      rw (other 29 refl, other 21 refl, other 24 refl, other 18 refl, other 17 refl, other 16 refl, other 15 refl, other 9 refl, other 8 refl)
+      (sym (both-yes kept))

@@ -45,20 +45,21 @@ walking-start bits body h =
     }
 
 pub walking-turn : {bits rest end : ℕ} {body : List ℕ} {kept : Bool} → Walking bits body rest end kept
-    → (b rest′ w : ℕ) (kept′ ok : Bool) → bitsOf 32 rest ≡ b ∷ bitsOf 32 rest′ → rest′ < rest
-    → w ≡ wordsOf b (drop end body) → w ≤ 2 ^ 33 → ok ≡ ruleOf b (drop end body) → kept′ ≡ both kept ok
-    → Walking bits body rest′ (end + w) kept′
-walking-turn {bits} {rest} {end} {body} {kept} p b rest′ w kept′ ok cut less size small rule all =
+    → (b rest′ end′ : ℕ) (kept′ : Bool) → bitsOf 32 rest ≡ b ∷ bitsOf 32 rest′ → rest′ < rest
+    → end′ ≡ end + wordsOf b (drop end body) → end′ ≤ end + 2 ^ 33 → kept′ ≡ both kept (ruleOf b (drop end body))
+    → Walking bits body rest′ end′ kept′
+walking-turn {bits} {rest} {end} {body} {kept} p b rest′ end′ kept′ cut less past small obeys =
+    let w : ℕ = wordsOf b (drop end body) in
     let more : List ℕ = bitsOf 32 rest′ in
-    let spans : spanOf (bitsOf 32 rest) (drop end body) ≡ w + spanOf more (drop (end + w) body) =
-    ap (λ (l : List ℕ). spanOf l (drop end body)) cut ∙ span-cons b w end more body size in
-    let obeys : obeyed (bitsOf 32 rest) (drop end body) ≡ both ok (obeyed more (drop (end + w) body)) =
-    ap (λ (l : List ℕ). obeyed l (drop end body)) cut ∙ rw rule (rules-cons b w end more body size) in
+    let spans : spanOf (bitsOf 32 rest) (drop end body) ≡ w + spanOf more (drop end′ body) =
+    ap (λ (l : List ℕ). spanOf l (drop end body)) cut ∙ rw past (span-cons b w end more body refl) in
+    let rules : obeyed (bitsOf 32 rest) (drop end body) ≡ both (ruleOf b (drop end body)) (obeyed more (drop end′ body)) =
+    ap (λ (l : List ℕ). obeyed l (drop end body)) cut ∙ rw past (rules-cons b w end more body refl) in
     record {
       fits = omega (arith, p .fits);
       near = omega (arith, p .near, ap length cut);
       span = omega (arith, p .span, spans);
-      rules = rw all (both-assoc kept ok (obeyed more (drop (end + w) body)) ∙ ap (both kept) (sym obeys) ∙ p .rules);
+      rules = rw obeys (both-assoc kept (ruleOf b (drop end body)) (obeyed more (drop end′ body)) ∙ ap (both kept) (sym rules) ∙ p .rules);
     }
 
 pub walking-end : {bits rest end : ℕ} {body : List ℕ} {kept : Bool} → Walking bits body rest end kept → rest ≡ 0

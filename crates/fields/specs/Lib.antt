@@ -6,9 +6,9 @@ pub mod Sizes
 pub mod Format
 -- the other field rules
 pub mod Rules
--- the rules as the program asks them
-pub mod Limits
 -- where the fields of a body stand, and the refusals INDICATOR, LAYOUT and FIELD
 pub mod Layout
 -- what the calls answer
 pub mod Answers
+-- what only the contracts inside cite
+pub mod inner

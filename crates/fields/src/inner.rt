@@ -12,7 +12,6 @@ pub use layout::Walked;
 pub use layout::walk;
 pub use rules::first_ok;
 pub use rules::more_ok;
-pub use rules::rule_at;
 pub use sizes::SIZES;
 pub use sizes::size_in;
 pub use sizes::size_of;

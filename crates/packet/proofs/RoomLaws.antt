@@ -2,18 +2,19 @@
 -- soon as the required parts fit the size and the size fits n.
 use mathlib.Core.Path.{_≡_, refl, sym}
 use mathlib.Core.Bool.{Bool, true, false, not}
-use mathlib.Core.List.{[], _∷_}
+use mathlib.Core.List.{List, [], _∷_}
 use Prim.Native.Nat.{ℕ, _+_, _-_, _/_, _%_, _^_, _≤_, _<_}
 use native.Mathlib.Omega.{arith}
-use borrow.Author.Tests.{not-true, ne-eqb}
+use borrow.Author.Tests.{ne-eqb}
 use lib.Dec.{eqb, ltb}
+use lib.ListN.{getD}
 use Rattle.words.specs.Tests.{pick, when, among}
-use Rattle.words.specs.Word.{has}
+use Rattle.words.specs.Word.{has, highFirst}
 use Rattle.words.specs.All.{all}
 use Rattle.words.proofs.AllLaws.{all-at}
-use Rattle.words.proofs.Cases.{when-most, true-is-false}
-use Rattle.packet.specs.Header.{typeOf, classed, trailed, tsmOf, reservedOf, sizeOf}
-use Rattle.packet.specs.Parts.{streamed, hasSeconds, hasFraction, classAt, secondsAt, fractionAt, bodyAt, requiredOf, bodyLength}
+use Rattle.words.proofs.Cases.{when-most, true-is-false, same-tests}
+use Rattle.packet.specs.Header.{typeOf, classed, trailed, tsmOf, reservedOf, tsfOf, sizeOf}
+use Rattle.packet.specs.Parts.{streamed, hasSeconds, hasFraction, classAt, secondsAt, fractionAt, bodyAt, requiredOf, bodyLength, wordIf, fractionOf}
 
 -- the body begins past the header
 pub body-past : (w : ℕ) → 1 ≤ bodyAt w
@@ -49,6 +50,25 @@ pub when-inside : (t : Bool) (at k n : ℕ) → at + when t k ≤ n → t ≡ tr
 when-inside true at k n h e = h
 when-inside false at k n h e = absurd (true-is-false (sym e))
 
+-- where TSF is 2, a fraction is there: it lies inside, and is its two words
+module _ (w tsf at : ℕ) (t : tsf ≡ tsfOf w) (two : tsf ≡ 2) (a : at ≡ fractionAt w) where
+  there : hasFraction w ≡ true
+  unfolding hasFraction
+  there = rw (← t, two)
+
+  inside : (n : ℕ) → requiredOf w ≤ sizeOf w → sizeOf w ≤ n → fractionAt w + 2 ≤ n
+  inside n h g = when-inside (hasFraction w) (fractionAt w) 2 n (room w n h g .fraction) there
+
+  pub high-inside : (n : ℕ) → requiredOf w ≤ sizeOf w → sizeOf w ≤ n → at < n
+  high-inside n h g = omega (arith, inside n h g)
+
+  pub low-inside : (n : ℕ) → requiredOf w ≤ sizeOf w → sizeOf w ≤ n → at + 1 < n
+  low-inside n h g = omega (arith, inside n h g)
+
+  pub fraction-words : (ws : List ℕ) → fractionOf w ws ≡ highFirst (getD ws at 0) (getD ws (at + 1) 0)
+  unfolding fractionOf wordIf
+  fraction-words ws = rw (there, a)
+
 -- ---- the types that have a stream identifier, as the bits of one constant
 
 bit-right : ℕ → Bool
@@ -57,10 +77,6 @@ bit-right k = pick (eqb (58 / 2 ^ k % 2) 1) (among k (1 ∷ 3 ∷ 4 ∷ 5 ∷ []
 pub streamed-bit : (k : ℕ) → k < 16 → eqb (58 / 2 ^ k % 2) 1 ≡ among k (1 ∷ 3 ∷ 4 ∷ 5 ∷ [])
 unfolding bit-right all
 streamed-bit k h = same-tests (eqb (58 / 2 ^ k % 2) 1) (among k (1 ∷ 3 ∷ 4 ∷ 5 ∷ [])) (all-at bit-right 16 k h refl)
-  where
-    same-tests : (a b : Bool) → pick a b (not b) ≡ true → a ≡ b
-    same-tests true b e = sym e
-    same-tests false b e = sym (not-true b e)
 
 -- TSM of a header whose reserved bits are zero, whatever its type
 pub tsm-bit : (w : ℕ) → reservedOf w ≡ 0 → has w 24 ≡ tsmOf w

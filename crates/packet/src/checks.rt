@@ -1,11 +1,13 @@
 // The refusals of reading, from the header on. Each number of the list is given in one place.
 ghost use mathlib.Core.Path.{_≡_};
-ghost use Prim.Native.Nat.{_≤_};
+ghost use Prim.Native.Nat.{_^_, _≤_};
+ghost use lib.Dec.{leb};
 ghost use lib.ListN.{length};
+ghost use Rattle.words.specs.Word.{highFirst};
 ghost use Rattle.words.specs.Outcome.{checked};
 ghost use Rattle.packet.specs.Header.{typeOf, sizeOf};
 ghost use Rattle.packet.specs.Parts.{requiredOf, bodyOf};
-ghost use Rattle.packet.specs.Read.{headerChecks, sizeChecks, timeOver, prologueChecks, bodyChecks, headedChecks, frontChecks};
+ghost use Rattle.packet.specs.Read.{headerChecks, sizeChecks, prologueChecks, bodyChecks, headedChecks, frontChecks};
 
 // TYPE and BITS.
 fn check_header(w: u32) -> words::Check
@@ -34,11 +36,17 @@ fn check_size(w: u32, given: usize) -> words::Check
     words::Check::Fine
 }
 
-// Whether a fraction is TIME.
-pub fn time_over(tsf: u32, fraction: u64) -> bool
-    ensures { λ r. ⌜ r ≡ timeOver tsf fraction ⌝ }
+// Whether a fraction, given as its two words, is 10^12 or more: 10^12 is 232 times 2^32 and 3,567,587,328.
+pub fn fraction_over(high: u32, low: u32) -> bool
+    ensures { λ r. ⌜ r ≡ leb (10 ^ 12) (highFirst high low) ⌝ }
 {
-    words::inner::both_of(tsf == 2, 1_000_000_000_000 <= fraction)
+    if high < 232 {
+        return false;
+    }
+    if 232 < high {
+        return true;
+    }
+    3_567_587_328 <= low
 }
 
 // CLASS and TIME.
@@ -49,27 +57,17 @@ fn check_prologue(w: u32, words: &[u32]) -> words::Check
     if crate::prologue::class_high(w, words) / 0x100_0000 % 256 != 0 {
         return words::Check::Refused(words::CLASS);
     }
-    let tsf = crate::header::tsf_of(w);
-    if tsf != 2 {
+    if crate::header::tsf_of(w) != 2 {
         return words::Check::Fine;
     }
-    if time_over(tsf, crate::prologue::fraction_of(w, words)) {
+    let at = crate::header::fraction_at(w);
+    if fraction_over(words[at], words[at + 1]) {
         return words::Check::Refused(words::TIME);
     }
     words::Check::Fine
 }
 
-// INDICATOR, LAYOUT and FIELD, of the body of a packet of a type.
-pub fn check_body(kind: u32, body: &[u32]) -> words::Check
-    ensures { λ r. ⌜ checked r ≡ bodyChecks kind (now (body .entry)) ⌝ }
-{
-    if kind != 4 {
-        return words::Check::Fine;
-    }
-    fields::check_body(body)
-}
-
-// The same, of the body of a packet that fits.
+// INDICATOR, LAYOUT and FIELD, of the body of a packet that fits.
 pub fn check_context(w: u32, words: &[u32]) -> words::Check
     requires { ⌜ (requiredOf w ≤ sizeOf w) × (sizeOf w ≤ length (now words)) ⌝ }
     ensures { λ r. ⌜ checked r ≡ bodyChecks (typeOf w) (bodyOf w (now (words .entry))) ⌝ }

@@ -47,7 +47,7 @@ fn class_low(w: u32, words: &[u32]) -> u32
 }
 
 // The fraction.
-pub fn fraction_of(w: u32, words: &[u32]) -> u64
+fn fraction_of(w: u32, words: &[u32]) -> u64
     requires { ⌜ (requiredOf w ≤ sizeOf w) × (sizeOf w ≤ length (now words)) ⌝ }
     ensures { λ r. ⌜ r ≡ fractionOf w (now (words .entry)) ⌝ }
 {

@@ -1,60 +1,52 @@
 -- The parts of a packet as words: what their checks let through, and what writing answers behind them.
-use mathlib.Core.Path.{_≡_, refl, sym}
+use mathlib.Core.Path.{_≡_, sym, ap, _∙_}
 use mathlib.Core.List.{List}
-use Prim.Native.Nat.{ℕ, _^_, _<_}
+use Prim.Native.Nat.{ℕ, _<_}
+use native.Mathlib.Nat.{mod-eq-of-lt}
 use native.Mathlib.Omega.{arith}
 use borrow.Author.Tests.{eqb-true, ltb-false, not-false}
 use lib.Dec.{ltb}
 use lib.ListN.{length, getD}
-use lib.Pow.{high, low}
+use Rattle.words.specs.declared.Check.{Check}
+use Rattle.words.specs.declared.Check.the-variants as Check
 use Rattle.words.specs.declared.Length.{Length}
 use Rattle.words.specs.declared.Length.the-variants.{Refused}
-use Rattle.words.specs.Outcome.{refused, accepted, measured, Meets}
+use Rattle.words.specs.Outcome.{accepted, checked, measured, Meets}
 use Rattle.words.proofs.RefusalLaws.{first-passed, either-passed, first-refused, first-fine}
 use Rattle.words.proofs.MeetLaws.{meets-refused}
-use Rattle.packet.specs.declared.Parts.{Parts}
-use Rattle.writing.specs.Write.{Given, writeOf}
+use Rattle.writing.specs.Write.{writeOf}
+use Rattle.writing.specs.inner.Given.{partsIn}
 use Rattle.vrt49.specs.Packets.{partsOf, wordsList, wordsChecks, writeWordsOf}
 
--- there are fifteen
-pub fifteen : (ws : List ℕ) → wordsChecks ws ≡ accepted tt → length ws ≡ 15
-unfolding wordsChecks
-fifteen ws e = eqb-true (length ws) 15 (not-false _ (first-passed (wordsList ws) _ tt e .0 .0))
-
--- and the three flags among them are 0 or 1
-pub flags-small : (ws : List ℕ) → wordsChecks ws ≡ accepted tt → (getD ws 1 0 < 2) × (getD ws 2 0 < 2) × (getD ws 3 0 < 2)
+-- the three flags among words that pass are 0 or 1
+flags-small : (ws : List ℕ) → wordsChecks ws ≡ accepted tt → (getD ws 1 0 < 2) × (getD ws 2 0 < 2) × (getD ws 3 0 < 2)
 unfolding wordsChecks
 flags-small ws e =
     let c = either-passed (ltb 1 (getD ws 1 0)) _ (first-passed (wordsList ws) _ tt e .0 .1 .1 .0) in
     let t = either-passed (ltb 1 (getD ws 2 0)) (ltb 1 (getD ws 3 0)) (c .1) in
     (omega (arith, ltb-false 1 (getD ws 1 0) (c .0)), omega (arith, ltb-false 1 (getD ws 2 0) (t .0)), omega (arith, ltb-false 1 (getD ws 3 0) (t .1)))
 
-module _ (ws body out : List ℕ) (at : ℕ) where
-  pub words-refused : (k : ℕ) → wordsChecks ws ≡ refused k → Meets measured (writeWordsOf ws body out at) out (Refused k) out
-  unfolding writeWordsOf wordsChecks
-  words-refused k e = meets-refused (first-refused (wordsList ws) tt k _ e)
+-- so a flag is its own lowest bit, and the parts are those that writing reads in the words
+parts-same : (ws : List ℕ) → wordsChecks ws ≡ accepted tt → partsIn ws ≡ partsOf ws
+unfolding partsIn partsOf
+parts-same ws e = let f = flags-small ws e in rw (mod-eq-of-lt (f .0), mod-eq-of-lt (f .1), mod-eq-of-lt (f .2))
 
-  pub words-written : (p : Parts) (r : Length) (left : List ℕ) → wordsChecks ws ≡ accepted tt → p ≡ partsOf ws
-      → Meets measured (writeOf p body out at) out r left
-      → Meets measured (writeWordsOf ws body out at) out r left
+module _ (ws : List ℕ) (found : Check) (f : checked found ≡ wordsChecks ws) where
+  pub words-refused : (k : ℕ) → found ≡ Check.Refused k → (body out : List ℕ) (at : ℕ) → Meets measured (writeWordsOf ws body out at) out (Refused k) out
   unfolding writeWordsOf wordsChecks
-  words-written p r left e q m =
-      let f : writeWordsOf ws body out at ≡ writeOf (partsOf ws) body out at = first-fine (wordsList ws) tt tt _ e in
-      rw (f, ← q) m
+  words-refused k r body out at = meets-refused (first-refused (wordsList ws) tt k _ (sym f ∙ ap checked r))
 
--- fifteen words give the parts that writing reads in them
-pub parts-given : (ws : List ℕ) (p : Parts) → length ws ≡ 15 → getD ws 13 0 < 2 ^ 32 → p ≡ partsOf ws → Given ws p
-unfolding partsOf
-parts-given ws p l h e =
-    rw e
-    (record {
-      long = l;
-      identifier = refl;
-      oui = refl;
-      information = refl;
-      packet = refl;
-      seconds = refl;
-      high = sym (high (getD ws 12 0) 32 h);
-      low = sym (low (getD ws 12 0) 32 h);
-      trailer = refl;
-    })
+  module _ (fine : found ≡ Check.Fine) where
+    passes : wordsChecks ws ≡ accepted tt
+    passes = sym f ∙ ap checked fine
+
+    pub fifteen : length ws ≡ 15
+    unfolding wordsChecks
+    fifteen = eqb-true (length ws) 15 (not-false _ (first-passed (wordsList ws) _ tt passes .0 .0))
+
+    pub words-written : (body out left : List ℕ) (at : ℕ) (r : Length) → Meets measured (writeOf (partsIn ws) body out at) out r left
+        → Meets measured (writeWordsOf ws body out at) out r left
+    unfolding writeWordsOf wordsChecks
+    words-written body out left at r m =
+        let e : writeWordsOf ws body out at ≡ writeOf (partsOf ws) body out at = first-fine (wordsList ws) tt tt _ passes in
+        rw (e, ← parts-same ws passes) m

@@ -1,11 +1,11 @@
 // Packets, trailers and the fields of a body.
 ghost use mathlib.Core.Path.{_≡_};
-ghost use Prim.Native.Nat.{_+_, _≤_, _<_};
-ghost use lib.ListN.{length, getD};
+ghost use Prim.Native.Nat.{_+_, _≤_};
+ghost use lib.ListN.{length};
 ghost use Rattle.words.specs.Outcome.{numberOf, checked, measured, Meets};
 ghost use Rattle.fields.specs.Layout.{fieldCount, contextOf};
 ghost use Rattle.vrt49.specs.Answers.{Gives, front};
-ghost use Rattle.vrt49.specs.Packets.{packetValues, wordsChecks, partsOf, writeWordsOf, readGives, writeGives, trailerGives, trailerWordGives, findGives};
+ghost use Rattle.vrt49.specs.Packets.{packetValues, wordsChecks, writeWordsOf, readGives, writeGives, trailerGives, trailerWordGives, findGives};
 
 // Stores what reading says of a packet.
 fn store_packet(answer: &mut [u32], p: packet::Packet)
@@ -75,29 +75,6 @@ fn check_words(parts: &[u32]) -> words::Check
     words::Check::Fine
 }
 
-// The parts of a packet that fifteen words give, C, T and TSM among them as 0 or 1.
-fn parts_of(parts: &[u32]) -> packet::Parts
-    requires { ⌜ (length (now parts) ≡ 15) × (getD (now parts) 1 0 < 2) × (getD (now parts) 2 0 < 2) × (getD (now parts) 3 0 < 2) ⌝ }
-    ensures { λ r. ⌜ r ≡ partsOf (now (parts .entry)) ⌝ }
-{
-    packet::Parts {
-        kind: parts[0],
-        classed: parts[1] % 2 == 1,
-        trailed: parts[2] % 2 == 1,
-        tsm: parts[3] % 2 == 1,
-        tsi: parts[4],
-        tsf: parts[5],
-        count: parts[6],
-        identifier: parts[7],
-        oui: parts[8],
-        information: parts[9],
-        packet: parts[10],
-        seconds: parts[11],
-        fraction: words::inner::high_first(parts[12], parts[13]),
-        trailer: parts[14],
-    }
-}
-
 // Writes a packet whose parts are words.
 fn write_words(parts: &[u32], body: &[u32], out: &mut [u32], at: usize) -> words::Length
     ensures { λ r. ⌜ Meets measured (writeWordsOf (now (parts .entry)) (now (body .entry)) (now (out .entry)) at) (now (out .entry)) r (now (out .exit)) ⌝ }
@@ -106,7 +83,7 @@ fn write_words(parts: &[u32], body: &[u32], out: &mut [u32], at: usize) -> words
     if let words::Check::Refused(n) = checked {
         return words::Length::Refused(n);
     }
-    writing::inner::write_given(parts_of(parts), parts, body, out, at)
+    writing::inner::write_parts(parts, body, out, at)
 }
 
 // Writes a packet from a word of a buffer on; answers ROOM for a short answer, COUNT for other than fifteen parts, or what writing refuses. One value, the words

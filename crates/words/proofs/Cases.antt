@@ -1,6 +1,6 @@
 -- Definitions that go by tests: the rule set for `search`, case splits, tests joined, and what an accepted answer says.
 use mathlib.Core.Path.{_≡_, refl, sym}
-use mathlib.Core.Bool.{Bool, true, false}
+use mathlib.Core.Bool.{Bool, true, false, not}
 use mathlib.Core.List.{List, [], _∷_}
 use mathlib.Core.Logic.{_⊎_, inl, inr, ⊎-elim}
 use Prim.Native.Nat.{ℕ, zero, suc, _≤_, _<_, zero-le, suc-le-suc}
@@ -81,6 +81,18 @@ pub words-same : (xs : List ℕ) → sameWords xs xs ≡ true
 unfolding sameWords
 words-same [] = refl
 words-same (x ∷ xs) = both-true (eqb x x) (sameWords xs xs) (eq-eqb x x refl) (words-same xs)
+
+-- neither of two tests holds
+pub neither : (a b : Bool) → pick a true b ≡ false → (a ≡ false) × (b ≡ false)
+neither true b e = absurd (true-is-false e)
+neither false b e = (refl, e)
+
+-- two tests agree
+pub same-tests : (a b : Bool) → pick a b (not b) ≡ true → a ≡ b
+same-tests true true e = refl
+same-tests true false e = sym e
+same-tests false true e = e
+same-tests false false e = refl
 
 -- ---- a test that matters only where another holds
 pub pick-true : (t a : Bool) → (t ≡ true → a ≡ true) → pick t a true ≡ true

@@ -32,6 +32,7 @@ use Rattle.writing.specs.Write.{
   writtenDone,
   writeOf,
 }
+use Rattle.writing.specs.inner.Given.{contentList, contentChecks}
 
 -- the numbers of parts that fit
 pub record Fits (p : Parts) : Type 0 where
@@ -62,30 +63,30 @@ parts-passed p e =
     (omega (arith, ltb-false 5 (p .kind) (a .0)), not-false _ (a .1 .0))
 
 -- the list of writing is that of each group, one after the other
-pub write-groups : (p : Parts) (body out : List ℕ) (at : ℕ) → let n = length body in
-    writeOf p body out at
+pub write-groups : (p : Parts) (body out : List ℕ) (at : ℕ) → writeOf p body out at
     ≡ after (partsChecks p)
-    (after (measureChecks p n) (after (bodyChecks (p .kind) body) (after (roomChecks (length out) at (sizeFor p n)) (accepted (writtenDone p body out at)))))
-unfolding writeOf partsChecks measureChecks bodyChecks roomChecks
+    (after (contentChecks p body) (after (roomChecks (length out) at (sizeFor p (length body))) (accepted (writtenDone p body out at))))
+unfolding writeOf partsChecks contentChecks roomChecks
 write-groups p body out at =
-    let n = length body in
-    let context = bodyList (p .kind) body in
+    let content = contentList p body in
     sym
     (after-first (partsList p) tt _
     ∙ ap (firstGiven (partsList p))
-    (after-first (measureList p n) tt _
-    ∙ ap (firstGiven (measureList p n))
-    (after-first context tt _ ∙ ap (firstGiven context) (after-first (roomList (length out) at (sizeFor p n)) tt _))))
+    (after-first content tt _ ∙ ap (firstGiven content) (after-first (roomList (length out) at (sizeFor p (length body))) tt _)))
 
 -- each group of checks found nothing
+pub nothing-found : (p : Parts) (body : List ℕ) (room at size : ℕ) → partsChecks p ≡ accepted tt → contentChecks p body ≡ accepted tt
+    → size ≡ sizeFor p (length body) → roomChecks room at size ≡ accepted tt → writeChecks p body room at ≡ accepted tt
+unfolding writeChecks partsChecks contentChecks roomChecks
+nothing-found p body room at size parts content e fits =
+    first-fine (partsList p) tt tt _ parts ∙ first-fine (contentList p body) tt tt _ content ∙ rw (← e) fits
+
 pub nothing-refused : (p : Parts) (body : List ℕ) (room at size : ℕ) → partsChecks p ≡ accepted tt → measureChecks p (length body) ≡ accepted tt
-    → bodyChecks (p .kind) body ≡ accepted tt → size ≡ sizeFor p (length body) → roomChecks room at size ≡ accepted tt → writeChecks p body room at ≡ accepted tt
-unfolding writeChecks partsChecks measureChecks bodyChecks roomChecks
+    → bodyChecks (p .kind) body ≡ accepted tt → size ≡ sizeFor p (length body) → roomChecks room at size ≡ accepted tt
+    → writeChecks p body room at ≡ accepted tt
+unfolding measureChecks bodyChecks contentChecks
 nothing-refused p body room at size parts measure context e fits =
-    first-fine (partsList p) tt tt _ parts
-    ∙ first-fine (measureList p (length body)) tt tt _ measure
-    ∙ first-fine (bodyList (p .kind) body) tt tt _ context
-    ∙ rw (← e) fits
+    nothing-found p body room at size parts (first-fine (measureList p (length body)) tt tt _ measure ∙ context) e fits
 
 -- a packet that may be written
 pub record Writable (p : Parts) (body : List ℕ) (room at : ℕ) : Type 0 where

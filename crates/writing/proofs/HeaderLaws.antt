@@ -53,6 +53,12 @@ pub header-size : (p : Parts) (size : ℕ) → headerWord p size ≡ headerWord 
 unfolding headerWord join
 header-size p size = omega arith
 
+-- and has room for it
+pub header-small : (p : Parts) → p .kind < 6 → Fits p → headerWord p 0 < 6 * 2 ^ 28
+unfolding headerWord join
+header-small p kind fits =
+    omega (arith, kind, fits .tsi, fits .tsf, fits .count, bit-small (p .tsm), bit-small (p .trailed), bit-small (p .classed))
+
 module _ (p : Parts) (size : ℕ) (kind : p .kind < 6) (fits : Fits p) (small : size < 65536) where
   abbrev W : ℕ
   W = headerWord p size
@@ -94,7 +100,8 @@ module _ (p : Parts) (size : ℕ) (kind : p .kind < 6) (fits : Fits p) (small : 
   low-bit : has W 24 ≡ p .tsm
   low-bit = ap (λ (n : ℕ). eqb n 1) (header-field 4) ∙ bit-set (p .tsm)
 
-  by-type : (pick (ltb (p .kind) 4) (p .trailed) false ≡ p .trailed) × (pick (ltb (p .kind) 4) false (p .tsm) ≡ p .tsm) × (pick (ltb (p .kind) 4) (p .tsm) (p .trailed) ≡ false)
+  by-type : (pick (ltb (p .kind) 4) (p .trailed) false ≡ p .trailed) × (pick (ltb (p .kind) 4) false (p .tsm) ≡ p .tsm)
+      × (pick (ltb (p .kind) 4) (p .tsm) (p .trailed) ≡ false)
   unfolding flagsFit
   by-type = flags-by-type (ltb (p .kind) 4) (p .trailed) (p .tsm) (fits .flags)
 

@@ -6,3 +6,5 @@ pub mod FitLaws
 pub mod LayLaws
 -- a header that was made of parts, read again
 pub mod HeaderLaws
+-- the parts of a packet as fifteen words
+pub mod GivenLaws

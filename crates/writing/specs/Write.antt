@@ -1,11 +1,10 @@
 -- What writing a packet does. Document 01, 'Numbers given back': "Write: TYPE, VALUE, SHORT, SIZE, TIME, INDICATOR, LAYOUT, FIELD, ROOM";
 -- "A packet, its body given as words, is written into a part of a longer buffer that starts at the caller's chosen word."
 use Prim.Native.Nat.{ℕ, _+_, _/_, _%_, _^_}
-use mathlib.Core.Path.{_≡_}
 use mathlib.Core.Bool.{Bool, true, false, not}
 use mathlib.Core.List.{List, [], _∷_, _++_}
 use lib.Dec.{ltb}
-use lib.ListN.{length, take, drop, getD}
+use lib.ListN.{length, take, drop}
 use Rattle.words.specs.Numbers.{TYPE, VALUE, SHORT, SIZE, TIME, ROOM}
 use Rattle.words.specs.Tests.{pick, when, both}
 use Rattle.words.specs.Word.{join}
@@ -150,15 +149,3 @@ writtenDone p body out at =
 
 unfoldable pub writeOf : Parts → List ℕ → List ℕ → ℕ → Outcome (Done ℕ (List ℕ))
 writeOf p body out at = firstGiven (writeList p body (length out) at) (accepted (writtenDone p body out at))
-
--- ---- what the calls inside are given: fifteen words, those from the eighth on the parts that are written as they are
-pub record Given (q : List ℕ) (p : Parts) : Type 0 where
-  pub long : length q ≡ 15
-  pub identifier : getD q 7 0 ≡ p .identifier
-  pub oui : getD q 8 0 ≡ p .oui
-  pub information : getD q 9 0 ≡ p .information
-  pub packet : getD q 10 0 ≡ p .packet
-  pub seconds : getD q 11 0 ≡ p .seconds
-  pub high : getD q 12 0 ≡ p .fraction / 2 ^ 32
-  pub low : getD q 13 0 ≡ p .fraction % 2 ^ 32
-  pub trailer : getD q 14 0 ≡ p .trailer

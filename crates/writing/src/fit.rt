@@ -1,9 +1,17 @@
-// The refusals of writing. Each number of the list is given in one place, but for those that reading has too.
+// The refusals of writing, of a packet whose parts are fifteen words q. Each number of the list is given in one place, but for those that reading has too, and for
+// SHORT and VALUE.
+use crate::parts;
 ghost use mathlib.Core.Path.{_≡_};
 ghost use Prim.Native.Nat.{_+_, _≤_};
+ghost use lib.Dec.{eqb};
+ghost use lib.ListN.{length};
+ghost use Rattle.words.specs.Numbers.{SHORT, TIME};
+ghost use Rattle.words.specs.Tests.{pick, both};
 ghost use Rattle.words.specs.Outcome.{checked};
 ghost use Rattle.packet.specs.Header.{typeOf};
-ghost use Rattle.writing.specs.Write.{headerWord, sizeFor, codesFit, flagsFit, classFits, partsChecks, measureChecks, roomChecks};
+ghost use Rattle.packet.specs.Read.{timeOver};
+ghost use Rattle.writing.specs.Write.{headerWord, sizeFor, codesFit, flagsFit, classFits, partsChecks, roomChecks};
+ghost use Rattle.writing.specs.inner.Given.{partsIn, contentChecks};
 
 // Whether TSI, TSF and the count fit their bits.
 fn codes_fit(tsi: u32, tsf: u32, count: u32) -> bool
@@ -34,36 +42,74 @@ fn class_fits(classed: bool, oui: u32, information: u32, packet: u32) -> bool
 }
 
 // TYPE and VALUE.
-pub fn check_parts(p: packet::Parts) -> words::Check
-    ensures { λ r. ⌜ checked r ≡ partsChecks p ⌝ }
+pub fn check_parts(q: &[u32]) -> words::Check
+    requires { ⌜ length (now q) ≡ 15 ⌝ }
+    ensures { λ r. ⌜ checked r ≡ partsChecks (partsIn (now (q .entry))) ⌝ }
 {
-    if 5 < p.kind {
+    if 5 < q[parts::KIND] {
         return words::Check::Refused(words::TYPE);
     }
-    let codes = codes_fit(p.tsi, p.tsf, p.count);
-    let flags = flags_fit(p.kind, p.trailed, p.tsm);
-    let class = class_fits(p.classed, p.oui, p.information, p.packet);
-    if words::inner::both_of(codes, words::inner::both_of(flags, class)) {
+    let codes = codes_fit(q[parts::TSI], q[parts::TSF], q[parts::COUNT]);
+    let flags = flags_fit(
+        q[parts::KIND],
+        q[parts::TRAILED] % 2 == 1,
+        q[parts::TSM] % 2 == 1,
+    );
+    if !words::inner::both_of(codes, flags) {
+        return words::Check::Refused(words::VALUE);
+    }
+    if class_fits(
+        q[parts::CLASSED] % 2 == 1,
+        q[parts::OUI],
+        q[parts::INFORMATION],
+        q[parts::PACKET],
+    ) {
         return words::Check::Fine;
     }
     words::Check::Refused(words::VALUE)
 }
 
-// SHORT, SIZE and TIME, of a packet of a size with a body of n words. No packet is refused for both of the first two.
-pub fn check_measure(p: packet::Parts, n: usize, size: usize) -> words::Check
-    requires { ⌜ (size ≡ sizeFor p n) × (size ≤ n + 8) × (typeOf (headerWord p 0) ≡ p .kind) ⌝ }
-    ensures { λ r. ⌜ checked r ≡ measureChecks p n ⌝ }
+// Whether the fraction is TIME.
+fn time_over(q: &[u32]) -> bool
+    requires { ⌜ length (now q) ≡ 15 ⌝ }
+    ensures { λ r. ⌜ r ≡ timeOver (partsIn (now (q .entry)) .tsf) (partsIn (now (q .entry)) .fraction) ⌝ }
+{
+    if q[parts::TSF] != 2 {
+        return false;
+    }
+    packet::inner::fraction_over(q[parts::HIGH], q[parts::LOW])
+}
+
+// The refusal of a packet of a type whose fraction is TIME, with a body of n words: SHORT comes first.
+fn short_or_time(kind: u32, n: usize) -> u32
+    ensures { λ r. ⌜ r ≡ pick (both (eqb kind 4) (eqb n 0)) SHORT TIME ⌝ }
+{
+    if words::inner::both_of(kind == 4, n == 0) {
+        return words::SHORT;
+    }
+    words::TIME
+}
+
+// SHORT, SIZE, TIME, INDICATOR, LAYOUT and FIELD, of a packet of a size. SHORT is asked late, so that it costs nothing where the type is not 4: a packet that is
+// SHORT is not SIZE, and where TIME is found, SHORT comes first.
+pub fn check_content(q: &[u32], body: &[u32], size: usize) -> words::Check
+    requires { ⌜ (length (now q) ≡ 15) × (size ≡ sizeFor (partsIn (now q)) (length (now body))) × (size ≤ length (now body) + 8) ⌝ }
+    requires { ⌜ typeOf (headerWord (partsIn (now q)) 0) ≡ partsIn (now q) .kind ⌝ }
+    ensures { λ r. ⌜ checked r ≡ contentChecks (partsIn (now (q .entry))) (now (body .entry)) ⌝ }
 {
     if 65535 < size {
         return words::Check::Refused(words::SIZE);
     }
-    if words::inner::both_of(p.kind == 4, n == 0) {
+    if time_over(q) {
+        return words::Check::Refused(short_or_time(q[parts::KIND], body.len()));
+    }
+    if q[parts::KIND] != 4 {
+        return words::Check::Fine;
+    }
+    if body.len() == 0 {
         return words::Check::Refused(words::SHORT);
     }
-    if packet::inner::time_over(p.tsf, p.fraction) {
-        return words::Check::Refused(words::TIME);
-    }
-    words::Check::Fine
+    fields::check_body(body)
 }
 
 // ROOM, of a packet of a size in a buffer with room words.

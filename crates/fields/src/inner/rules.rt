@@ -1,30 +1,20 @@
-// The field rules, each of the field that stands at a place of a body.
+// The field rules. A rule looks at the first two words of its field at most, which are handed on as numbers: a slice that is lent in a loop is kept in memory.
 ghost use mathlib.Core.Path.{_≡_};
-ghost use mathlib.Core.List.{List};
-ghost use Prim.Native.Nat.{ℕ, _^_, _<_};
-ghost use lib.ListN.{drop, getD};
-ghost use Rattle.fields.specs.Rules.{stateRule, formatRule, listsRule, ruleOf};
-ghost use Rattle.fields.specs.Limits.{limitOf, firstOk, deviceSecond, moreOk};
+ghost use mathlib.Core.List.{[], _∷_};
+ghost use Prim.Native.Nat.{_^_, _<_};
+ghost use lib.ListN.{drop};
+ghost use Rattle.fields.specs.Rules.{stateRule, listsRule, ruleOf};
+ghost use Rattle.fields.specs.inner.Limits.{ruled, limitOf, firstOk, deviceSecond, moreOk};
 
-// State (16), by its word.
-fn state_ok(u: u32) -> bool
-    ensures { λ r. ⌜ ((ws : List ℕ) → u ≡ getD ws 0 0 → r ≡ stateRule ws) ⌝ }
-{
-    words::inner::both_of(u / 0x10_0000 % 16 == 0, u / 256 % 16 == 0)
-}
+// A bit for each field that has a rule: 29, 24, 21, 18, 17, 16, 15, 9 and 8.
+const RULED: u32 = 0x2127_8300;
 
-// Format (15), by its first word.
-fn format_at(u: u32) -> bool
-    ensures { λ r. ⌜ ((ws : List ℕ) → u ≡ getD ws 0 0 → r ≡ formatRule ws) ⌝ }
+// Whether the field of a bit has a rule.
+pub fn has_rule(bit: u32) -> bool
+    requires { ⌜ bit < 32 ⌝ }
+    ensures { λ r. ⌜ r ≡ ruled bit ⌝ }
 {
-    crate::inner::format::format_ok(u)
-}
-
-// Field 8, by its first word.
-fn lists_ok(u: u32) -> bool
-    ensures { λ r. ⌜ ((ws : List ℕ) → u ≡ getD ws 0 0 → r ≡ listsRule ws) ⌝ }
-{
-    words::inner::both_of(u / 0x200_0000 % 128 == 0, u / 512 % 128 == 0)
+    (RULED >> bit) % 2 == 1
 }
 
 // What the first word of a field is below: bandwidth (29) and sample rate (21) are not negative, level (24) and temperature (18) have a zero upper half,
@@ -63,17 +53,30 @@ pub fn first_ok(bit: u32, word: u32) -> bool
     (word as u64) < limit_of(bit)
 }
 
-// Device's (17) second word.
+// Device (17), by its second word.
 fn device_ok(v: u32) -> bool
-    ensures { λ r. ⌜ ((ws : List ℕ) → v ≡ getD ws 1 0 → r ≡ deviceSecond ws) ⌝ }
+    ensures { λ r. ⌜ r ≡ deviceSecond v ⌝ }
 {
     v / 0x1_0000 % 0x1_0000 == 0
 }
 
-// What the rules say of a field's first two words beside the limit of the first; nothing for a bit above 17. They are given as numbers: a slice that is lent
-// in a loop is kept in memory there.
+// State (16), by its word.
+fn state_ok(u: u32) -> bool
+    ensures { λ r. ⌜ r ≡ stateRule (u ∷ []) ⌝ }
+{
+    words::inner::both_of(u / 0x10_0000 % 16 == 0, u / 256 % 16 == 0)
+}
+
+// Field 8, by its first word.
+fn lists_ok(u: u32) -> bool
+    ensures { λ r. ⌜ r ≡ listsRule (u ∷ []) ⌝ }
+{
+    words::inner::both_of(u / 0x200_0000 % 128 == 0, u / 512 % 128 == 0)
+}
+
+// What the rule of a field says of its first two words beside the limit of the first; nothing for a bit above 17.
 pub fn more_ok(bit: u32, u: u32, v: u32) -> bool
-    ensures { λ r. ⌜ ((ws : List ℕ) → u ≡ getD ws 0 0 → v ≡ getD ws 1 0 → r ≡ moreOk bit ws) ⌝ }
+    ensures { λ r. ⌜ r ≡ moreOk bit u v ⌝ }
 {
     if bit == 17 {
         return device_ok(v);
@@ -82,7 +85,7 @@ pub fn more_ok(bit: u32, u: u32, v: u32) -> bool
         return state_ok(u);
     }
     if bit == 15 {
-        return format_at(u);
+        return crate::inner::format::format_ok(u);
     }
     if bit == 8 {
         return lists_ok(u);

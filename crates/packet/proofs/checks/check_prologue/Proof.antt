@@ -1,34 +1,45 @@
 -- `check_prologue` meets its promise: each return is a line of the chain.
-use Rattle.words.proofs.Cases.{cases}
+use mathlib.Core.Path.{_≡_}
+use mathlib.Core.Bool.{Bool, true, false}
+use mathlib.Core.List.{List}
+use Prim.Native.Nat.{ℕ, _+_, _/_, _%_, _^_}
+use borrow.Author.Tests.{ne-eqb}
+use lib.Dec.{leb}
+use lib.ListN.{getD}
+use Rattle.words.specs.Numbers.{CLASS, TIME}
+use Rattle.words.specs.Word.{highFirst}
+use Rattle.words.specs.Outcome.{refused, accepted}
+use Rattle.packet.specs.Header.{tsfOf}
+use Rattle.packet.specs.Parts.{fractionAt, classHigh}
 use Rattle.packet.specs.Read.{timeOver, prologueChecks}
+use Rattle.packet.proofs.RoomLaws.{high-inside, low-inside, fraction-words}
 use borrow.Author.Needs.{needs}
 use Rattle.packet.proofs.checks.check_prologue.Statement.{statement}
 use Rattle.packet.proofs.checks.check_prologue.Tie as tie
 
-returns : tie.Need-returns
-unfolding prologueChecks
-returns c = search (cases, ← c .before .class-high .ensures)
+module _ (w high : ℕ) (ws : List ℕ) (h : high ≡ classHigh w ws) where
+  class-refused : (high / 2 ^ 24 % 256 ≡ 0 → ⊥) → refused CLASS ≡ prologueChecks w ws
+  unfolding prologueChecks
+  class-refused set = rw (← h, ne-eqb (high / 2 ^ 24 % 256) 0 set)
 
-returns-2 : tie.Need-returns-2
-unfolding prologueChecks timeOver
-returns-2 c = search (cases, ← c .before .before .before .class-high .ensures, ← c .before .tsf-of .ensures)
+  module _ (clear : high / 2 ^ 24 % 256 ≡ 0) (tsf : ℕ) (t : tsf ≡ tsfOf w) where
+    no-fraction : (tsf ≡ 2 → ⊥) → accepted tt ≡ prologueChecks w ws
+    unfolding prologueChecks timeOver
+    no-fraction other = rw (← h, clear, ← t, ne-eqb tsf 2 other)
 
-returns-3 : tie.Need-returns-3
-unfolding prologueChecks
-returns-3 c =
-    let at-class-high : tie.After-class-high = search in
-    let at-tsf-of : tie.After-tsf-of = search in
-    search (cases, ← at-class-high .class-high .ensures, ← at-tsf-of .tsf-of .ensures, ← c .before .before .fraction-of .ensures, ← c .before .time-over .ensures, c .if3 .taken)
+    module _ (two : tsf ≡ 2) (at : ℕ) (a : at ≡ fractionAt w) (over : Bool) (o : over ≡ leb (10 ^ 12) (highFirst (getD ws at 0) (getD ws (at + 1) 0))) where
+      time-refused : over ≡ true → refused TIME ≡ prologueChecks w ws
+      unfolding prologueChecks timeOver
+      time-refused e = rw (← h, clear, ← t, two, fraction-words w tsf at t two a ws, ← o, e)
 
-returns-4 : tie.Need-returns-4
-unfolding prologueChecks
-returns-4 c =
-    let at-class-high : tie.After-class-high = search in
-    let at-tsf-of : tie.After-tsf-of = search in
-    search (cases, ← at-class-high .class-high .ensures, ← at-tsf-of .tsf-of .ensures, ← c .before .before .fraction-of .ensures, ← c .before .time-over .ensures, c .if3 .left)
+      time-fits : over ≡ false → accepted tt ≡ prologueChecks w ws
+      unfolding prologueChecks timeOver
+      time-fits e = rw (← h, clear, ← t, two, fraction-words w tsf at t two a ws, ← o, e)
 
 pub check-prologue-spec : {M : Type 1} → statement M
 check-prologue-spec =
     tie.close
     (tie.spec
-    (λ c κs. search needs) returns (λ c κs. search needs) returns-2 (λ c κs. search needs) (λ c κs. search needs) returns-3 returns-4)
+    (λ c κs. search needs) (λ c. search class-refused) (λ c κs. search needs) (λ c. search no-fraction) (λ c κs. search needs) (λ c. search needs)
+    (λ c. search high-inside) (λ c. search needs) (λ c. search needs) (λ c. search low-inside) (λ c κs. search needs) (λ c. search time-refused)
+    (λ c. search time-fits))

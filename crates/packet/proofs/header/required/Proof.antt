@@ -7,8 +7,16 @@ use Rattle.packet.proofs.header.required.Tie as tie
 returns : tie.Need-returns
 unfolding requiredOf
 returns c =
-    let t = c .before .before in
-    (rw (c .when-so2 .ensures .0, c .before .type-of .ensures, t .when-so .ensures .0, t .before .has-trailer .ensures, t .before .before .body-at .ensures .0), search needs)
+    let t = c .before .before in (
+      rw (
+        c .when-so2 .ensures .0,
+        c .before .type-of .ensures,
+        t .when-so .ensures .0,
+        t .before .has-trailer .ensures,
+        t .before .before .body-at .ensures .0,
+      ),
+      search needs,
+    )
 
 pub required-spec : {M : Type 1} → statement M
 required-spec =

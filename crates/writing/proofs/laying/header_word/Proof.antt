@@ -1,19 +1,21 @@
--- `header_word` meets its promise: the sum is the join of the header's fields.
+-- `header_word` meets its promise: the fields, shifted by the widths of those after them, are the join of the header (`header-given`).
 use native.Mathlib.Omega.{arith}
-use Rattle.words.specs.Word.{join}
-use Rattle.writing.specs.Write.{headerWord}
+use Rattle.writing.proofs.GivenLaws.{Small, small, header-given}
 use borrow.Author.Needs.{needs}
 use Rattle.writing.proofs.laying.header_word.Statement.{statement}
 use Rattle.writing.proofs.laying.header_word.Tie as tie
 
-returns : tie.Need-returns
-unfolding headerWord join
-returns c = omega arith
+-- no product and no sum is too large
+numbers : (c : tie.Start) → Small (c .args .q .now)
+numbers c = small _ (c .pre .1)
 
 pub header-word-spec : {M : Type 1} → statement M
 header-word-spec =
     tie.close
     (tie.spec
-    (λ c κs. search needs) (λ c κs. search needs) (λ c κs. search needs) (λ c. search needs) (λ c. search needs) (λ c. search needs)
-    (λ c. search needs) (λ c. search needs) (λ c. search needs) (λ c. search needs) (λ c. search needs) (λ c. search needs) (λ c. search needs)
-    (λ c. search needs) (λ c. search needs) (λ c. search needs) returns)
+    (λ c. search needs) (λ c. omega (arith, numbers (search))) (λ c. search needs) (λ c. omega (arith, numbers (search)))
+    (λ c. omega (arith, numbers (search))) (λ c. search needs) (λ c. omega (arith, numbers (search))) (λ c. omega (arith, numbers (search)))
+    (λ c. search needs) (λ c. omega (arith, numbers (search))) (λ c. omega (arith, numbers (search))) (λ c. search needs)
+    (λ c. omega (arith, numbers (search))) (λ c. omega (arith, numbers (search))) (λ c. search needs) (λ c. omega (arith, numbers (search)))
+    (λ c. omega (arith, numbers (search))) (λ c. search needs) (λ c. omega (arith, numbers (search))) (λ c. omega (arith, numbers (search)))
+    (λ c. search header-given))

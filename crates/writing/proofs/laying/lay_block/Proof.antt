@@ -1,26 +1,21 @@
--- `lay_block` meets its promise: what the array was given is what it gives (`part-put`).
-use mathlib.Core.Path.{_∙_}
-use Prim.Native.Nat.{ℕ}
-use denote.Ref.{now}
-use lib.ListN.{replicate, length-replicate}
-use Rattle.words.specs.Part.{part}
-use Rattle.words.proofs.PartLaws.{part-length, part-put}
+-- `lay_block` meets its promise: what is copied into the array, and out of it again, is the part of the body.
+use mathlib.Core.Path.{_≡_, _∙_}
+use mathlib.Core.List.{List}
+use Prim.Native.Nat.{ℕ, _+_, _≤_}
 use native.Mathlib.Omega.{arith}
+use lib.ListN.{length, replicate, length-replicate}
+use Rattle.words.specs.Part.{part, put}
+use Rattle.words.proofs.PartLaws.{part-length, part-put}
 use borrow.Author.Needs.{needs}
 use Rattle.writing.proofs.laying.lay_block.Statement.{statement}
 use Rattle.writing.proofs.laying.lay_block.Tie as tie
 
-returns : tie.Need-returns
-returns c =
-    let f : tie.After-copy-part = search in
-    let s : tie.Start = search in
-    c .before .before .copy-part2 .ensures
-    ∙ rw (
-      f .copy-part .ensures,
-      part-put 0 8 (part (s .args .at) 8 (now (s .args .body))) (replicate 8 0) (omega (arith, length-replicate {A = ℕ} 8 0))
-          (part-length (s .args .at) 8 (now (s .args .body)) (s .pre .0)),
-    )
+through : (body out block left : List ℕ) (at n : ℕ) → n ≤ 2048 → at + n ≤ length body → block ≡ put 0 n (part at n body) (replicate 2048 0)
+    → left ≡ put at n (part 0 n block) out → left ≡ put at n (part at n body) out
+through body out block left at n most inside b l =
+    l ∙ rw (b, part-put 0 n (part at n body) (replicate 2048 0) (omega (arith, length-replicate {A = ℕ} 2048 0)) (part-length at n body inside))
 
 pub lay-block-spec : {M : Type 1} → statement M
 lay-block-spec =
-    tie.close (tie.spec (λ c. search needs) (λ c κs. search needs) (λ c. search needs) (λ c κs. search needs) (λ c. search needs) returns)
+    tie.close
+    (tie.spec (λ c. search needs) (λ c κs. search needs) (λ c. search needs) (λ c κs. search needs) (λ c. search needs) (λ c. search through))

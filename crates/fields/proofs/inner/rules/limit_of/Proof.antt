@@ -1,6 +1,6 @@
 -- `limit_of` meets its promise: each return is a row of the definition.
 use Rattle.words.proofs.Cases.{cases}
-use Rattle.fields.specs.Limits.{limitOf}
+use Rattle.fields.specs.inner.Limits.{limitOf}
 use Rattle.fields.proofs.inner.rules.limit_of.Statement.{statement}
 use Rattle.fields.proofs.inner.rules.limit_of.Tie as tie
 
