@@ -14,9 +14,8 @@
 // a field of up to 32 bits that begins in the last word lies in it whole (`bits_last`), and a longer one may end in the second of its words
 // (`bits_wide_last`).
 ghost use mathlib.Core.Path.{_≡_};
-ghost use Prim.Native.Nat.{_+_, _*_, _/_, _%_, _-_, _^_, _≤_, _<_};
+ghost use Prim.Native.Nat.{_+_, _*_, _/_, _%_, _-_, _^_, _<_};
 ghost use lib.ListN.{length};
-ghost use Rattle.words.specs.Word.{highFirst};
 ghost use Rattle.bitstream.specs.Stream.{span};
 ghost use Rattle.bitstream.specs.Carried.{carried};
 
