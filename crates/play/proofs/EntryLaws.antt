@@ -1,5 +1,5 @@
 -- The entry of one packet. The idea: what is refused or heard of a packet, as an entry's numbers, is `entryOf` of what play says; and it says no less, since a
--- refusal has a number (`read-some`), and a walk goes on behind a packet that was read, which has a word (`Whole`, `step-whole`).
+-- refusal has a number (`read-numbered`), and a walk goes on behind a packet that was read, which has a word (`Whole`, `step-whole`).
 use mathlib.Core.Path.{_≡_, refl, ap, _∙_}
 use mathlib.Core.Bool.{Bool, true, false, not}
 use mathlib.Core.Logic.{⊎-elim}
@@ -85,7 +85,7 @@ module _ (t ws : List ℕ) where
   unfolding stepOf
   step-whole = whole-read (readOf ws) refl
 
-pub said-whole : (t ws : List ℕ) (at : ℕ) → wellMade t ≡ true → Whole (saidAt t ws at) (sizeOf (getD ws at 0))
+said-whole : (t ws : List ℕ) (at : ℕ) → wellMade t ≡ true → Whole (saidAt t ws at) (sizeOf (getD ws at 0))
 unfolding saidAt
 said-whole t ws at w = rw (play-step t (drop at ws) w, ← first-word at ws) (step-whole t (drop at ws))
 
@@ -174,7 +174,7 @@ entered-small {t} {ws} {left} {at} {x} y =
     some-small false w = omega arith
 
 module _ {t ws left : List ℕ} {at : ℕ} {x : Entry} (w : wellMade t ≡ true) (y : Entered t ws at x left) where
-  pub said-by : saidBy x ≡ saidAt t ws at
+  said-by : saidBy x ≡ saidAt t ws at
   unfolding entryAt
   said-by = entry-said (sizeOf (getD ws at 0)) x (saidAt t ws at) (said-whole t ws at w) (y .entry)
 
