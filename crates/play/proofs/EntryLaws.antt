@@ -69,7 +69,7 @@ module _ (t ws : List ℕ) where
   step-whole : Whole (saidOf (stepOf t ws)) (sizeOf (getD ws 0 0))
   step-whole = rw step-read (whole-read (readOf ws) refl)
 
-pub said-whole : (t ws : List ℕ) (at : ℕ) → wellMade t ≡ true → Whole (saidAt t ws at) (sizeOf (getD ws at 0))
+said-whole : (t ws : List ℕ) (at : ℕ) → wellMade t ≡ true → Whole (saidAt t ws at) (sizeOf (getD ws at 0))
 unfolding saidAt
 said-whole t ws at w = rw (play-step t (drop at ws) w, ← first-word at ws) (step-whole t (drop at ws))
 
@@ -156,7 +156,7 @@ entered-small {t} {ws} {left} {at} {x} y =
     some-small false w = omega arith
 
 module _ {t ws left : List ℕ} {at : ℕ} {x : Entry} (w : wellMade t ≡ true) (y : Entered t ws at x left) where
-  pub said-by : saidBy x ≡ saidAt t ws at
+  said-by : saidBy x ≡ saidAt t ws at
   unfolding entryAt
   said-by = entry-said (sizeOf (getD ws at 0)) x (saidAt t ws at) (said-whole t ws at w) (y .entry)
 

@@ -1,5 +1,5 @@
-// A run of packets over a recording, with an entry of answers for each. A packet by itself is a run with room for one entry, so that `enter` is called in one place
-// and the compiler puts it in line there: a call for each packet would cost a third more.
+// A run of packets over a recording, with an entry of answers for each. A packet by itself is a run with room for one entry, so that `enter` is called in one
+// place and the compiler puts it in line there: a call for each packet would cost a third more.
 ghost use mathlib.Core.Path.{_≡_};
 ghost use mathlib.Core.Bool.{true};
 ghost use Prim.Native.Nat.{_+_, _^_, _≤_, _<_};
@@ -100,8 +100,8 @@ pub fn run_on(table: &mut [u32], recording: &[u32], from: usize, answers: &mut [
     }
 }
 
-// Plays the packet at a place of a recording on a table that is known to be well made, and gives its entry. The words begin as EMPTY's entry, and the run writes
-// over them where a word is left.
+// Plays the packet at a place of a recording on a table that is known to be well made, and gives its entry. The words begin as EMPTY's entry, and the run
+// writes over them where a word is left.
 pub fn run_one(table: &mut [u32], recording: &[u32], at: usize) -> Entry
     requires { ⌜ wellMade (now table) ≡ true ⌝ }
     ensures { λ r. ⌜ Entered (now (table .entry)) (now (recording .entry)) at r (now (table .exit)) ⌝ }

@@ -14,8 +14,8 @@ ghost use Rattle.record.specs.After.{Inside, refilled, holdRecord};
 // The bits of the held fields, 30 to 10.
 pub const HELD: u32 = 0x7FFF_FC00;
 
-// Where the slot of a field begins among the slots, by the field's bit. The slots stand in field order, bit 30 first, so a slot begins after the words of the held
-// fields of higher bits: bit 30 at 0, bit 29 at 1, down to bit 10 at 73. A bit that is not held has no slot, and its entry, 74 or 0, is not used.
+// Where the slot of a field begins among the slots, by the field's bit. The slots stand in field order, bit 30 first, so a slot begins after the words of
+// the held fields of higher bits: bit 30 at 0, bit 29 at 1, down to bit 10 at 73. A bit that is not held has no slot, and its entry, 74 or 0, is not used.
 pub const SLOTS: [u8; 32] = [
     74,
     74,
