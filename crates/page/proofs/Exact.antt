@@ -16,7 +16,7 @@ use Rattle.words.proofs.Cases.{same-test, both-left, both-right, both-true, sam
 use Rattle.words.proofs.AllLaws.{all-at, all-intro}
 use Rattle.record.specs.Layout.{headWords, recordWords, identifierOf, heldOf}
 use Rattle.record.specs.Good.{recordGood}
-use Rattle.table.specs.Layout.{streamsOf, base, recordAt}
+use Rattle.table.specs.Layout.{streamsOf, layoutWords, recordAt}
 use Rattle.table.specs.Identifiers.{declared, listGood}
 use Rattle.table.specs.Well.{wellMade}
 use Rattle.table.proofs.RecordLaws.{record-identifier}
@@ -55,7 +55,7 @@ module _ (t : List ℕ) (w : wellMade t ≡ true) where
   record-back s h = ap recordOf (body-in (streamsOf t) (savedBody t) s h) ∙ record-body (recordAt s t) (sized s h) (well-record t w s h)
 
   -- a well-made table is got back from its page
-  pub table-back : tableOf (pageOf t) ≡ take (base (streamsOf t)) t
+  pub table-back : tableOf (pageOf t) ≡ take (layoutWords (streamsOf t)) t
   unfolding tableOf pageOf pageFrom
   table-back = table-same (streamsOf t) (savedRecord (pageOf t)) (λ s. recordAt s t) record-back ∙ table-again t (well-whole t w)
 
@@ -109,7 +109,7 @@ module _ (p : List ℕ) (e : pageOk p ≡ true) where
   ok-word s i h k = record-word (pageBodyAt p s) i k (body-some (pageBodyAt p s) (ok-words s h))
 
   -- the layout's length, S and records of the table, whatever follows it
-  pub back-length : length (tableOf p) ≡ base (bodiesIn p)
+  pub back-length : length (tableOf p) ≡ layoutWords (bodiesIn p)
   unfolding tableOf
   back-length = table-length (bodiesIn p) (savedRecord p) ok-sized
 

@@ -10,7 +10,7 @@ use lib.Seq.{drop-cons}
 use Rattle.words.specs.Part.{part}
 use Rattle.words.proofs.PartLaws.{part-is, part-past, part-within, part-whole, part-length, getD-part}
 use Rattle.record.specs.Layout.{recordWords}
-use Rattle.table.specs.Layout.{streamsOf, base, recordAt}
+use Rattle.table.specs.Layout.{streamsOf, base, layoutWords, recordAt}
 use Rattle.page.specs.Pieces.{pieces}
 use Rattle.page.specs.Layout.{pairAt, contentsWords, offsetOf, pairOf, pageFrom, bodiesIn, offsetAt, lengthAt, beginsAt, pageBodyAt, tableFrom}
 use Rattle.page.proofs.PieceLaws.{pieces-none, pieces-same, pieces-next, pieces-length, pieces-inside, pieces-at, pieces-parts, part-join}
@@ -168,7 +168,7 @@ module _
 -- ---- the table of n records
 
 module _ (n : ℕ) (g : ℕ → List ℕ) (sized : (s : ℕ) → s < n → length (g s) ≡ recordWords) where
-  pub table-length : length (tableFrom n g) ≡ base n
+  pub table-length : length (tableFrom n g) ≡ layoutWords n
   unfolding tableFrom
   table-length = omega (arith, pieces-length n recordWords g sized)
 
@@ -190,7 +190,7 @@ unfolding tableFrom
 table-same n f g e = ap (λ (l : List ℕ). n ∷ l) (pieces-same n f g e)
 
 -- a table's layout is that of its records
-pub table-again : (t : List ℕ) → base (streamsOf t) ≤ length t → tableFrom (streamsOf t) (λ s. recordAt s t) ≡ take (base (streamsOf t)) t
+pub table-again : (t : List ℕ) → layoutWords (streamsOf t) ≤ length t → tableFrom (streamsOf t) (λ s. recordAt s t) ≡ take (layoutWords (streamsOf t)) t
 unfolding tableFrom recordAt
 table-again t h =
     let n : ℕ = streamsOf t in
@@ -198,4 +198,4 @@ table-again t h =
     let front : (n ∷ []) ≡ part 0 1 t = sym (part-is 0 1 t ∙ ap (take 1) (drop-cons t 0 0 (omega arith))) in
     ap₂ (λ (x y : List ℕ). x ++ y) front
     (pieces-parts n base (λ s. recordWords) t (λ s g. omega arith) .1 ∙ ap (λ (m : ℕ). part 1 m t) k)
-    ∙ part-join 0 1 (recordWords * n) t ∙ part-is 0 (base n) t
+    ∙ part-join 0 1 (recordWords * n) t ∙ part-is 0 (layoutWords n) t

@@ -1,5 +1,5 @@
 -- Numbered pieces, one after the other. The idea: piece s begins where the pieces before it end, so it is found there (`pieces-at`); and a list cut at places
--- without gaps is its parts joined (`pieces-parts`).
+-- without gaps is its parts, one after the other (`pieces-parts`).
 use mathlib.Core.Path.{_≡_, refl, sym, ap, _∙_}
 use mathlib.Core.Logic.{⊎-elim}
 use mathlib.Core.List.{List, [], _++_}

@@ -147,7 +147,7 @@ pub record Putting (p before after : List ℕ) (n s : ℕ) : Type 0 where
 pub putting-start : (p before : List ℕ) (n : ℕ) → Putting p before before n 0
 putting-start p before n = record { most = omega arith; laid = laid-none before 1 (savedRecord p) }
 
-module _ (p t after : List ℕ) (n s : ℕ) (w : pageOk p ≡ true) (l : base (bodiesIn p) ≤ length t) (q : Putting p (set t 0 n) after n s)
+module _ (p t after : List ℕ) (n s : ℕ) (w : pageOk p ≡ true) (l : layoutWords (bodiesIn p) ≤ length t) (q : Putting p (set t 0 n) after n s)
     (e : n ≡ bodiesIn p) where
   pub putting-kept : length after ≡ length t
   putting-kept = laid-length (q .laid) ∙ simp length-set
@@ -173,11 +173,11 @@ module _ (p t after : List ℕ) (n s : ℕ) (w : pageOk p ≡ true) (l : base (b
         }
 
   -- S and the records are the table
-  pub table-laid : n ≤ s → after ≡ tableOf p ++ drop (base (bodiesIn p)) t
+  pub table-laid : n ≤ s → after ≡ tableOf p ++ drop (layoutWords (bodiesIn p)) t
   unfolding tableOf tableFrom
   table-laid h =
       let i : s ≡ bodiesIn p = omega (arith, q .most) in
-      let k : length (bodiesIn p ∷ pieces (bodiesIn p) (savedRecord p)) ≡ base (bodiesIn p) = back-length p w in
+      let k : length (bodiesIn p ∷ pieces (bodiesIn p) (savedRecord p)) ≡ layoutWords (bodiesIn p) = back-length p w in
       let records : Laid (set t 0 n) 1 (pieces (bodiesIn p) (savedRecord p)) (base (bodiesIn p)) after = rw i at (q .laid) in
       let first : Laid t 0 (bodiesIn p ∷ []) 1 (set t 0 n) = rw e (laid-one t 0 (bodiesIn p)) in
       rw k at (laid-front (then first records) (omega (arith, k)))
@@ -194,14 +194,14 @@ module _ (p t : List ℕ) (k : Bool) (c : k ≡ pageOk p) where
     back-well = sym c ∙ not-false k i
 
     module _ (n m : ℕ) (e : n ≡ bodiesIn p) (f : m ≡ layoutWords n) where
-      pub back-room : m ≤ length t → base (bodiesIn p) ≤ length t
+      pub back-room : m ≤ length t → layoutWords (bodiesIn p) ≤ length t
       back-room h = omega arith
 
       pub back-short : length t < m → Meets measured (putBackOf p t) t (Refused ROOM) t
       unfolding putBackOf
       back-short h = meets-refused (rw (← page-tested p, back-well, ← e, ← f, lt-ltb (length t) m h))
 
-      pub back-made : (after : List ℕ) → m ≤ length t → after ≡ tableOf p ++ drop (base (bodiesIn p)) t
+      pub back-made : (after : List ℕ) → m ≤ length t → after ≡ tableOf p ++ drop (layoutWords (bodiesIn p)) t
           → Meets measured (putBackOf p t) t (Accepted m) after
       unfolding putBackOf
       back-made after h g =

@@ -8,7 +8,7 @@ use native.Mathlib.Omega.{arith}
 use borrow.Author.Tests.{le-ltb}
 use lib.ListN.{length, take, drop}
 use Rattle.words.specs.Outcome.{accepted}
-use Rattle.table.specs.Layout.{streamsOf, base}
+use Rattle.table.specs.Layout.{streamsOf, layoutWords}
 use Rattle.table.specs.Well.{wellMade}
 use Rattle.page.specs.Layout.{pageFrom, pageOf, pageLength, tableOf}
 use Rattle.page.specs.Good.{pageGood}
@@ -24,10 +24,11 @@ unfolding saveOf
 save-accepted t page w h = rw (w, le-ltb sizeLimit (pageLength t) (omega (arith, page-small t w)), le-ltb (length page) (pageLength t) h)
 
 -- put back after save is the same layout, and the words past it are those of the lent table
-pub put-back-saved : (t lent : List ℕ) → wellMade t ≡ true → base (streamsOf t) ≤ length lent
-    → putBackOf (pageOf t) lent ≡ accepted (record { says = base (streamsOf t); leaves = take (base (streamsOf t)) t ++ drop (base (streamsOf t)) lent })
+pub put-back-saved : (t lent : List ℕ) → wellMade t ≡ true → layoutWords (streamsOf t) ≤ length lent
+    → putBackOf (pageOf t) lent ≡ accepted
+    (record { says = layoutWords (streamsOf t); leaves = take (layoutWords (streamsOf t)) t ++ drop (layoutWords (streamsOf t)) lent })
 unfolding putBackOf pageOf pageFrom
-put-back-saved t lent w h = rw (← page-tested _, page-passes t w, le-ltb (length lent) (base (streamsOf t)) h, table-back t w)
+put-back-saved t lent w h = rw (← page-tested _, page-passes t w, le-ltb (length lent) (layoutWords (streamsOf t)) h, table-back t w)
 
 -- save after put back is the same page, whatever follows the layout
 pub saved-put-back : (p rest page : List ℕ) → pageGood p ≡ true → length p ≤ length page

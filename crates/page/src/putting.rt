@@ -5,7 +5,7 @@ ghost use mathlib.Core.List.{_++_};
 ghost use Prim.Native.Nat.{_≤_, _<_};
 ghost use lib.ListN.{length, drop, replicate};
 ghost use Rattle.record.specs.Layout.{recordWords, heldOf};
-ghost use Rattle.table.specs.Layout.{base, Has, withRecord};
+ghost use Rattle.table.specs.Layout.{layoutWords, Has, withRecord};
 ghost use Rattle.page.specs.Body.{pageBodyWords, recordOf};
 ghost use Rattle.page.specs.Layout.{bodiesIn, savedRecord, tableOf};
 ghost use Rattle.page.specs.inner.Tested.{contentsGood, pageOk};
@@ -38,8 +38,8 @@ fn put_record(table: &mut [u32], page: &[u32], s: usize)
 
 // The table of a well-made page: S, and the record of each body. Words past the layout stay.
 pub fn write_table(table: &mut [u32], page: &[u32])
-    requires { ⌜ (pageOk (now page) ≡ true) × (base (bodiesIn (now page)) ≤ length (now table)) ⌝ }
-    ensures { λ _. ⌜ now (table .exit) ≡ tableOf (now (page .entry)) ++ drop (base (bodiesIn (now (page .entry)))) (now (table .entry)) ⌝ }
+    requires { ⌜ (pageOk (now page) ≡ true) × (layoutWords (bodiesIn (now page)) ≤ length (now table)) ⌝ }
+    ensures { λ _. ⌜ now (table .exit) ≡ tableOf (now (page .entry)) ++ drop (layoutWords (bodiesIn (now (page .entry)))) (now (table .entry)) ⌝ }
 {
     let n = words::inner::word_at(page, 0);
     table[0] = n;

@@ -9,4 +9,4 @@ well-made-spec =
     tie.close
     (tie.spec
     (λ c κs. search needs) (λ c κs. search needs) (λ c. search well-short) (λ c κs. search needs) (λ c. search well-unlisted)
-    (λ c κs. search (listed-few, layout-there)) (λ c. search well-all))
+    (λ c κs. search (needs, listed-few, layout-there)) (λ c. search well-all))

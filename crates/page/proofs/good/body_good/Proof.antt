@@ -10,12 +10,13 @@ use Rattle.page.proofs.good.body_good.Statement.{statement}
 use Rattle.page.proofs.good.body_good.Tie as tie
 
 -- the body has its first words
-some : (c : tie.Start) → headWords ≤ length (c .args .body .now)
-some c = search body-some
+first-words : (c : tie.Start) → headWords ≤ length (c .args .body .now)
+first-words c = search body-some
 
 pub body-good-spec : {M : Type 1} → statement M
 body-good-spec =
     tie.close
     (tie.spec
-    (λ c κs. search body-some) (λ c. search body-ill) (λ c. omega (arith, some (search))) (λ c. search needs) (λ c. search needs)
-    (λ c. omega (arith, some (search))) (λ c. omega (arith, some (search))) (λ c. search needs) (λ c κs. search body-held) (λ c. search body-rules))
+    (λ c κs. search body-some) (λ c. search body-ill) (λ c. omega (arith, first-words (search))) (λ c. search needs) (λ c. search needs)
+    (λ c. omega (arith, first-words (search))) (λ c. omega (arith, first-words (search))) (λ c. search needs) (λ c κs. search body-held)
+    (λ c. search body-rules))
