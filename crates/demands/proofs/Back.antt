@@ -3,13 +3,13 @@
 use mathlib.Core.Path.{_≡_, refl, sym, ap, _∙_}
 use mathlib.Core.Bool.{Bool, true, false}
 use mathlib.Core.List.{List, [], _∷_, _++_, append-assoc}
-use Prim.Native.Nat.{ℕ, zero, suc, _+_, _-_, _/_, _%_, _^_, _≤_, _<_, zero-le}
+use Prim.Native.Nat.{ℕ, _+_, _-_, _/_, _%_, _^_, _≤_, _<_}
 use native.Mathlib.Omega.{arith}
 use borrow.Author.Tests.{ltb-true, le-ltb}
 use lib.Dec.{eqb, ltb}
 use lib.ListN.{length, getD, take, drop, length-append}
 use lib.Seq.{getD-at, drop-at, take-at, length-take-le}
-use Rattle.words.specs.Tests.{when, both}
+use Rattle.words.specs.Tests.{when}
 use Rattle.words.specs.Word.{bits, highFirst, join}
 use Rattle.words.specs.Part.{part}
 use Rattle.words.specs.Outcome.{accepted, Done}
@@ -17,9 +17,11 @@ use Rattle.words.proofs.Cases.{both-left, both-right, both-no, accepted-same}
 use Rattle.words.proofs.RefusalLaws.{first-passed, none-given}
 use Rattle.packet.specs.declared.Parts.{Parts}
 use Rattle.packet.specs.Header.{classed, trailed, sizeOf}
-use Rattle.packet.specs.Parts.{streamed, hasSeconds, hasFraction, classAt, secondsAt, fractionAt, bodyAt, requiredOf, bodyLength, wordIf, classHigh, classLow, fractionOf, partsOf, bodyOf, packetOf}
+use Rattle.packet.specs.Parts.{streamed, hasSeconds, hasFraction, classAt, secondsAt, fractionAt, bodyAt, requiredOf, bodyLength, wordIf, classHigh, classLow}
+use Rattle.packet.specs.Parts.{fractionOf, partsOf, bodyOf, packetOf}
 use Rattle.packet.specs.Read.{headerChecks, sizeChecks, timeOver, prologueChecks, readOf}
-use Rattle.writing.specs.Write.{headerWord, sizeFor, given, classWord, headWords, classWords, timeWords, prologueWords, trailerWords, packetWords, plainParts, classFits, writeList, writeChecks, writeOf}
+use Rattle.writing.specs.Write.{headerWord, sizeFor, given, classWord, headWords, classWords, timeWords, prologueWords, trailerWords, packetWords, plainParts}
+use Rattle.writing.specs.Write.{classFits, writeList, writeChecks, writeOf}
 use Rattle.writing.proofs.FitLaws.{Fits, parts-fit, Writable, writable}
 use Rattle.packet.proofs.RoomLaws.{body-past}
 use Rattle.packet.proofs.ReadLaws.{Passed, accepts-read}
@@ -43,7 +45,8 @@ found-two ws before rest true x y n e l = (
 found-two ws before rest false x y n e l = (refl, refl)
 
 -- the trailer, the last word of the size
-found-last : (ws before rest : List ℕ) (t : Bool) (x size : ℕ) → ws ≡ before ++ (given t (x ∷ []) ++ rest) → length before + when t 1 ≡ size → wordIf t (size - 1) ws ≡ when t x
+found-last : (ws before rest : List ℕ) (t : Bool) (x size : ℕ) → ws ≡ before ++ (given t (x ∷ []) ++ rest) → length before + when t 1 ≡ size
+    → wordIf t (size - 1) ws ≡ when t x
 unfolding wordIf
 found-last ws before rest true x size e l = found-one ws before rest true x (size - 1) e (omega arith)
 found-last ws before rest false x size e l = refl
@@ -106,7 +109,8 @@ module _ (p : Parts) (body more : List ℕ) (room at : ℕ) (may : Writable p bo
   class-words-back : (classHigh W Ws ≡ when (classed W) (p .oui)) × (classLow W Ws ≡ when (classed W) (classWord (p .information) (p .packet)))
   unfolding classHigh classLow packetWords prologueWords classWords
   class-words-back =
-      found-two Ws (headWords W p) (timeWords W p ++ (body ++ (trailerWords W p ++ more))) (classed W) (p .oui) (classWord (p .information) (p .packet)) (classAt W) (simp append-assoc) head-at
+      found-two Ws (headWords W p) (timeWords W p ++ (body ++ (trailerWords W p ++ more))) (classed W) (p .oui) (classWord (p .information) (p .packet))
+      (classAt W) (simp append-assoc) head-at
 
   class-at : length (headWords W p ++ classWords W p) ≡ secondsAt W
   unfolding secondsAt
@@ -115,12 +119,15 @@ module _ (p : Parts) (body more : List ℕ) (room at : ℕ) (may : Writable p bo
   seconds-back : wordIf (hasSeconds W) (secondsAt W) Ws ≡ when (hasSeconds W) (p .seconds)
   unfolding packetWords prologueWords timeWords
   seconds-back =
-      found-one Ws (headWords W p ++ classWords W p) (given (hasFraction W) (p .fraction / 2 ^ 32 ∷ p .fraction % 2 ^ 32 ∷ []) ++ (body ++ (trailerWords W p ++ more)))
+      found-one Ws (headWords W p ++ classWords W p)
+      (given (hasFraction W) (p .fraction / 2 ^ 32 ∷ p .fraction % 2 ^ 32 ∷ []) ++ (body ++ (trailerWords W p ++ more)))
       (hasSeconds W) (p .seconds) (secondsAt W) (simp append-assoc) class-at
 
   seconds-at : length (headWords W p ++ classWords W p ++ given (hasSeconds W) (p .seconds ∷ [])) ≡ fractionAt W
   unfolding fractionAt
-  seconds-at = length-append (headWords W p ++ classWords W p) (given (hasSeconds W) (p .seconds ∷ [])) ∙ omega (arith, class-at, length-given (hasSeconds W) (p .seconds ∷ []))
+  seconds-at =
+      length-append (headWords W p ++ classWords W p) (given (hasSeconds W) (p .seconds ∷ []))
+      ∙ omega (arith, class-at, length-given (hasSeconds W) (p .seconds ∷ []))
 
   fraction-words-back : (wordIf (hasFraction W) (fractionAt W) Ws ≡ when (hasFraction W) (p .fraction / 2 ^ 32))
       × (wordIf (hasFraction W) (fractionAt W + 1) Ws ≡ when (hasFraction W) (p .fraction % 2 ^ 32))
@@ -151,7 +158,9 @@ module _ (p : Parts) (body more : List ℕ) (room at : ℕ) (may : Writable p bo
       let c = class-back (classed W) (p .oui) (p .information) (p .packet) class-fits in
       let k = may .kind in
       let z = may .small in
-      rw (identifier-back, class-words-back .0, class-words-back .1, c .1, c .2, c .3, seconds-back, fraction-is, trailer-back, type-is p size k fits z, trailed-is p size k fits z, tsm-is p size k fits z, tsi-is p size k fits z, tsf-is p size k fits z, count-is p size k fits z, classed-is p size k fits z)
+      rw (identifier-back, class-words-back .0, class-words-back .1, c .1, c .2, c .3, seconds-back, fraction-is, trailer-back)
+      (rw (type-is p size k fits z, trailed-is p size k fits z, tsm-is p size k fits z, tsi-is p size k fits z)
+      (rw (tsf-is p size k fits z, count-is p size k fits z, classed-is p size k fits z)))
 
   length-back : bodyLength W ≡ length body
   unfolding bodyLength

@@ -41,7 +41,10 @@ same-word : (i : ℕ) (r q : List ℕ) → i + 1 ≤ length r → i + 1 ≤ leng
 same-word i r q h g e =
     let l = part-length i 1 r h in
     ext-getD 0 (part i 1 r) (part i 1 q) (l ∙ sym (part-length i 1 q g))
-    (λ j k. let o : i + j ≡ i = omega arith in let n : j < 1 = omega arith in getD-part i 1 j r n ∙ ap (λ (x : ℕ). getD r x 0) o ∙ e ∙ ap (λ (x : ℕ). getD q x 0) (sym o) ∙ sym (getD-part i 1 j q n))
+    (λ j k.
+    let o : i + j ≡ i = omega arith in
+    let n : j < 1 = omega arith in
+    getD-part i 1 j r n ∙ rw o e ∙ sym (getD-part i 1 j q n))
 
 -- ---- what is held or not
 
@@ -105,7 +108,8 @@ module _ (r q : List ℕ) (lr : length r ≡ recordWords) (lq : length q ≡ rec
 -- two right tables have the same records, where the rules say the same of the streams
 pub records-same : (ids : List ℕ) (ps qs : List (List ℕ)) (t u : List ℕ) (p : Right ids ps t) (q : Right ids qs u) (s : ℕ) (h : s < length ids)
     → ((b : ℕ) → heldIn b (recordAt s t) ≡ heldIn b (recordAt s u))
-    → ((kind : ℕ) → among kind countedTypes ≡ true → countOf (orderOf kind) (recordAt s t) ≡ countOf (orderOf kind) (recordAt s u)) → recordAt s t ≡ recordAt s u
+    → ((kind : ℕ) → among kind countedTypes ≡ true → countOf (orderOf kind) (recordAt s t) ≡ countOf (orderOf kind) (recordAt s u))
+    → recordAt s t ≡ recordAt s u
 records-same ids ps qs t u p q s h held counts =
     record-by (recordAt s t) (recordAt s u) (record-whole ids t (right-listed p) s h) (record-whole ids u (right-listed q) s h)
     (well-record t (p .made) s (rw (p .streams) h)) (well-record u (q .made) s (rw (q .streams) h)) held
@@ -118,5 +122,8 @@ pub determined : Determined
 determined ids packets t u p q =
     sym (layout-is p)
     ∙ table-same (length ids) (λ s. recordAt s t) (λ s. recordAt s u)
-    (λ s h. records-same ids packets packets t u p q s h (λ b. p .held s h b ∙ sym (q .held s h b)) (λ kind o. p .counts s h kind o ∙ sym (q .counts s h kind o)))
+    (λ s h.
+    records-same ids packets packets t u p q s h
+    (λ b. p .held s h b ∙ sym (q .held s h b))
+    (λ kind o. p .counts s h kind o ∙ sym (q .counts s h kind o)))
     ∙ layout-is q

@@ -24,7 +24,8 @@ use Rattle.table.proofs.StartLaws.{fresh-record, start-well-made}
 use Rattle.play.specs.declared.Heard.{Heard}
 use Rattle.play.specs.Play.{playOf}
 use Rattle.play.proofs.KeepLaws.{play-keeps}
-use Rattle.demands.specs.Trace.{Arrival, Trace, heardBy, traceOf, own, valueCarried, orElse, lastCarried, countedTypes, countsOf, countRule, answerTo, answersAfter}
+use Rattle.demands.specs.Trace.{Arrival, Trace, heardBy, traceOf, own, valueCarried, orElse, lastCarried}
+use Rattle.demands.specs.Trace.{countedTypes, countsOf, countRule, answerTo, answersAfter}
 use Rattle.demands.specs.Demands.{ours, heldIn, Right, pastOf, playAll, saidAll}
 use Rattle.demands.proofs.RuleLaws.{own-append, last-more, counts-append, added-by-last, rule-more}
 use Rattle.demands.proofs.HearingLaws.{Fine, heard-fine, Listed, recordOn, doneOn, play-is, listed-on, record-whole, record-own, record-other}
@@ -37,14 +38,16 @@ unfolding startOf
 start-leaves ids t d e =
     ap (λ (x : Done ℕ (List ℕ)). x .leaves) (sym (accepted-same (first-passed (startList ids t) _ d e .1)))
 
-pub start-accepts : (ids t : List ℕ) → listGood (length ids) (listed ids) ≡ true → base (length ids) ≤ length t → (d : Done ℕ (List ℕ)) × (startOf ids t ≡ accepted d)
+pub start-accepts : (ids t : List ℕ) → listGood (length ids) (listed ids) ≡ true → base (length ids) ≤ length t
+    → (d : Done ℕ (List ℕ)) × (startOf ids t ≡ accepted d)
 unfolding startOf
 start-accepts ids t g h = (record { says = base (length ids); leaves = freshTable ids t }, rw (g, le-ltb (length t) (base (length ids)) h))
 
 pub right-start : (ids t : List ℕ) (d : Done ℕ (List ℕ)) → startOf ids t ≡ accepted d → Right ids [] (d .leaves)
 right-start ids t d e =
     let k = start-well-made ids t d e in
-    let fresh : (s : ℕ) → s < length ids → recordAt s (d .leaves) ≡ freshRecord (getD ids s 0) = λ s h. ap (recordAt s) (start-leaves ids t d e) ∙ fresh-record ids t s h in
+    let fresh : (s : ℕ) → s < length ids → recordAt s (d .leaves) ≡ freshRecord (getD ids s 0) =
+    λ s h. ap (recordAt s) (start-leaves ids t d e) ∙ fresh-record ids t s h in
     record {
       made = k .well;
       streams = k .streams;
@@ -111,14 +114,17 @@ module _ (ids : List ℕ) (before : List (List ℕ)) (t : List ℕ) (r : Right i
   pub right-more : (ws : List ℕ) → Right ids (before ++ (ws ∷ [])) (leftOf (playOf t ws) t)
   right-more ws =
       let l = listed-on ids t listing ws in
-      let same : leftOf (playOf t ws) t ≡ leftOf (onward (heardBy ids ws) (doneOn t)) t = ap (λ (o : Outcome (Done Heard (List ℕ))). leftOf o t) (play-is ids t listing ws) in
+      let same : leftOf (playOf t ws) t ≡ leftOf (onward (heardBy ids ws) (doneOn t)) t =
+      ap (λ (o : Outcome (Done Heard (List ℕ))). leftOf o t) (play-is ids t listing ws) in
       let grown : (s : ℕ) → own s (traceOf ids (before ++ (ws ∷ []))) ≡ own s (traceOf ids before) ++ own s (heardBy ids ws ∷ []) =
       λ s. ap (own s) (trace-append ids before (ws ∷ [])) ∙ own-append s (traceOf ids before) (heardBy ids ws ∷ []) in
       record {
         made = l .made;
         streams = l .streams;
         list = l .list;
-        held = λ s h b. ap (λ (u : List ℕ). heldIn b (recordAt s u)) same ∙ ruled-heard (heardBy ids ws) (heard-fine ids ws) s h .held b ∙ ap (lastCarried b) (sym (grown s));
+        held =
+            λ s h b. ap (λ (u : List ℕ). heldIn b (recordAt s u)) same ∙ ruled-heard (heardBy ids ws) (heard-fine ids ws) s h .held b
+            ∙ ap (lastCarried b) (sym (grown s));
         counts = λ s h kind o.
             ap (λ (u : List ℕ). countOf (orderOf kind) (recordAt s u)) same ∙ ruled-heard (heardBy ids ws) (heard-fine ids ws) s h .counts kind o
             ∙ ap (λ (l : List Arrival). countRule (countsOf kind l)) (sym (grown s));
@@ -130,7 +136,8 @@ module _ (ids : List ℕ) (before : List (List ℕ)) (t : List ℕ) (r : Right i
   answer-heard (refused n) f = refl
   answer-heard (accepted a) f =
       let g = f a refl in
-      let added : addedBy (a .kind) (a .count) (recordAt (a .stream) t) ≡ addedOf (lastOf (countRule (countsOf (a .kind) (own (a .stream) (traceOf ids before))))) (a .count) =
+      let counts = countRule (countsOf (a .kind) (own (a .stream) (traceOf ids before))) in
+      let added : addedBy (a .kind) (a .count) (recordAt (a .stream) t) ≡ addedOf (lastOf counts) (a .count) =
       ap (λ (ws : List ℕ). addedOf (lastOf ws) (a .count)) (r .counts (a .stream) (g .stream) (a .kind) (g .kind)) in
       rw (added, added-by-last (countsOf (a .kind) (own (a .stream) (traceOf ids before))) (a .count))
 
@@ -144,7 +151,8 @@ right-on ids before [] t r = rw (append-nil before) r
 right-on ids before (ws ∷ packets) t r =
     rw (← append-assoc before (ws ∷ []) packets) (right-on ids (before ++ (ws ∷ [])) packets (leftOf (playOf t ws) t) (right-more ids before t r ws))
 
-pub answers-on : (ids : List ℕ) (before packets : List (List ℕ)) (t : List ℕ) → Right ids before t → saidAll ours t packets ≡ answersAfter (traceOf ids before) (traceOf ids packets)
+pub answers-on : (ids : List ℕ) (before packets : List (List ℕ)) (t : List ℕ) → Right ids before t
+    → saidAll ours t packets ≡ answersAfter (traceOf ids before) (traceOf ids packets)
 answers-on ids before [] t r = refl
 answers-on ids before (ws ∷ packets) t r =
     let rest = answers-on ids (before ++ (ws ∷ [])) packets (leftOf (playOf t ws) t) (right-more ids before t r ws) in

@@ -1,5 +1,5 @@
--- The rules of a trace, when a packet more is heard. The idea: each rule of `before ++ (a ∷ [])` is that of `before`, taken one packet on; the last-carried rule asks
--- the new packet first, and a count goes on as `countedOf` says.
+-- The rules of a trace, when a packet more is heard. The idea: each rule of `before ++ (a ∷ [])` is that of `before`, taken one packet on; the last-carried
+-- rule asks the new packet first, and a count goes on as `countedOf` says.
 use mathlib.Core.Path.{_≡_, refl, sym, ap, _∙_}
 use mathlib.Core.Bool.{Bool, true, false}
 use mathlib.Core.List.{List, [], _∷_, _++_}
@@ -14,7 +14,8 @@ use Rattle.words.specs.Tests.{pick}
 use Rattle.words.specs.Outcome.{refused, accepted}
 use Rattle.record.specs.Counts.{missedOf, addedOf, countedOf}
 use Rattle.fields.specs.Layout.{fieldOf}
-use Rattle.demands.specs.Trace.{Arrival, Trace, own, carries, valueCarried, orElse, lastCarried, NoneCarried, LastCarried, countsOf, lastCount, missedAfter, missed, lastPlusOne, countRule, addedAfter}
+use Rattle.demands.specs.Trace.{Arrival, Trace, own, carries, valueCarried, orElse, lastCarried, NoneCarried, LastCarried, countsOf, lastCount}
+use Rattle.demands.specs.Trace.{missedAfter, missed, lastPlusOne, countRule, addedAfter}
 use Rattle.demands.specs.Demands.{LastMeant}
 
 -- ---- a stream's own packets
@@ -67,7 +68,16 @@ from-silent b [] h = refl
 from-silent b (a ∷ later) h = rw (from-silent b later (h .1), h .0)
 
 further : (b : ℕ) (a : Arrival) (packets : List Arrival) (v : List ℕ) → LastCarried b packets v → LastCarried b (a ∷ packets) v
-further b a packets v x = record { before = a ∷ x .before; last = x .last; later = x .later; cut = ap (λ (l : List Arrival). a ∷ l) (x .cut); does = x .does; value = x .value; silent = x .silent }
+further b a packets v x =
+    record {
+      before = a ∷ x .before;
+      last = x .last;
+      later = x .later;
+      cut = ap (λ (l : List Arrival). a ∷ l) (x .cut);
+      does = x .does;
+      value = x .value;
+      silent = x .silent;
+    }
 
 found : (b : ℕ) (a : Arrival) (later : List Arrival) (v : List ℕ) (o : Option (List ℕ)) → lastCarried b later ≡ o
     → ((w : List ℕ) → lastCarried b later ≡ some w → LastCarried b later w) → orElse o (valueCarried b a) ≡ some v → LastCarried b (a ∷ later) v
@@ -80,7 +90,8 @@ last-found : (b : ℕ) (packets : List Arrival) (v : List ℕ) → lastCarried b
 last-found b [] v e = absurd (Option·none-ne-some v e)
 last-found b (a ∷ later) v e = found b a later v (lastCarried b later) refl (last-found b later) e
 
-found-last : (b : ℕ) (before later : List Arrival) (a : Arrival) → carries b a ≡ true → NoneCarried b later → lastCarried b (before ++ (a ∷ later)) ≡ some (fieldOf b (a .body))
+found-last : (b : ℕ) (before later : List Arrival) (a : Arrival) → carries b a ≡ true → NoneCarried b later
+    → lastCarried b (before ++ (a ∷ later)) ≡ some (fieldOf b (a .body))
 found-last b [] later a d n = rw (from-silent b later n, d)
 found-last b (x ∷ before) later a d n = rw (found-last b before later a d n)
 
@@ -128,7 +139,8 @@ added-by-last (c ∷ cs) d =
 pub rule-more : (cs : List ℕ) (d : ℕ) → countRule (cs ++ (d ∷ [])) ≡ countedOf d (countRule cs)
 unfolding countedOf
 rule-more cs d =
-    let seen : length (cs ++ (d ∷ [])) % 2 ^ 32 ≡ (length cs % 2 ^ 32 + 1) % 2 ^ 32 = ap (λ (n : ℕ). n % 2 ^ 32) (length-append cs (d ∷ [])) ∙ sym (mod-add-mod (length cs) (2 ^ 32) 1) in
+    let seen : length (cs ++ (d ∷ [])) % 2 ^ 32 ≡ (length cs % 2 ^ 32 + 1) % 2 ^ 32 =
+    ap (λ (n : ℕ). n % 2 ^ 32) (length-append cs (d ∷ [])) ∙ sym (mod-add-mod (length cs) (2 ^ 32) 1) in
     let missing : missed (cs ++ (d ∷ [])) % 2 ^ 32 ≡ (missed cs % 2 ^ 32 + addedOf (lastPlusOne cs) d) % 2 ^ 32 =
     ap (λ (n : ℕ). n % 2 ^ 32) (missed-more cs d ∙ ap (λ (n : ℕ). missed cs + n) (sym (added-by-last cs d)))
     ∙ sym (mod-add-mod (missed cs) (2 ^ 32) (addedOf (lastPlusOne cs) d)) in

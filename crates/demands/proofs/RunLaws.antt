@@ -1,5 +1,5 @@
--- A run plays a recording's packets. The idea: a walk goes on exactly where the trace does (`on-same`), since what play says is what the rules say; so the walk's
--- table and entries are those of playing its packets one by one (`walked`).
+-- A run plays a recording's packets. The idea: a walk goes on exactly where the trace does (`on-same`), since what play says is what the rules say; so the
+-- walk's table and entries are those of playing its packets one by one (`walked`).
 use mathlib.Core.Path.{_≡_, refl, sym, ap, _∙_}
 use mathlib.Core.Bool.{true, false}
 use mathlib.Core.Logic.{⊎-elim}
@@ -34,7 +34,8 @@ walked ids zero ws at before t r = (refl, refl)
 walked ids (suc n) ws at before t r =
     let next : ℕ = at + sizeOf (getD ws at 0) in
     let left : List ℕ = leftOf (playOf t (drop at ws)) t in
-    let first : sizeOf (getD ws at 0) ≡ sizeOf (getD (drop at ws) 0 0) = ap sizeOf (ap (λ (i : ℕ). getD ws i 0) (sym (add-zero at)) ∙ sym (getD-drop at ws 0 0)) in
+    let first : sizeOf (getD ws at 0) ≡ sizeOf (getD (drop at ws) 0 0) =
+    ap sizeOf (ap (λ (i : ℕ). getD ws i 0) (sym (add-zero at)) ∙ sym (getD-drop at ws 0 0)) in
     let entry : entryOf (saidOf (playOf t (drop at ws))) (sizeOf (getD ws at 0)) ≡ entryOf (saidOf (playOf t (drop at ws))) (sizeOf (getD (drop at ws) 0 0)) =
     ap (entryOf (saidOf (playOf t (drop at ws)))) first in
     let same = on-same ids before t r (drop at ws) in
@@ -44,7 +45,7 @@ walked ids (suc n) ws at before t r =
     (λ (e : goesPast (heardBy ids (drop at ws)) ≡ true).
     let ih = walked ids n ws next (before ++ (drop at ws ∷ [])) left (right-more ids before t r (drop at ws)) in
     rw (lt-leb (length ws) at h, same, e)
-    (ih .0, ap (λ (l : List ℕ). l ++ walkOf n ws next left .entries) entry ∙ ap (λ (l : List ℕ). entryOf (saidOf (playOf t (drop at ws))) (sizeOf (getD (drop at ws) 0 0)) ++ l) (ih .1)))
+    (ih .0, rw entry (ap (λ (l : List ℕ). entryOf (saidOf (playOf t (drop at ws))) (sizeOf (getD (drop at ws) 0 0)) ++ l) (ih .1))))
     (λ (e : goesPast (heardBy ids (drop at ws)) ≡ false). rw (lt-leb (length ws) at h, same, e) (refl, ap (λ (l : List ℕ). l ++ []) entry))
     (true-or-false (goesPast (heardBy ids (drop at ws)))))
     (le-or-lt (length ws) at)
@@ -59,5 +60,7 @@ runs ids before t r ws from out =
       done = record { says = reachedOf w; leaves = (w .table, answersOf w out) };
       accepts = rw (r .made);
       right = rw (k .0) (right-on ids before (packetsFrom ids n ws from) t r);
-      entries = ap (λ (es : List ℕ). es ++ drop (length es) out) (k .1 ∙ ap (entriesOf (packetsFrom ids n ws from)) (answers-on ids before (packetsFrom ids n ws from) t r));
+      entries =
+          ap (λ (es : List ℕ). es ++ drop (length es) out)
+          (k .1 ∙ ap (entriesOf (packetsFrom ids n ws from)) (answers-on ids before (packetsFrom ids n ws from) t r));
     }

@@ -13,11 +13,12 @@ use Rattle.words.specs.All.{all, firstOf}
 use Rattle.words.specs.Outcome.{Outcome, refused, accepted, Done, saidOf, leftOf}
 use Rattle.fields.specs.Sizes.{sizeOf, wordsOf}
 use Rattle.fields.specs.Rules.{ruleOf}
-use Rattle.fields.specs.Layout.{spanOf, obeyed, bodyWords, placeOf, fieldOf, lowBitsSet, otherLength, ruleBroken, contextOf}
+use Rattle.fields.specs.Layout.{spanOf, obeyed, bodyWords, placeOf, fieldOf, lowBitsSet, otherLength, ruleBroken}
 use Rattle.packet.specs.declared.Packet.{Packet}
 use Rattle.packet.specs.Header.{trailed, tsmOf, reservedOf}
-use Rattle.packet.specs.Parts.{streamed, hasSeconds, hasFraction, classAt, secondsAt, fractionAt, bodyAt, requiredOf, bodyLength, wordIf, classHigh, classLow, fractionOf, partsOf, bodyOf, packetOf}
-use Rattle.packet.specs.Read.{headerChecks, sizeChecks, timeOver, prologueChecks, bodyChecks, readOf}
+use Rattle.packet.specs.Parts.{streamed, hasSeconds, hasFraction, classAt, secondsAt, fractionAt, bodyAt, requiredOf, bodyLength, wordIf, classHigh, classLow}
+use Rattle.packet.specs.Parts.{fractionOf, partsOf, bodyOf, packetOf}
+use Rattle.packet.specs.Read.{timeOver, readOf}
 use Rattle.record.specs.Layout.{orderOf, countOf, seenOf}
 use Rattle.record.specs.Counts.{missedOf}
 use Rattle.table.specs.Layout.{recordAt}
@@ -58,7 +59,9 @@ record Computed : Type 0 where
   field-second : fieldOf 30 (0x40000000 ∷ 2 ∷ []) ≡ 2 ∷ []
 
 computed : Computed
-unfolding heardBy arrivalOf placeIn firstOf trailed tsmOf reservedOf streamed hasSeconds hasFraction classAt secondsAt fractionAt bodyAt requiredOf bodyLength wordIf classHigh classLow fractionOf partsOf bodyOf packetOf part headerChecks sizeChecks timeOver prologueChecks bodyChecks readOf contextOf lowBitsSet otherLength ruleBroken bodyWords spanOf obeyed ruleOf wordsOf sizeOf bitsOf above placeOf fieldOf
+unfolding heardBy arrivalOf placeIn firstOf trailed tsmOf reservedOf streamed hasSeconds hasFraction classAt secondsAt fractionAt bodyAt requiredOf bodyLength
+    wordIf classHigh classLow fractionOf partsOf bodyOf packetOf part timeOver readOf lowBitsSet otherLength ruleBroken bodyWords spanOf obeyed ruleOf wordsOf
+    sizeOf bitsOf above placeOf fieldOf
 computed = record {
   read3 = (_, refl, refl);
   read4 = (_, refl, refl);
@@ -81,8 +84,10 @@ no-constant-refusal P n same d =
 -- a constant answer: the same for every packet that is legal
 pub no-constant-answer : (P : Program) (p : Packet) → ((ws : List ℕ) (q : Packet) → readOf ws ≡ accepted q → P .read ws ≡ accepted p) → Demand2 P → ⊥
 no-constant-answer P p same d =
-    let three : p .size ≡ 3 = ap sizeRead (sym (same data3 (computed .read3 .0) (computed .read3 .1)) ∙ d .reads data3 ∙ computed .read3 .1) ∙ computed .read3 .2 in
-    let four : p .size ≡ 4 = ap sizeRead (sym (same data4 (computed .read4 .0) (computed .read4 .1)) ∙ d .reads data4 ∙ computed .read4 .1) ∙ computed .read4 .2 in
+    let three : p .size ≡ 3 =
+    ap sizeRead (sym (same data3 (computed .read3 .0) (computed .read3 .1)) ∙ d .reads data3 ∙ computed .read3 .1) ∙ computed .read3 .2 in
+    let four : p .size ≡ 4 =
+    ap sizeRead (sym (same data4 (computed .read4 .0) (computed .read4 .1)) ∙ d .reads data4 ∙ computed .read4 .1) ∙ computed .read4 .2 in
     omega (arith, three, four)
 
 -- ---- demand 3
@@ -111,7 +116,8 @@ module _ (P : Program) (d : Demand3 P) where
   abbrev fresh : List ℕ
   fresh = begun .0 .leaves
 
-  seen-after : (packets : List (List ℕ)) → countOf (orderOf 1) (recordAt 0 (playAll P (begun .0 .leaves) packets)) ≡ countRule (countsOf 1 (own 0 (traceOf ids packets)))
+  seen-after : (packets : List (List ℕ))
+      → countOf (orderOf 1) (recordAt 0 (playAll P (begun .0 .leaves) packets)) ≡ countRule (countsOf 1 (own 0 (traceOf ids packets)))
   seen-after packets = d .right ids buffer (begun .0) (begun .1) packets .counts 0 (omega arith) 1 refl
 
   held-after : (packets : List (List ℕ)) → heldIn 30 (recordAt 0 (playAll P (begun .0 .leaves) packets)) ≡ lastCarried 30 (own 0 (traceOf ids packets))
@@ -121,14 +127,16 @@ module _ (P : Program) (d : Demand3 P) where
   pub no-idle-play : ((t ws : List ℕ) → leftOf (P .play t ws) t ≡ t) → ⊥
   no-idle-play idle =
       let none-seen : seenOf (countOf (orderOf 1) (recordAt 0 fresh)) ≡ 0 = ap seenOf (seen-after []) in
-      let one : seenOf (countOf (orderOf 1) (recordAt 0 (leftOf (P .play fresh data3) fresh))) ≡ 1 = ap seenOf (seen-after (data3 ∷ [])) ∙ rw (computed .heard3) in
+      let one : seenOf (countOf (orderOf 1) (recordAt 0 (leftOf (P .play fresh data3) fresh))) ≡ 1 =
+      ap seenOf (seen-after (data3 ∷ [])) ∙ rw (computed .heard3) in
       omega (arith, none-seen, sym (ap (λ (t : List ℕ). seenOf (countOf (orderOf 1) (recordAt 0 t))) (idle fresh data3)) ∙ one)
 
   -- one that plays the first packet and feigns the rest, so that no later packet changes what is held: shut out by the last-carried rule
   pub no-feigned-rest : ((list t : List ℕ) (e : Done ℕ (List ℕ)) → P .start list t ≡ accepted e → (ws : List ℕ) (rest : List (List ℕ)) (s b : ℕ)
       → heldIn b (recordAt s (playAll P (e .leaves) (ws ∷ rest))) ≡ heldIn b (recordAt s (playAll P (e .leaves) (ws ∷ [])))) → ⊥
   no-feigned-rest feigned =
-      let one : valueIn (heldIn 30 (recordAt 0 (playAll P fresh (first ∷ [])))) ≡ 1 = ap valueIn (held-after (first ∷ [])) ∙ rw (computed .heard-first, computed .field-first) in
+      let one : valueIn (heldIn 30 (recordAt 0 (playAll P fresh (first ∷ [])))) ≡ 1 =
+      ap valueIn (held-after (first ∷ [])) ∙ rw (computed .heard-first, computed .field-first) in
       let two : valueIn (heldIn 30 (recordAt 0 (playAll P fresh (first ∷ second ∷ [])))) ≡ 2 =
       ap valueIn (held-after (first ∷ second ∷ [])) ∙ rw (computed .heard-first, computed .heard-second, computed .field-second) in
       let same = ap valueIn (feigned ids buffer (begun .0) (begun .1) first (second ∷ []) 0 30) in
@@ -141,5 +149,6 @@ module _ (P : Program) (d : Demand3 P) where
       let both : saidAll P fresh (data3 ∷ data3 ∷ []) ≡ accepted (heard 0) ∷ accepted (heard 15) ∷ [] =
       d .answers ids buffer (begun .0) (begun .1) (data3 ∷ data3 ∷ []) ∙ rw (computed .heard3) in
       let none-missing : 0 ≡ number data3 = invented fresh data3 (heard 0) (ap (λ (l : List (Outcome Heard)). getD l 0 (refused 0)) both) in
-      let some-missing : 15 ≡ number data3 = invented (leftOf (P .play fresh data3) fresh) data3 (heard 15) (ap (λ (l : List (Outcome Heard)). getD l 1 (refused 0)) both) in
+      let some-missing : 15 ≡ number data3 =
+      invented (leftOf (P .play fresh data3) fresh) data3 (heard 15) (ap (λ (l : List (Outcome Heard)). getD l 1 (refused 0)) both) in
       omega (arith, none-missing, some-missing)

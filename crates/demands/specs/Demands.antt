@@ -31,7 +31,8 @@ use Rattle.page.specs.PutBack.{putBackOf}
 use Rattle.demands.specs.Calls.{OneOutcome, RefusalLeaves, Each, calls}
 use Rattle.demands.specs.Refusals.{InOrder}
 use Rattle.demands.specs.Clean.{Clean}
-use Rattle.demands.specs.Trace.{Arrival, heardBy, traceOf, isOwn, own, lastCarried, NoneCarried, LastCarried, countedTypes, countsOf, countRule, answersAfter}
+use Rattle.demands.specs.Trace.{Arrival, heardBy, traceOf, isOwn, own, lastCarried, NoneCarried, LastCarried}
+use Rattle.demands.specs.Trace.{countedTypes, countsOf, countRule, answersAfter}
 
 -- ---- a program
 
@@ -75,7 +76,8 @@ pub record Demand2 (P : Program) : Type 0 where
   -- the layouts of document 01
   pub reads : (ws : List ℕ) → P .read ws ≡ readOf ws
   pub writes : (p : Parts) (body out : List ℕ) (at : ℕ) → P .write p body out at ≡ writeOf p body out at
-  pub packs : (first second : ℕ) (items events channels out : List ℕ) → P .pack first second items events channels out ≡ packOf first second items events channels out
+  pub packs : (first second : ℕ) (items events channels out : List ℕ)
+      → P .pack first second items events channels out ≡ packOf first second items events channels out
   pub unpacks : (first second n : ℕ) (ws : List ℕ) (b : Buffers) → P .unpack first second n ws b ≡ unpackOf first second n ws b
   -- "An accepted packet written again gives the same words": its parts and body, written anywhere with room
   pub again : (ws : List ℕ) → Words ws → (p : Packet) → P .read ws ≡ accepted p → (out : List ℕ) (at : ℕ) → at + p .size ≤ length out
@@ -157,7 +159,8 @@ pub record Resumes (P : Program) (ids t : List ℕ) (first rest : List (List ℕ
 pub data Altered (ids : List ℕ) (s : ℕ) : List (List ℕ) → List (List ℕ) → Type 0 where
   ended : Altered ids s [] []
   same : {ps qs : List (List ℕ)} (ws : List ℕ) → Altered ids s ps qs → Altered ids s (ws ∷ ps) (ws ∷ qs)
-  changed : {ps qs : List (List ℕ)} (ws vs : List ℕ) → isOwn s (heardBy ids ws) ≡ false → isOwn s (heardBy ids vs) ≡ false → Altered ids s ps qs → Altered ids s (ws ∷ ps) (vs ∷ qs)
+  changed : {ps qs : List (List ℕ)} (ws vs : List ℕ) → isOwn s (heardBy ids ws) ≡ false → isOwn s (heardBy ids vs) ≡ false → Altered ids s ps qs
+      → Altered ids s (ws ∷ ps) (vs ∷ qs)
   added : {ps qs : List (List ℕ)} (vs : List ℕ) → isOwn s (heardBy ids vs) ≡ false → Altered ids s ps qs → Altered ids s ps (vs ∷ qs)
   dropped : {ps qs : List (List ℕ)} (ws : List ℕ) → isOwn s (heardBy ids ws) ≡ false → Altered ids s ps qs → Altered ids s (ws ∷ ps) qs
 
@@ -171,10 +174,12 @@ pub record Demand3 (P : Program) : Type 0 where
   -- "Start a fresh table for any valid list of streams": one is started wherever there is room
   pub starts : (ids t : List ℕ) → listGood (length ids) (listed ids) ≡ true → base (length ids) ≤ length t → Accepts (P .start ids t)
   -- "and play any packets, refused ones among them": the table is right, each answer is the one that the rules give, and words past the layout stay
-  pub right : (ids t : List ℕ) (d : Done ℕ (List ℕ)) → P .start ids t ≡ accepted d → (packets : List (List ℕ)) → Right ids packets (playAll P (d .leaves) packets)
+  pub right : (ids t : List ℕ) (d : Done ℕ (List ℕ)) → P .start ids t ≡ accepted d → (packets : List (List ℕ))
+      → Right ids packets (playAll P (d .leaves) packets)
   pub answers : (ids t : List ℕ) (d : Done ℕ (List ℕ)) → P .start ids t ≡ accepted d → (packets : List (List ℕ))
       → saidAll P (d .leaves) packets ≡ answersAfter [] (traceOf ids packets)
-  pub past : (ids t : List ℕ) (d : Done ℕ (List ℕ)) → P .start ids t ≡ accepted d → (packets : List (List ℕ)) → pastOf ids (playAll P (d .leaves) packets) ≡ pastOf ids t
+  pub past : (ids t : List ℕ) (d : Done ℕ (List ℕ)) → P .start ids t ≡ accepted d → (packets : List (List ℕ))
+      → pastOf ids (playAll P (d .leaves) packets) ≡ pastOf ids t
   -- "Save a page after any packet": it is saved wherever there is room for the longest page
   pub saves : (ids t : List ℕ) (d : Done ℕ (List ℕ)) → P .start ids t ≡ accepted d → (packets : List (List ℕ)) (page : List ℕ)
       → 2 + 90 * length ids ≤ length page → Accepts (P .save (playAll P (d .leaves) packets) page)

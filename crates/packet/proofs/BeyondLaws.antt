@@ -16,7 +16,8 @@ use Rattle.words.specs.Part.{part}
 use Rattle.words.proofs.RefusalLaws.{first-same}
 use Rattle.words.proofs.PartLaws.{part-take}
 use Rattle.packet.specs.Header.{classed, trailed, sizeOf}
-use Rattle.packet.specs.Parts.{streamed, hasSeconds, hasFraction, classAt, secondsAt, fractionAt, wordIf, requiredOf, classHigh, classLow, fractionOf, partsOf, bodyOf, packetOf}
+use Rattle.packet.specs.Parts.{streamed, hasSeconds, hasFraction, classAt, secondsAt, fractionAt, wordIf, requiredOf}
+use Rattle.packet.specs.Parts.{classHigh, classLow, fractionOf, partsOf, bodyOf, packetOf}
 use Rattle.packet.specs.Read.{headerList, readOf}
 use Rattle.packet.proofs.RoomLaws.{Room, room}
 
@@ -34,7 +35,8 @@ module _ (n : ℕ) (ws vs : List ℕ) (e : take n ws ≡ take n vs) where
   word-agree true at h = getD-agree at (omega arith)
   word-agree false at h = refl
 
-  pair-agree : (present : Bool) (at : ℕ) → at + when present 2 ≤ n → (wordIf present at ws ≡ wordIf present at vs) × (wordIf present (at + 1) ws ≡ wordIf present (at + 1) vs)
+  pair-agree : (present : Bool) (at : ℕ) → at + when present 2 ≤ n
+      → (wordIf present at ws ≡ wordIf present at vs) × (wordIf present (at + 1) ws ≡ wordIf present (at + 1) vs)
   unfolding wordIf
   pair-agree true at h = (getD-agree at (omega arith), getD-agree (at + 1) (omega arith))
   pair-agree false at h = (refl, refl)

@@ -11,7 +11,8 @@ use Rattle.words.specs.Refusals.{firstGiven}
 use Rattle.words.proofs.RefusalLaws.{None, first-passed, after-first}
 use Rattle.packet.specs.Header.{typeOf, reservedOf, sizeOf}
 use Rattle.packet.specs.Parts.{requiredOf, bodyOf, packetOf}
-use Rattle.packet.specs.Read.{headerList, sizeList, bodyList, frontList, headerChecks, sizeChecks, prologueChecks, bodyChecks, headedChecks, frontChecks, readOf}
+use Rattle.packet.specs.Read.{headerList, sizeList, bodyList, frontList, headerChecks, sizeChecks}
+use Rattle.packet.specs.Read.{prologueChecks, bodyChecks, headedChecks, frontChecks, readOf}
 
 pub headed-checks : (w : ℕ) (ws : List ℕ) → headedChecks w ws ≡ after (headerChecks w) (after (sizeChecks w (length ws)) (prologueChecks w ws))
 unfolding headedChecks headerChecks sizeChecks prologueChecks
@@ -23,7 +24,8 @@ module _ (ws : List ℕ) where
 
   read-front : readOf ws ≡ after (frontChecks ws) (after (bodyChecks (typeOf (getD ws 0 0)) (bodyOf (getD ws 0 0) ws)) (accepted (packetOf (getD ws 0 0) ws)))
   unfolding readOf frontChecks bodyChecks
-  read-front = sym (after-first (frontList header ws) tt _ ∙ ap (firstGiven (frontList header ws)) (after-first (bodyList (typeOf header) (bodyOf header ws)) tt _))
+  read-front =
+      sym (after-first (frontList header ws) tt _ ∙ ap (firstGiven (frontList header ws)) (after-first (bodyList (typeOf header) (bodyOf header ws)) tt _))
 
   pub front-refuses : (n : ℕ) → frontChecks ws ≡ refused n → readOf ws ≡ refused n
   front-refuses n e = rw (read-front, e)

@@ -68,7 +68,8 @@ zero-slot : (b : ℕ) → holds b ≡ true → slotIn b (replicate slotWords 0) 
 unfolding slotIn
 zero-slot b o =
     let l : length (replicate {A = ℕ} slotWords 0) ≡ slotWords = length-replicate {A = ℕ} slotWords 0 in
-    let m : length (part (slotAt b) (sizeOf b) (replicate slotWords 0)) ≡ sizeOf b = part-length (slotAt b) (sizeOf b) (replicate slotWords 0) (omega (arith, slot-inside b o)) in
+    let m : length (part (slotAt b) (sizeOf b) (replicate slotWords 0)) ≡ sizeOf b =
+    part-length (slotAt b) (sizeOf b) (replicate slotWords 0) (omega (arith, slot-inside b o)) in
     ext-getD 0 _ (replicate (sizeOf b) 0) (m ∙ sym (length-replicate (sizeOf b) 0))
     (λ i h.
     getD-part (slotAt b) (sizeOf b) i (replicate slotWords 0) (omega arith)
@@ -114,7 +115,8 @@ sizes-within : (k n m : ℕ) → ((b : ℕ) → b < k → has n b ≡ true → h
 sizes-within zero n m w = omega (arith, ap sizesOf (bits-zero n), ap sizesOf (bits-zero m))
 sizes-within (suc k) n m w =
     let rest = sizes-within k n m (λ b h. w b (omega arith)) in
-    let more : (x : ℕ) → has x k ≡ true → sizesOf (bitsOf (suc k) x) ≡ sizeOf k + sizesOf (bitsOf k x) = λ x y. ap sizesOf (bits-yes k x y) ∙ sizes-more k (bitsOf k x) in
+    let more : (x : ℕ) → has x k ≡ true → sizesOf (bitsOf (suc k) x) ≡ sizeOf k + sizesOf (bitsOf k x) =
+    λ x y. ap sizesOf (bits-yes k x y) ∙ sizes-more k (bitsOf k x) in
     ⊎-elim (λ (y : has n k ≡ true). omega (arith, rest, more n y, more m (w k (omega arith) y)))
     (λ (y : has n k ≡ false).
     ⊎-elim (λ (z : has m k ≡ true). omega (arith, rest, ap sizesOf (bits-no k n y), more m z))
@@ -200,7 +202,8 @@ module _ (b : List ℕ) (l : length b ≡ bodyWords (heldOf b)) where
   record-slots =
       let rest : List ℕ = refilled (heldOf b) headWords b (replicate slotWords 0) in
       let m : length rest ≡ slotWords = refilled-here in
-      part-past headWords 0 slotWords (part 0 headWords b) rest front-length ∙ rw m at (part-whole rest) ∙ refilled-drop (heldOf b) headWords b (replicate slotWords 0)
+      part-past headWords 0 slotWords (part 0 headWords b) rest front-length ∙ rw m at (part-whole rest)
+      ∙ refilled-drop (heldOf b) headWords b (replicate slotWords 0)
 
   -- a slot has the words of its field where the body holds it, and is else zero
   pub record-slot : (x : ℕ) → holds x ≡ true

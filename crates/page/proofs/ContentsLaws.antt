@@ -97,7 +97,8 @@ page-contents n f few l =
       inside = λ s h. omega (arith, begins-at n f s (le-of-lt h), length-at n f s h, offset-inside n f s h, page-length n f);
       lengths = λ s h.
           let w : getD p (offsetOf n f s + 1) 0 ≡ heldOf (f s) =
-          sym (getD-part (offsetOf n f s) (length (f s)) 1 p (omega (arith, l s h, words-some (heldOf (f s))))) ∙ ap (λ (b : List ℕ). getD b 1 0) (body-part n f s h) in
+          sym (getD-part (offsetOf n f s) (length (f s)) 1 p (omega (arith, l s h, words-some (heldOf (f s)))))
+          ∙ ap (λ (b : List ℕ). getD b 1 0) (body-part n f s h) in
           length-at n f s h ∙ l s h ∙ ap bodyWords (sym (ap (λ (k : ℕ). getD p (k + 1) 0) (begins-at n f s (le-of-lt h)) ∙ w));
       ends = begins-at n f n (le-refl n) ∙ sym (page-length n f);
     }

@@ -1,6 +1,6 @@
 -- How a program tests a page. The idea: while the pairs before it are right, body s begins where the lengths say (`Paired`), so one pass tests them all; the
--- identifiers are gathered into a list (`Gathering`), and each test is a row of its definition. The record of a body need not be made to be tested: its first words
--- are the body's, the slots of held fields have the words that a walk over the body finds, and the other slots are zero (`rules-below`).
+-- identifiers are gathered into a list (`Gathering`), and each test is a row of its definition. The record of a body need not be made to be tested: its first
+-- words are the body's, the slots of held fields have the words that a walk over the body finds, and the other slots are zero (`rules-below`).
 use mathlib.Core.Path.{_≡_, refl, sym, ap, ap₂, _∙_}
 use mathlib.Core.Bool.{Bool, true, false}
 use mathlib.Core.Logic.{⊎-elim}
@@ -178,7 +178,8 @@ module _ (b : List ℕ) (l : length b ≡ bodyWords (heldOf b)) where
   -- the counts are those of the body
   count-same : (k : ℕ) → k < 4 → countGoodAt b k ≡ countGoodAt (recordOf b) k
   count-same k h =
-      let word : (i : ℕ) → i < 3 → getD b (countAt k + i) 0 ≡ getD (recordOf b) (countAt k + i) 0 = λ i g. sym (record-word b (countAt k + i) (omega arith) (body-some b l)) in
+      let word : (i : ℕ) → i < 3 → getD b (countAt k + i) 0 ≡ getD (recordOf b) (countAt k + i) 0 =
+      λ i g. sym (record-word b (countAt k + i) (omega arith) (body-some b l)) in
       let first : getD b (countAt k) 0 ≡ getD (recordOf b) (countAt k) 0 = sym (record-word b (countAt k) (omega arith) (body-some b l)) in
       counts-at b k ∙ rw (first, word 1 (omega arith), word 2 (omega arith)) (sym (counts-at (recordOf b) k))
 
@@ -187,7 +188,8 @@ module _ (b : List ℕ) (l : length b ≡ bodyWords (heldOf b)) where
     head-same : head ≡ both (heldGood (heldOf (recordOf b)) (lastOf (countOf 2 (recordOf b)))) (all 4 (countGoodAt (recordOf b)))
     head-same =
         let h : heldOf b ≡ heldOf (recordOf b) = sym (record-word b 1 (omega arith) (body-some b l)) in
-        let last : lastOf (countOf 2 b) ≡ lastOf (countOf 2 (recordOf b)) = last-at b ∙ sym (record-word b 10 (omega arith) (body-some b l)) ∙ sym (last-at (recordOf b)) in
+        let last : lastOf (countOf 2 b) ≡ lastOf (countOf 2 (recordOf b)) =
+        last-at b ∙ sym (record-word b 10 (omega arith) (body-some b l)) ∙ sym (last-at (recordOf b)) in
         e ∙ ap₂ both (ap₂ heldGood h last) (all-same (countGoodAt b) (countGoodAt (recordOf b)) 4 count-same)
 
     pub body-ill : head ≡ false → false ≡ recordGood (recordOf b)
@@ -201,9 +203,11 @@ module _ (b : List ℕ) (l : length b ≡ bodyWords (heldOf b)) where
       body-held = rw held-within at (lt-of-le-of-lt (and-le-r (heldOf b) heldMask) held-small)
 
       -- the walk begins one word before the held words
-      pub body-rules : (kept : Bool) → kept ≡ obeyed (bitsOf 31 (heldOf b)) (drop 1 (take (length b - (headWords - 1)) (drop (headWords - 1) b))) → kept ≡ recordGood (recordOf b)
+      pub body-rules : (kept : Bool) → kept ≡ obeyed (bitsOf 31 (heldOf b)) (drop 1 (take (length b - (headWords - 1)) (drop (headWords - 1) b)))
+          → kept ≡ recordGood (recordOf b)
       body-rules kept g =
-          let d : drop 1 (take (length b - (headWords - 1)) (drop (headWords - 1) b)) ≡ drop headWords b = ap (drop 1) (rest-whole (headWords - 1) b) ∙ drop-drop 1 (headWords - 1) b in
+          let d : drop 1 (take (length b - (headWords - 1)) (drop (headWords - 1) b)) ≡ drop headWords b =
+          ap (drop 1) (rest-whole (headWords - 1) b) ∙ drop-drop 1 (headWords - 1) b in
           good-slots (recordOf b) head head-same kept h (g ∙ rw d (rules-below 31 0 held-within (omega arith) (zero-add _)))
 
 -- ---- the page, n being S

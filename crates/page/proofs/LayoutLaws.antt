@@ -60,7 +60,8 @@ module _ (n : ℕ) (f : ℕ → List ℕ) where
   pub body-part : (s : ℕ) → s < n → part (offsetOf n f s) (length (f s)) (pageFrom n f) ≡ f s
   unfolding pageFrom offsetOf
   body-part s h =
-      part-past (contentsWords n) (length (joined s f)) (length (f s)) (n ∷ (contentsWords n + length (joined n f)) ∷ joined n (pairOf n f)) (joined n f) (contents-length (contentsWords n + length (joined n f)))
+      part-past (contentsWords n) (length (joined s f)) (length (f s)) (n ∷ (contentsWords n + length (joined n f)) ∷ joined n (pairOf n f)) (joined n f)
+      (contents-length (contentsWords n + length (joined n f)))
       ∙ joined-at n s f h
 
   -- pair s

@@ -59,7 +59,8 @@ module _ (n : ℕ) (b : List ℕ) (e : n ≡ heldOf b) (l : length b ≡ bodyWor
   fields-inside x y =
       let o : holds x ≡ true = within-holds (bitAnd n heldMask) (masked-within n) x y in
       let h : has n x ≡ true = sym (masked-has n x o) ∙ y in
-      omega (arith, l, ap (λ (k : ℕ). sizesOf (bitsOf 31 k)) e, placed-inside 31 n x (held-high x o) h, ap sizesOf (masked-place n x (omega (arith, held-low x o))))
+      let place = ap sizesOf (masked-place n x (omega (arith, held-low x o))) in
+      omega (arith, l, ap (λ (k : ℕ). sizesOf (bitsOf 31 k)) e, placed-inside 31 n x (held-high x o) h, place)
 
   -- zeroed words with the body's first words
   begun-is : put 0 headWords (part 0 headWords b) (replicate recordWords 0) ≡ part 0 headWords b ++ replicate slotWords 0
@@ -79,7 +80,8 @@ module _ (n : ℕ) (b : List ℕ) (e : n ≡ heldOf b) (l : length b ≡ bodyWor
     first-put : rec ≡ put 0 headWords (part 0 headWords b) (replicate recordWords 0)
     first-put = y ∙ ap (put 0 headWords (part 0 headWords b)) z
 
-    pub refill-asks : (length (take (recordWords - headWords) (drop headWords rec)) ≡ slotWords) × (bitAnd (bitAnd n heldMask) heldMask ≡ bitAnd n heldMask) × Inside (bitAnd n heldMask) headWords b
+    pub refill-asks : (length (take (recordWords - headWords) (drop headWords rec)) ≡ slotWords) × (bitAnd (bitAnd n heldMask) heldMask ≡ bitAnd n heldMask)
+        × Inside (bitAnd n heldMask) headWords b
     refill-asks = (
       ap length (seen headWords recordWords slotWords rec refl ∙ ap (part headWords slotWords) first-put ∙ slots-blank) ∙ length-replicate {A = ℕ} slotWords 0,
       masked-within n,
@@ -90,11 +92,14 @@ module _ (n : ℕ) (b : List ℕ) (e : n ≡ heldOf b) (l : length b ≡ bodyWor
         → take headWords rec ++ (last ++ drop (recordWords - headWords) (drop headWords rec)) ≡ recordOf b
     unfolding recordOf
     filled-record last g =
+        let blank : List ℕ = replicate slotWords 0 in
+        let slots : List ℕ = refilled (bitAnd n heldMask) headWords b blank in
         lent-to headWords recordWords slotWords (refilled (bitAnd n heldMask) headWords b) last rec refl g
-        ∙ ap₂ (λ (s r : List ℕ). put headWords slotWords (refilled (bitAnd n heldMask) headWords b s) r) (ap (part headWords slotWords) first-put ∙ slots-blank) (first-put ∙ begun-is)
-        ∙ put-at headWords slotWords (part 0 headWords b) (replicate slotWords 0) (refilled (bitAnd n heldMask) headWords b (replicate slotWords 0)) front-length
+        ∙ ap₂ (λ (s r : List ℕ). put headWords slotWords (refilled (bitAnd n heldMask) headWords b s) r) (ap (part headWords slotWords) first-put ∙ slots-blank)
+        (first-put ∙ begun-is)
+        ∙ put-at headWords slotWords (part 0 headWords b) blank slots front-length
         ∙ ap (λ (s : List ℕ). part 0 headWords b ++ s)
-        (append-nil (refilled (bitAnd n heldMask) headWords b (replicate slotWords 0)) ∙ refilled-masked n headWords b (replicate slotWords 0) ∙ ap (λ (k : ℕ). refilled k headWords b (replicate slotWords 0)) e)
+        (append-nil slots ∙ refilled-masked n headWords b blank ∙ ap (λ (k : ℕ). refilled k headWords b blank) e)
 
 -- ---- the record of body s, which begins at the place at and has l words
 
@@ -115,7 +120,8 @@ module _ (p : List ℕ) (s : ℕ) (c : contentsGood p ≡ true) (h : s < bodiesI
   pub load-asks : (body : List ℕ) → body ≡ bodyAt p s → length body ≡ bodyWords (heldOf body)
   load-asks body e = rw e (body-words p (contents-of p c) s h)
 
-  pub put-record : (body rec t after : List ℕ) → body ≡ bodyAt p s → rec ≡ recordOf body → after ≡ put (base s) recordWords (part 0 recordWords rec) t → after ≡ withRecord s (savedRecord p s) t
+  pub put-record : (body rec t after : List ℕ) → body ≡ bodyAt p s → rec ≡ recordOf body → after ≡ put (base s) recordWords (part 0 recordWords rec) t
+      → after ≡ withRecord s (savedRecord p s) t
   unfolding withRecord savedRecord
   put-record body rec t after b e f =
       f ∙ ap (λ (r : List ℕ). put (base s) recordWords r t) (ap (part 0 recordWords) (e ∙ ap recordOf b) ∙ rw loaded-length at (part-whole (savedRecord p s)))
@@ -129,7 +135,8 @@ pub record Putting (p before after : List ℕ) (n s : ℕ) : Type 0 where
 pub putting-start : (p before : List ℕ) (n : ℕ) → Putting p before before n 0
 putting-start p before n = record { most = omega arith; laid = laid-none before 1 (savedRecord p) }
 
-module _ (p before after : List ℕ) (n s : ℕ) (w : pageOk p ≡ true) (e : n ≡ bodiesIn p) (l : base (bodiesIn p) ≤ length before) (q : Putting p before after n s) where
+module _ (p before after : List ℕ) (n s : ℕ) (w : pageOk p ≡ true) (e : n ≡ bodiesIn p) (l : base (bodiesIn p) ≤ length before)
+    (q : Putting p before after n s) where
   pub putting-asks : s < n → (contentsGood p ≡ true) × (s < bodiesIn p) × Has s after
   putting-asks g = (ok-tested p w, omega arith, omega (arith, laid-length (q .laid)))
 
@@ -140,7 +147,9 @@ module _ (p before after : List ℕ) (n s : ℕ) (w : pageOk p ≡ true) (e : n 
       let i : base s + recordWords ≡ base (s + 1) = omega arith in
       record {
         most = omega arith;
-        laid = laid-next s (savedRecord p) (q .laid) (rw i at (laid-part after (savedRecord p s) after′ (base s) recordWords (loaded-length p s (a .0) (a .1)) (a .2) f));
+        laid =
+            laid-next s (savedRecord p) (q .laid)
+            (rw i at (laid-part after (savedRecord p s) after′ (base s) recordWords (loaded-length p s (a .0) (a .1)) (a .2) f));
       }
 
 -- S and the records are the table
@@ -166,6 +175,7 @@ module _ (p t : List ℕ) where
     unfolding putBackOf
     back-short h = meets-refused (rw (w, ← e, lt-ltb (length t) (base n) h))
 
-    pub back-made : (after : List ℕ) → base n ≤ length t → after ≡ tableOf p ++ drop (base (bodiesIn p)) t → Meets measured (putBackOf p t) t (Accepted (base n)) after
+    pub back-made : (after : List ℕ) → base n ≤ length t → after ≡ tableOf p ++ drop (base (bodiesIn p)) t
+        → Meets measured (putBackOf p t) t (Accepted (base n)) after
     unfolding putBackOf
     back-made after h f = meets-length (rw (w, ← e, le-ltb (length t) (base n) h)) f

@@ -101,7 +101,8 @@ module _ (r page : List ℕ) (at : ℕ) (l : length r ≡ recordWords) (g : reco
   slots-seen = seen headWords recordWords slotWords r refl
 
   pub squeeze-asks : (page′ : List ℕ) → page′ ≡ put at headWords (part 0 headWords r) page
-      → (length (take (recordWords - headWords) (drop headWords r)) ≡ slotWords) × (bitAnd (heldOf r) heldMask ≡ heldOf r) × (at + headWords + sizesOf (bitsOf 31 (heldOf r)) ≤ length page′)
+      → (length (take (recordWords - headWords) (drop headWords r)) ≡ slotWords) × (bitAnd (heldOf r) heldMask ≡ heldOf r)
+      × (at + headWords + sizesOf (bitsOf 31 (heldOf r)) ≤ length page′)
   unfolding slotsOf bodyWords
   squeeze-asks page′ e =
       (ap length slots-seen ∙ part-length headWords slotWords r (omega arith), good-within r g, omega (arith, body-room, laid-length (head-laid page′ e)))
@@ -175,7 +176,8 @@ module _ (t before : List ℕ) (w : wellMade t ≡ true) (h : pageLength t ≤ l
           omega (arith, h, p .laid .past, laid-length (p .laid), offset-inside (streamsOf t) (savedBody t) s i),
         )
 
-    laying-turn : (after′ : List ℕ) (to : ℕ) → Laid after at (bodyOf (take (base s + recordWords - base s) (drop (base s) t))) to after′ → Laying t before after′ n (s + 1) to
+    laying-turn : (after′ : List ℕ) (to : ℕ) → Laid after at (bodyOf (take (base s + recordWords - base s) (drop (base s) t))) to after′
+        → Laying t before after′ n (s + 1) to
     unfolding savedBody
     laying-turn after′ to q = record { most = omega arith; laid = laid-next s (savedBody t) (p .laid) (rw record-seen at q) }
 
@@ -226,15 +228,18 @@ module _ (t before : List ℕ) (w : wellMade t ≡ true) (h : pageLength t ≤ l
           rw f (record {
             mid = set (set (p .mid) (2 + 2 * s) at) (3 + 2 * s) (to - at);
             pairs = rw sum at (pairing-turn t before w h (p .mid) n s at e (p .pairs) g (to - at) length-is);
-            bodies = record { most = next .most; laid = laid-before (3 + 2 * s) (to - at) (laid-before (2 + 2 * s) at (next .laid) (omega arith)) (omega arith) };
+            bodies =
+                record { most = next .most; laid = laid-before (3 + 2 * s) (to - at) (laid-before (2 + 2 * s) at (next .laid) (omega arith)) (omega arith) };
           })
 
   pub writing-length : {after : List ℕ} {n s at : ℕ} → Writing t before after n s at → length after ≡ length before
   writing-length p = laid-length (p .bodies .laid) ∙ laid-length (p .pairs .laid)
 
-  pub writing-end : (after : List ℕ) (n s at : ℕ) → n ≡ streamsOf t → Writing t before after n s at → n ≤ s → Laid before 2 (pairsOf t ++ bodiesOf t) (pageLength t) after
+  pub writing-end : (after : List ℕ) (n s at : ℕ) → n ≡ streamsOf t → Writing t before after n s at → n ≤ s
+      → Laid before 2 (pairsOf t ++ bodiesOf t) (pageLength t) after
   writing-end after n s at e p g =
-      then (pairing-end t before w h (p .mid) n s at e (p .pairs) g) (laying-end t (p .mid) w (omega (arith, laid-length (p .pairs .laid))) after n s at e (p .bodies) g)
+      then (pairing-end t before w h (p .mid) n s at e (p .pairs) g)
+      (laying-end t (p .mid) w (omega (arith, laid-length (p .pairs .laid))) after n s at e (p .bodies) g)
 
   -- S, the length, the pairs and the bodies are the page
   pub page-laid : (n size : ℕ) (after : List ℕ) → n ≡ streamsOf t → size ≡ pageLength t
@@ -242,7 +247,8 @@ module _ (t before : List ℕ) (w : wellMade t ≡ true) (h : pageLength t ≤ l
   unfolding pageOf pageFrom pageLength
   page-laid n size after e f p =
       let l = page-whole t w in
-      let first : Laid before 0 (streamsOf t ∷ pageLength t ∷ []) 2 (set (set before 0 n) 1 size) = rw (e, f) (laid-two before 0 (streamsOf t) (pageLength t)) in
+      let first : Laid before 0 (streamsOf t ∷ pageLength t ∷ []) 2 (set (set before 0 n) 1 size) =
+      rw (e, f) (laid-two before 0 (streamsOf t) (pageLength t)) in
       rw l at (laid-front (then first p) (omega (arith, h, l)))
 
 -- ---- the answers of the length

@@ -34,7 +34,8 @@ AllHeld (b ∷ bs) = (holds b ≡ true) × AllHeld bs
 all-held : (k held : ℕ) → ((b : ℕ) → has held b ≡ true → holds b ≡ true) → AllHeld (bitsOf k held)
 all-held zero held w = rw (bits-zero held) tt
 all-held (suc k) held w =
-    ⊎-elim (λ (y : has held k ≡ true). rw (bits-yes k held y) (w k y, all-held k held w)) (λ (n : has held k ≡ false). rw (bits-no k held n) (all-held k held w)) (true-or-false (has held k))
+    ⊎-elim (λ (y : has held k ≡ true). rw (bits-yes k held y) (w k y, all-held k held w))
+    (λ (n : has held k ≡ false). rw (bits-no k held n) (all-held k held w)) (true-or-false (has held k))
 
 pub record Squeezing (held at : ℕ) (slots before after : List ℕ) (rest to : ℕ) : Type 0 where
   pub done : List ℕ
@@ -55,7 +56,8 @@ squeezing-start held at slots page w =
       fits = ap (λ (l : List ℕ). at + sizesOf l) (bits-trim 31 32 held (omega arith) h);
     }
 
-module _ {held at rest to : ℕ} {slots before page : List ℕ} (p : Squeezing held at slots before page rest to) (b rest′ n : ℕ) (cut : bitsOf 32 rest ≡ b ∷ bitsOf 32 rest′) where
+module _ {held at rest to : ℕ} {slots before page : List ℕ} (p : Squeezing held at slots before page rest to) (b rest′ n : ℕ)
+    (cut : bitsOf 32 rest ≡ b ∷ bitsOf 32 rest′) where
   pub squeezing-holds : holds b ≡ true
   squeezing-holds = (rw cut at (p .bits)) .0
 
@@ -85,5 +87,6 @@ pub squeezing-end : {held at rest to : ℕ} {slots before page : List ℕ} → S
 squeezing-end {held} {at} {rest} {to} {slots} {before} {page} p z =
     let f : ℕ → List ℕ = λ x. slotIn x slots in
     let e : p .done ≡ heldWords held slots =
-    sym (append-nil (p .done)) ∙ ap (λ (y : List ℕ). p .done ++ y) (sym (ap (λ (y : List ℕ). inOrder y f) (bits-none 32 rest (omega arith)) ∙ in-order-none f)) ∙ p .left in
+    sym (append-nil (p .done)) ∙ ap (λ (y : List ℕ). p .done ++ y) (sym (ap (λ (y : List ℕ). inOrder y f) (bits-none 32 rest (omega arith)) ∙ in-order-none f))
+    ∙ p .left in
     rw e at (p .laid)

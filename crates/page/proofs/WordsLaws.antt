@@ -73,7 +73,8 @@ words-record b w =
     words-append (part 0 headWords b) _ (words-part 0 headWords b w)
     (words-order heldBits _
     (λ x. words-after (has (heldOf b) x) _ _
-    (words-part (headWords + sizesOf (above x (bitsOf 31 (heldOf b)))) (sizeOf x) b w) (words-part _ (sizeOf x) (replicate slotWords 0) (words-zero slotWords))))
+    (words-part (headWords + sizesOf (above x (bitsOf 31 (heldOf b)))) (sizeOf x) b w)
+    (words-part _ (sizeOf x) (replicate slotWords 0) (words-zero slotWords))))
 
 pub words-table : (p : List ℕ) → Words p → Words (tableOf p)
 unfolding tableOf tableFrom savedRecord bodyAt

@@ -1,5 +1,5 @@
--- Pieces that are written one after the other. The idea: what is written so far is the pieces joined (`laid-next`), so pairs, bodies and records are laid by one
--- law; and words laid from the front on are followed by what stood there (`laid-front`).
+-- Pieces that are written one after the other. The idea: what is written so far is the pieces joined (`laid-next`), so pairs, bodies and records are laid by
+-- one law; and words laid from the front on are followed by what stood there (`laid-front`).
 use mathlib.Core.Path.{_≡_, refl, sym, ap, _∙_}
 use mathlib.Core.List.{List, [], _∷_, _++_}
 use Prim.Native.Nat.{ℕ, suc, _+_, _≤_, _<_}
@@ -37,7 +37,8 @@ sets-before (w ∷ ws) before at i x h =
     sets-before ws (set before at w) (suc at) i x (omega arith) ∙ ap (λ (l : List ℕ). sets l (suc at) ws) (set-comm before at i w x (λ e. omega arith))
 
 pub laid-before : {before ws after : List ℕ} {at to : ℕ} (i x : ℕ) → Laid before at ws to after → i < at → Laid (set before i x) at ws to (set after i x)
-laid-before {before} {ws} {after} {at} {to} i x p h = record { past = p .past; kept = ap (λ (l : List ℕ). set l i x) (p .kept) ∙ sets-before ws before at i x h }
+laid-before {before} {ws} {after} {at} {to} i x p h =
+    record { past = p .past; kept = ap (λ (l : List ℕ). set l i x) (p .kept) ∙ sets-before ws before at i x h }
 
 -- ---- pieces joined
 

@@ -1,4 +1,5 @@
--- Document 01: "Put back: PAGE, ROOM." "Put back takes exactly one page." "A lent table may be longer than its layout: words past it are neither read nor changed."
+-- Document 01: "Put back: PAGE, ROOM." "Put back takes exactly one page." "A lent table may be longer than its layout: words past it are neither read nor
+-- changed."
 use Prim.Native.Nat.{ℕ}
 use mathlib.Core.Bool.{not}
 use mathlib.Core.List.{List, [], _∷_, _++_}

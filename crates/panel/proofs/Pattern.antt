@@ -28,7 +28,9 @@ size-shift n j h =
     let up : size (n * 2 ^ j) ≤ z + j = size-le (n * 2 ^ j) (z + j) (shl-lt z j (size-lt n)) in
     let lo : 2 ^ (z - 1) ≤ n = size-reaches n (z - 1) (omega arith) in
     let lo′ : 2 ^ (z - 1 + j) ≤ n * 2 ^ j = subst (λ (x : ℕ). x ≤ n * 2 ^ j) (sym (pow-add 2 (z - 1) j)) (mul-le-mul-right (2 ^ j) lo) in
-    let dn : z - 1 + j < size (n * 2 ^ j) = lt-of-not-le (λ (g : size (n * 2 ^ j) ≤ z - 1 + j). not-le-of-lt (lt-of-lt-of-le (size-lt (n * 2 ^ j)) (pow-mono {i = size (n * 2 ^ j)} {j = z - 1 + j} g)) lo′) in
+    let dn : z - 1 + j < size (n * 2 ^ j) =
+    lt-of-not-le (λ (g : size (n * 2 ^ j) ≤ z - 1 + j).
+    not-le-of-lt (lt-of-lt-of-le (size-lt (n * 2 ^ j)) (pow-mono {i = size (n * 2 ^ j)} {j = z - 1 + j} g)) lo′) in
     omega arith
 
 -- ---- a number that is not zero

@@ -105,7 +105,10 @@ div-is (inf t) k s n v = absurd v
 div-is (fin t m e) k s n v =
     ap (λ (b : Bool). round binary32 b (m * up e * 1) (1 * 2 ^ k * down e)) (unlike-false t ∙ v .0)
     ∙ round-same binary32 s (m * up e * 1) (1 * 2 ^ k * down e) n (2 ^ k) (mul-pos (mul-pos (lit< tt) (pow-pos k)) (down-pos e)) (pow-pos k)
-    (ap (λ (x : ℕ). x * 2 ^ k) (v .1) ∙ mul-right-comm n (down e) (2 ^ k) ∙ mul-assoc n (2 ^ k) (down e) ∙ ap (λ (x : ℕ). n * (x * down e)) (sym (one-mul (2 ^ k))))
+    (ap (λ (x : ℕ). x * 2 ^ k) (v .1)
+    ∙ mul-right-comm n (down e) (2 ^ k)
+    ∙ mul-assoc n (2 ^ k) (down e)
+    ∙ ap (λ (x : ℕ). n * (x * down e)) (sym (one-mul (2 ^ k))))
 
 whole-value : (s : Bool) (n : ℕ) → n < 2 ^ 24 → HasValue (round binary32 s n 1) s n 1
 whole-value s n h = round-exact binary32 s n 1 n 149 (lit< tt) h (units-below n 149 h (lit≤ tt)) (sym (mul-one (n * 2 ^ 149)))

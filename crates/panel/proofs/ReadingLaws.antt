@@ -1,12 +1,12 @@
 -- The answers. The idea: where nothing is refused the record is there and the bit has a slot; the slot is a part of the record, and so are the held words,
 -- also those of an absent field, which are none.
 use mathlib.Core.Path.{_≡_, refl, sym, ap, subst, _∙_}
-use mathlib.Core.Bool.{Bool, true, false, not}
+use mathlib.Core.Bool.{Bool, true, false}
 use mathlib.Core.List.{List, [], _++_}
 use Prim.Native.Nat.{ℕ, _+_, _-_, _≤_, _<_}
 use native.Mathlib.Omega.{arith}
 use borrow.Author.Tests.{lt-ltb, le-ltb, leb-false, ltb-false, not-false}
-use lib.Dec.{ltb, leb}
+use lib.Dec.{ltb}
 use lib.ListN.{length, take, drop}
 use Rattle.words.specs.Numbers.{ROOM}
 use Rattle.words.specs.Tests.{pick, when}
@@ -79,7 +79,8 @@ module _ (r : List ℕ) (b at : ℕ) (l : length r ≡ recordWords) (lo : 10 ≤
   slot-most = omega (arith, slot-inside b held-here)
 
   pub shows-held : (n : ℕ) (d : Dial) → n ≡ sizeOf b → isHeld b r ≡ true
-      → readingPaper d ≡ accepted (shownOf b (take (headWords + at + n - (headWords + at)) (drop (headWords + at) r))) → readingPaper d ≡ accepted (recordShows b r)
+      → readingPaper d ≡ accepted (shownOf b (take (headWords + at + n - (headWords + at)) (drop (headWords + at) r)))
+      → readingPaper d ≡ accepted (recordShows b r)
   unfolding recordShows
   shows-held n d en e h =
       rw e (h ∙ ap (λ (ws : List ℕ). accepted (shownOf b ws)) (seen (headWords + at) (headWords + at + n) n r refl ∙ rw en (sym slot-is)))
@@ -116,4 +117,5 @@ pub copy-lent : (t out last : List ℕ) (s b : ℕ) (r : Length)
     → Meets measured (copyOf (heldIn b (take (base s + recordWords - base s) (drop (base s) t))) out) out r last
     → Meets measured (copyOf (heldIn b (recordAt s t)) out) out r last
 unfolding recordAt
-copy-lent t out last s b r h = subst (λ (l : List ℕ). Meets measured (copyOf (heldIn b l) out) out r last) (seen (base s) (base s + recordWords) recordWords t refl) h
+copy-lent t out last s b r h =
+    subst (λ (l : List ℕ). Meets measured (copyOf (heldIn b l) out) out r last) (seen (base s) (base s + recordWords) recordWords t refl) h

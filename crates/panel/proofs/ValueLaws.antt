@@ -122,8 +122,8 @@ module _ (z : ℤ) (h : mag z < 2 ^ 63) where
       (e : up ≡ pick (ltZ (toZ w64 (ofZ w64 (remZ (toZ w64 (ofZ w64 z)) (pos 1048576)))) (pos 0)) (pos 1) (pos 0)) where
     pub floored : toZ w64 (ofZ w64 (quotZ (toZ w64 (ofZ w64 z)) (pos 1048576))) -ℤ toZ w64 (ofZ w64 up) ≡ floorDiv z 1048576
     floored =
-        rw (back up b refl, e, back z h refl, back (quotZ z (pos 1048576)) (quot-mag z h) refl, back (remZ z (pos 1048576)) (lt-of-le-of-lt (mag-rem z (pos 1048576)) h) refl)
-        (floor-is z)
+        let rest = back (remZ z (pos 1048576)) (lt-of-le-of-lt (mag-rem z (pos 1048576)) h) refl in
+        rw (back up b refl, e, back z h refl, back (quotZ z (pos 1048576)) (quot-mag z h) refl, rest) (floor-is z)
 
     pub floored-fits : SFits w64 (toZ w64 (ofZ w64 (quotZ (toZ w64 (ofZ w64 z)) (pos 1048576))) -ℤ toZ w64 (ofZ w64 up))
     floored-fits = subst (λ (y : ℤ). SFits w64 y) (sym floored) (sfits-of (floor-mag z h))

@@ -26,7 +26,8 @@ entered-refused : (t ws : List ℕ) (n m k : ℕ) → stepOf t ws ≡ refused n 
 unfolding entryOf
 entered-refused t ws n m k e i j o = record { entry = rw (e, i, j); next = rw e j; on = rw e o; table = rw e }
 
-pub entered-unread : (t ws : List ℕ) (n m : ℕ) → readOf ws ≡ refused n → m ≡ n → Entered t ws (record { number = m; size = 0; kind = 0; stream = 0; missing = 0 }) t
+pub entered-unread : (t ws : List ℕ) (n m : ℕ) → readOf ws ≡ refused n → m ≡ n
+    → Entered t ws (record { number = m; size = 0; kind = 0; stream = 0; missing = 0 }) t
 entered-unread t ws n m e i =
     let o : eqb n STREAM ≡ false = ne-eqb n STREAM (λ z. omega (arith, read-number ws n e)) in
     entered-refused t ws n m 0 (rw (step-read, e)) i (rw o) (rw o)

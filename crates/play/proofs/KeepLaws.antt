@@ -104,7 +104,8 @@ module _ (t ws : List ℕ) (w : wellMade t ≡ true) (d : Done Heard (List ℕ))
   taken-list u = ap (λ (x : List ℕ). declared x u) leaves-is ∙ list-with s new t w below new-length new-identifier u
 
   -- its stream's record, and the others
-  pub taken-record : recordAt (k .stream) (d .leaves) ≡ recordAfter (k .packet .parts .kind) (k .packet .parts .count) (part (k .packet .body) (k .packet .length) ws) (recordAt (k .stream) t)
+  pub taken-record : recordAt (k .stream) (d .leaves)
+      ≡ recordAfter (k .packet .parts .kind) (k .packet .parts .count) (part (k .packet .body) (k .packet .length) ws) (recordAt (k .stream) t)
   taken-record = ap (recordAt s) leaves-is ∙ record-with s new t has-it new-length
 
   pub taken-other : (u : ℕ) → (u ≡ k .stream → ⊥) → recordAt u (d .leaves) ≡ recordAt u t
@@ -130,7 +131,13 @@ kept-by : (o : Outcome (Done Heard (List ℕ))) (t ws : List ℕ) → wellMade t
 kept-by (refused n) t ws w e = nothing-changed t
 kept-by (accepted d) t ws w e =
     let k = step-taken t ws d e in
-    record { well = λ _. taken-well t ws w d k; whole = taken-length t ws w d k; streams = taken-streams t ws w d k; list = taken-list t ws w d k; past = taken-past t ws w d k }
+    record {
+      well = λ _. taken-well t ws w d k;
+      whole = taken-length t ws w d k;
+      streams = taken-streams t ws w d k;
+      list = taken-list t ws w d k;
+      past = taken-past t ws w d k;
+    }
 
 pub step-keeps : (t ws : List ℕ) → wellMade t ≡ true → Kept t (leftOf (stepOf t ws) t)
 step-keeps t ws w = kept-by (stepOf t ws) t ws w refl
@@ -148,7 +155,8 @@ play-taken t ws d e =
     (w, step-taken t ws d (sym (play-step t ws w) ∙ e))
 
 -- another stream's record is not touched
-pub play-other : (t ws : List ℕ) (d : Done Heard (List ℕ)) → playOf t ws ≡ accepted d → (u : ℕ) → (u ≡ d .says .stream → ⊥) → recordAt u (d .leaves) ≡ recordAt u t
+pub play-other : (t ws : List ℕ) (d : Done Heard (List ℕ)) → playOf t ws ≡ accepted d → (u : ℕ) → (u ≡ d .says .stream → ⊥)
+    → recordAt u (d .leaves) ≡ recordAt u t
 unfolding heardOf
 play-other t ws d e u n =
     let k = play-taken t ws d e in

@@ -1,7 +1,7 @@
--- Playing a packet. The idea: the record of the packet's stream is lent, so the table afterwards is `withRecord` of the record afterwards (`lent-heard`), which is
--- what hearing the packet leaves (`heard-data`, `heard-context`); a refusal leaves the table, since `leftOf` does.
+-- Playing a packet. The idea: the record of the packet's stream is lent, so the table afterwards is `withRecord` of the record afterwards (`lent-heard`), which
+-- is what hearing the packet leaves (`heard-data`, `heard-context`); a refusal leaves the table, since `leftOf` does.
 use mathlib.Core.Path.{_≡_, refl, sym, ap, _∙_}
-use mathlib.Core.Bool.{true, false, not}
+use mathlib.Core.Bool.{true, false}
 use mathlib.Core.List.{List, [], _++_}
 use Prim.Native.Nat.{ℕ, _+_, _-_, _≤_, _<_}
 use native.Mathlib.Nat.{le-trans}
@@ -48,14 +48,16 @@ module _ (s : ℕ) (t : List ℕ) (w : wellMade t ≡ true) (h : s < streamsOf t
   unfolding recordAt
   record-seen = seen (base s) (base s + recordWords) recordWords t refl
 
-  pub lent-good : (length (take (base s + recordWords - base s) (drop (base s) t)) ≡ recordWords) × (recordGood (take (base s + recordWords - base s) (drop (base s) t)) ≡ true)
+  pub lent-good : (length (take (base s + recordWords - base s) (drop (base s) t)) ≡ recordWords)
+      × (recordGood (take (base s + recordWords - base s) (drop (base s) t)) ≡ true)
   unfolding recordAt
   lent-good = (rw record-seen (part-length (base s) recordWords t lent-inside), rw record-seen (well-record t w s h))
 
   -- what hearing a packet leaves of it is its record in the table afterwards
   pub lent-heard : (kind count more : ℕ) (body last : List ℕ) → more ≡ addedBy kind count (take (base s + recordWords - base s) (drop (base s) t))
       → last ≡ recordAfter kind count body (take (base s + recordWords - base s) (drop (base s) t))
-      → (more ≡ addedBy kind count (recordAt s t)) × (take (base s) t ++ (last ++ drop (base s + recordWords - base s) (drop (base s) t)) ≡ withRecord s (recordAfter kind count body (recordAt s t)) t)
+      → (more ≡ addedBy kind count (recordAt s t))
+      × (take (base s) t ++ (last ++ drop (base s + recordWords - base s) (drop (base s) t)) ≡ withRecord s (recordAfter kind count body (recordAt s t)) t)
   unfolding withRecord recordAt
   lent-heard kind count more body last m l =
       (m ∙ ap (addedBy kind count) record-seen, lent-to (base s) (base s + recordWords) recordWords (recordAfter kind count body) last t refl l)
@@ -86,7 +88,8 @@ module _ (w s : ℕ) (ws t : List ℕ) (p : Headed w ws) where
     body-good = ap contextOf body-seen ∙ body-context ws (packetOf w ws) (p .reads) k
 
     pub heard-context : (count more : ℕ) (left : List ℕ) → count ≡ countOf w
-        → (more ≡ addedBy 4 count (recordAt s t)) × (left ≡ withRecord s (recordAfter 4 count (take (to - from) (drop from ws)) (recordAt s t)) t) → HeardAs w s ws t more left
+        → (more ≡ addedBy 4 count (recordAt s t)) × (left ≡ withRecord s (recordAfter 4 count (take (to - from) (drop from ws)) (recordAt s t)) t)
+        → HeardAs w s ws t more left
     unfolding packetOf partsOf tableAfter
     heard-context count more left c h = record {
       adds = rw k (rw c at h .0);

@@ -30,7 +30,8 @@ use Rattle.play.specs.declared.run.Entry.{Entry}
 use Rattle.play.specs.declared.run.Reached.{Reached}
 use Rattle.play.specs.declared.run.Ran.the-variants as Ran
 use Rattle.play.specs.Play.{tableList, madeOf, stepOf, playOf, paper}
-use Rattle.play.specs.Run.{goesOn, saidAt, leftAt, nextOf, Stepped, entryWords, entryOf, entryAt, wordsOf, Walk, ended, before, walkOf, wholeWalk, reachedOf, answersOf, WalkDone, runOf, runPaper}
+use Rattle.play.specs.Run.{goesOn, saidAt, leftAt, nextOf, Stepped, entryWords, entryOf, entryAt, wordsOf, Walk, ended}
+use Rattle.play.specs.Run.{before, walkOf, wholeWalk, reachedOf, answersOf, WalkDone, runOf, runPaper}
 use Rattle.play.specs.Entered.{Entered}
 use Rattle.play.proofs.PlayLaws.{made-well, play-step}
 use Rattle.play.proofs.KeepLaws.{Kept, nothing-changed, play-keeps}
@@ -45,7 +46,12 @@ stepped t ws left at next answer on w m g n =
     let o : playOf t (drop at ws) ≡ stepOf t (take (length ws - at) (drop at ws)) = play-step t (drop at ws) w ∙ ap (stepOf t) (sym (rest-whole at ws)) in
     let a : paper answer ≡ saidOf (playOf t (drop at ws)) = m .answer ∙ ap saidOf (sym o) in
     let h : on ≡ goesOn (saidOf (playOf t (drop at ws))) = g ∙ ap goesOn a in
-    record { answer = a; on = h; next = n ∙ ap (λ (b : Bool). at + when b (getD ws at 0 % 2 ^ 16)) h; table = m .buffer ∙ ap (λ (x : Outcome (Done Heard (List ℕ))). leftOf x t) (sym o) }
+    record {
+      answer = a;
+      on = h;
+      next = n ∙ ap (λ (b : Bool). at + when b (getD ws at 0 % 2 ^ 16)) h;
+      table = m .buffer ∙ ap (λ (x : Outcome (Done Heard (List ℕ))). leftOf x t) (sym o);
+    }
 
 -- ---- a step that is given as an entry
 
@@ -85,12 +91,13 @@ module _ (t ws left : List ℕ) (at : ℕ) (x : Entry) (w : wellMade t ≡ true)
   entered-stepped = record {
     answer = answer-said (saidAt t ws at);
     on = y .on ∙ ap goesOn said;
-    next = ap (λ (n : ℕ). at + n) (y .next ∙ ap (λ (o : Outcome Heard). when (goesOn o) (sizeOf (getD (take (length ws - at) (drop at ws)) 0 0))) said ∙ ap (when (goesOn (saidAt t ws at))) header);
+    next = ap (λ (n : ℕ). at + n) (y .next ∙ rw (said, header));
     table = y .table ∙ ap (λ (o : Outcome (Done Heard (List ℕ))). leftOf o t) played;
   }
 
   pub entered-entry : wordsOf x ≡ entryOf (paper (answerOf (saidAt t ws at))) (getD ws at 0 % 2 ^ 16)
-  entered-entry = y .entry ∙ ap (λ (o : Outcome Heard). entryOf o (sizeOf (getD (take (length ws - at) (drop at ws)) 0 0))) (said ∙ sym (answer-said (saidAt t ws at)))
+  entered-entry =
+      y .entry ∙ ap (λ (o : Outcome Heard). entryOf o (sizeOf (getD (take (length ws - at) (drop at ws)) 0 0))) (said ∙ sym (answer-said (saidAt t ws at)))
       ∙ ap (entryOf (paper (answerOf (saidAt t ws at)))) header
 
 -- ---- an entry
@@ -127,7 +134,8 @@ walk-over zero ws at t h = refl
 walk-over (suc n) ws at t h = rw (le-leb (length ws) at h)
 
 pub walk-more : (k n : ℕ) (ws : List ℕ) (at : ℕ) (t : List ℕ) → k ≡ suc n → at < length ws
-    → walkOf k ws at t ≡ before (entryAt t ws at) (pick (goesOn (saidAt t ws at)) (walkOf n ws (nextOf t ws at) (leftAt t ws at)) (ended (nextOf t ws at) (leftAt t ws at)))
+    → walkOf k ws at t
+    ≡ before (entryAt t ws at) (pick (goesOn (saidAt t ws at)) (walkOf n ws (nextOf t ws at) (leftAt t ws at)) (ended (nextOf t ws at) (leftAt t ws at)))
 unfolding walkOf
 walk-more k n ws at t e h = rw (e, lt-leb (length ws) at h)
 
@@ -151,7 +159,8 @@ pub record Running (most : ℕ) (ws : List ℕ) (from : ℕ) (t₀ buffer₀ t b
   pub wrote : buffer ≡ entries ++ drop (entryWords * n) buffer₀
   pub is : walkOf most ws from t₀ ≡ onto n entries rest
 
-pub running-start : (most : ℕ) (ws : List ℕ) (from : ℕ) (t buffer : List ℕ) → wellMade t ≡ true → Running most ws from t buffer t buffer 0 (walkOf (most - 0) ws from t)
+pub running-start : (most : ℕ) (ws : List ℕ) (from : ℕ) (t buffer : List ℕ) → wellMade t ≡ true
+    → Running most ws from t buffer t buffer 0 (walkOf (most - 0) ws from t)
 running-start most ws from t buffer w =
     let e : most ≡ most - 0 = omega arith in
     record {
@@ -174,8 +183,9 @@ module _ {most from at n : ℕ} {ws t₀ buffer₀ t buffer : List ℕ} (p : Run
   running-full h = let e : most - n ≡ 0 = omega arith in rw (e, walk-zero ws at t) at p
 
   -- a packet more
-  module _ (less : n < most) (room : most ≡ length buffer₀ / entryWords) (there : at < length ws) (r : Happened) (left written entry : List ℕ) (s : Stepped t ws at r left)
-      (e : entry ≡ entryOf (paper (r .answer)) (getD ws at 0 % 2 ^ 16)) (w : written ≡ put (entryWords * n) entryWords entry buffer) where
+  module _ (less : n < most) (room : most ≡ length buffer₀ / entryWords) (there : at < length ws) (r : Happened) (left written entry : List ℕ)
+      (s : Stepped t ws at r left) (e : entry ≡ entryOf (paper (r .answer)) (getD ws at 0 % 2 ^ 16))
+      (w : written ≡ put (entryWords * n) entryWords entry buffer) where
     entry-is : entry ≡ entryAt t ws at
     unfolding entryAt
     entry-is = e ∙ ap (λ (o : Outcome Heard). entryOf o (getD ws at 0 % 2 ^ 16)) (s .answer)
@@ -227,7 +237,8 @@ module _ {most from at n : ℕ} {ws t₀ buffer₀ t buffer : List ℕ} (p : Run
         rw (s .next, s .table) (rw (s .table, g) at turn)
 
 -- nothing is left
-pub running-end : {most from at n : ℕ} {ws t₀ buffer₀ t buffer : List ℕ} → Running most ws from t₀ buffer₀ t buffer n (ended at t) → most ≡ length buffer₀ / entryWords
+pub running-end : {most from at n : ℕ} {ws t₀ buffer₀ t buffer : List ℕ} → Running most ws from t₀ buffer₀ t buffer n (ended at t)
+    → most ≡ length buffer₀ / entryWords
     → WalkDone (wholeWalk t₀ ws from buffer₀) buffer₀ (record { packets = n; next = at }) t buffer
 unfolding wholeWalk
 running-end {most} {from} {at} {n} {ws} {t₀} {buffer₀} {t} {buffer} p room =

@@ -6,7 +6,7 @@ use mathlib.Core.List.{List, [], _∷_}
 use Prim.Native.Nat.{ℕ, _≤_, _<_}
 use native.Mathlib.Omega.{arith}
 use borrow.Author.Tests.{ne-eqb, ltb-false, le-leb, lt-leb, leb-false}
-use lib.Dec.{eqb, leb, ltb}
+use lib.Dec.{eqb, leb}
 use lib.ListN.{length, getD}
 use Rattle.words.specs.Numbers.{STREAM}
 use Rattle.words.specs.Tests.{pick, among, either}
@@ -53,7 +53,8 @@ opposed : ℕ → Bool
 opposed k = pick (among k streamedKinds) (not (among k otherKinds)) (among k otherKinds)
 
 -- the types that have an identifier are all but 0 and 2
-sought-streamed : (kind identifier : ℕ) (t : List ℕ) → kind < 6 → pick (among kind streamedKinds) (declaredOf identifier t) (refused STREAM) ≡ soughtOf kind identifier t
+sought-streamed : (kind identifier : ℕ) (t : List ℕ) → kind < 6
+    → pick (among kind streamedKinds) (declaredOf identifier t) (refused STREAM) ≡ soughtOf kind identifier t
 unfolding opposed all soughtOf
 sought-streamed kind identifier t h =
     swapped (among kind streamedKinds) (among kind otherKinds) (leb (streamsOf t) (streamOf identifier t)) (refused STREAM) _ (all-at opposed 6 kind h refl)
@@ -82,7 +83,8 @@ dataLike : ℕ → Bool
 dataLike k = pick (eqb k 4) true (pick (among k otherKinds) true (among k (1 ∷ 3 ∷ 5 ∷ [])))
 
 -- a type other than 4 of which a stream is found
-sought-data : (kind identifier : ℕ) (t : List ℕ) (s : ℕ) → kind < 6 → (kind ≡ 4 → ⊥) → soughtOf kind identifier t ≡ accepted s → among kind (1 ∷ 3 ∷ 5 ∷ []) ≡ true
+sought-data : (kind identifier : ℕ) (t : List ℕ) (s : ℕ) → kind < 6 → (kind ≡ 4 → ⊥) → soughtOf kind identifier t ≡ accepted s
+    → among kind (1 ∷ 3 ∷ 5 ∷ []) ≡ true
 unfolding dataLike all soughtOf
 sought-data kind identifier t s h n e =
     let a = first-passed (streamList kind identifier t) _ s e .0 .0 in
@@ -91,7 +93,8 @@ sought-data kind identifier t s h n e =
 -- ---- an accepted packet, whose header is w
 
 -- words that pass both steps
-pub body-headed : (ws : List ℕ) → frontChecks ws ≡ accepted tt → bodyChecks (typeOf (getD ws 0 0)) (bodyOf (getD ws 0 0) ws) ≡ accepted tt → Headed (getD ws 0 0) ws
+pub body-headed : (ws : List ℕ) → frontChecks ws ≡ accepted tt → bodyChecks (typeOf (getD ws 0 0)) (bodyOf (getD ws 0 0) ws) ≡ accepted tt
+    → Headed (getD ws 0 0) ws
 body-headed ws f b = record { header = refl; reads = body-accepted ws f b }
 
 module _ (w : ℕ) (ws : List ℕ) (p : Headed w ws) where

@@ -22,7 +22,8 @@ unfolding playedBack
 played-back (Refused n) = refl
 played-back (Accepted h) = refl
 
-pub play-once : (t ws : List ℕ) {r s : Played} {after after′ : List ℕ} → Meets paper (playOf t ws) t r after → Meets paper (playOf t ws) t s after′ → (r ≡ s) × (after ≡ after′)
+pub play-once : (t ws : List ℕ) {r s : Played} {after after′ : List ℕ} → Meets paper (playOf t ws) t r after → Meets paper (playOf t ws) t s after′
+    → (r ≡ s) × (after ≡ after′)
 play-once t ws = meets-once paper playedBack played-back
 
 ranBack : Outcome Reached → Ran
@@ -35,5 +36,6 @@ ran-back (Run.Refused n) = refl
 ran-back (Run.Accepted r) = refl
 
 pub play-run-once : (t ws : List ℕ) (from : ℕ) (answers : List ℕ) {r s : Ran} {after after′ : List ℕ × List ℕ}
-    → Meets runPaper (runOf t ws from answers) (t, answers) r after → Meets runPaper (runOf t ws from answers) (t, answers) s after′ → (r ≡ s) × (after ≡ after′)
+    → Meets runPaper (runOf t ws from answers) (t, answers) r after → Meets runPaper (runOf t ws from answers) (t, answers) s after′
+    → (r ≡ s) × (after ≡ after′)
 play-run-once t ws from answers = meets-once runPaper ranBack ran-back

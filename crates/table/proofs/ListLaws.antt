@@ -72,7 +72,10 @@ module _ (t : List ℕ) (identifier s n : ℕ) (e : n ≡ streamsOf t) (before :
 
   pub stream-none : s ≡ n → n ≡ streamOf identifier t
   unfolding streamOf
-  stream-none i = rw i at (first-one (streamsOf t) s (λ u. eqb (declared t u) identifier) (record { most = omega arith; passes = λ g. absurd (omega arith); before = before }))
+  stream-none i =
+      rw i at
+      (first-one (streamsOf t) s (λ u. eqb (declared t u) identifier)
+      (record { most = omega arith; passes = λ g. absurd (omega arith); before = before }))
 
 -- what it is: one of the list where it is below S
 pub stream-is : (identifier : ℕ) (t : List ℕ) → First (streamsOf t) (λ s. eqb (declared t s) identifier) (streamOf identifier t)

@@ -38,7 +38,8 @@ fresh-length i = ap suc (length-replicate {A = ℕ} (recordWords - 1) 0)
 records-append : (xs ys : List ℕ) → freshRecords (xs ++ ys) ≡ freshRecords xs ++ freshRecords ys
 unfolding freshRecords
 records-append [] ys = refl
-records-append (x ∷ xs) ys = ap (λ (z : List ℕ). freshRecord x ++ z) (records-append xs ys) ∙ sym (append-assoc (freshRecord x) (freshRecords xs) (freshRecords ys))
+records-append (x ∷ xs) ys =
+    ap (λ (z : List ℕ). freshRecord x ++ z) (records-append xs ys) ∙ sym (append-assoc (freshRecord x) (freshRecords xs) (freshRecords ys))
 
 pub records-length : (ids : List ℕ) → length (freshRecords ids) ≡ recordWords * length ids
 unfolding freshRecords
@@ -115,7 +116,8 @@ module _ (ids t : List ℕ) where
   start-made last e h l =
       let o : 0 < length t = omega arith in
       let b : 0 < base (length ids) = omega arith in
-      meets-length {left = freshTable ids t} (rw (← list-next ids, e, le-ltb _ _ h)) (l ∙ rw (take-suc-set t 0 (length ids) o, drop-set-lt (base (length ids)) t 0 (length ids) b))
+      meets-length {left = freshTable ids t} (rw (← list-next ids, e, le-ltb _ _ h))
+      (l ∙ rw (take-suc-set t 0 (length ids) o, drop-set-lt (base (length ids)) t 0 (length ids) b))
 
   -- the list is short
   pub start-few : listGood (length ids) (spaced 0 1 ids) ≡ true → length ids ≤ 32
@@ -151,7 +153,8 @@ module _ (ids t : List ℕ) (g : listGood (length ids) (listed ids) ≡ true) (h
   pub fresh-whole : length (freshTable ids t) ≡ length t
   unfolding freshTable
   fresh-whole =
-      let e : length (freshRecords ids ++ drop (base (length ids)) t) ≡ recordWords * length ids + (length t - base (length ids)) = rw (length-append, records-length ids, length-drop) in
+      let e : length (freshRecords ids ++ drop (base (length ids)) t) ≡ recordWords * length ids + (length t - base (length ids)) =
+      rw (length-append, records-length ids, length-drop) in
       omega (arith, e)
 
   pub fresh-streams : streamsOf (freshTable ids t) ≡ length ids
@@ -189,4 +192,10 @@ start-well-made ids t d e =
     let g : listGood (length ids) (listed ids) ≡ true = not-false _ (a .0 .0) in
     let h : base (length ids) ≤ length t = ltb-false _ _ (a .0 .1 .0) in
     rw (← accepted-same (a .1))
-    (record { well = fresh-well ids t g h; size = rw (fresh-streams ids t g h); streams = fresh-streams ids t g h; list = fresh-list ids t g h; past = fresh-past ids t g h })
+    (record {
+      well = fresh-well ids t g h;
+      size = rw (fresh-streams ids t g h);
+      streams = fresh-streams ids t g h;
+      list = fresh-list ids t g h;
+      past = fresh-past ids t g h;
+    })

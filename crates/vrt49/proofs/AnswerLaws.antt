@@ -1,17 +1,18 @@
--- What a call for C gives, by its answer. The idea: there are three ways to return. The buffer for the values is too short (`gives-room`); the call was refused,
--- and nothing is stored (`gives-refused`); it was accepted, and its values are stored (`gives-values`). Each is one law over plain variables, and one more for a
--- call that is lent other buffers beside (`beside-..`).
-use mathlib.Core.Path.{_≡_, refl, sym, ap, _∙_}
-use mathlib.Core.List.{List, _++_}
+-- What a call for C gives, by its answer. The idea: there are three ways to return. The buffer for the values is too short (`gives-room`); the call was
+-- refused, and nothing is stored (`gives-refused`); it was accepted, and its values are stored (`gives-values`). Each is one law over plain variables, and one
+-- more for a call that is lent other buffers beside (`beside-..`).
+use mathlib.Core.Path.{_≡_, refl, sym, ap, subst, _∙_}
+use mathlib.Core.List.{List, [], _∷_, _++_}
 use Prim.Native.Nat.{ℕ, _+_, _^_, _≤_, _<_}
 use native.Mathlib.Nat.{zero-add}
 use native.Mathlib.Omega.{arith}
 use borrow.Author.Tests.{lt-ltb, le-ltb}
-use lib.ListN.{length, drop}
+use lib.ListN.{length, drop, set}
 use lib.Seq.{sets, sets-eq}
 use Rattle.words.specs.Numbers.{ROOM}
 use Rattle.words.specs.Part.{part, put}
 use Rattle.words.specs.declared.Length.{Length}
+use Rattle.words.specs.declared.Length.the-variants.{Accepted, Refused}
 use Rattle.words.specs.Outcome.{Outcome, refused, accepted, numberOf, measured, Done, saidOf, leftOf, Meets}
 use Rattle.words.proofs.MeetLaws.{said-refused, meets-accepted}
 use Rattle.words.proofs.PartLaws.{part-whole}
@@ -27,7 +28,8 @@ module _ {A B : Type 0} (n : ℕ) (values : A → List B) (want : Outcome A) (an
   unfolding answering
   gives-refused k h e = rw (le-ltb (length answer) n h, e) (record { number = refl; buffers = refl })
 
-  pub gives-values : (a : A) (after : List B) → n ≤ length answer → want ≡ accepted a → after ≡ front (values a) answer → Gives (answering n values want answer) answer 0 after
+  pub gives-values : (a : A) (after : List B) → n ≤ length answer → want ≡ accepted a → after ≡ front (values a) answer
+      → Gives (answering n values want answer) answer 0 after
   unfolding answering
   gives-values a after h e f = rw (le-ltb (length answer) n h, e) (record { number = refl; buffers = f })
 
@@ -61,7 +63,8 @@ module _ {A B L : Type 0} (n : ℕ) (values : A → List B) (want : Outcome (Don
         let f = said-refused want k (sym (m .answer) ∙ e) in
         rw (m .buffer, le-ltb (length answer) n h, f) (record { number = refl; buffers = refl })
 
-    pub beside-values : (a : A) (after : List B) → paper r ≡ accepted a → after ≡ front (values a) answer → Gives (answeringBeside n values want answer) (before, answer) 0 (left, after)
+    pub beside-values : (a : A) (after : List B) → paper r ≡ accepted a → after ≡ front (values a) answer
+        → Gives (answeringBeside n values want answer) (before, answer) 0 (left, after)
     beside-values a after e g = let t = meets-accepted m e in stored-beside (t .done) a left after (t .wants) (t .says) (m .buffer) h g
 
 -- ---- a length that is given on
@@ -78,8 +81,12 @@ pub small-beside : {L : Type 0} {want : Outcome (Done ℕ L)} {before left : L} 
     → ((d : Done ℕ L) → want ≡ accepted d → d .says < 2 ^ 32) → Small (measured r)
 small-beside m f = small-length _ (λ n e. let t = meets-accepted m e in rw (← t .says) (f (t .done) (t .wants)))
 
+pub small-told : (r : Length) (n : ℕ) → Small (measured r) → r ≡ Accepted n → n < 2 ^ 32
+small-told r n s e = subst (λ (x : Length). Small (measured x)) e s
+
 -- it is stored, or the number of the refusal is given
-stored-length : {L : Type 0} (want : Outcome (Done ℕ L)) (answer : List ℕ) (k : ℕ) (before left : L) (after : List ℕ) → 1 ≤ length answer → left ≡ leftOf want before
+stored-length : {L : Type 0} (want : Outcome (Done ℕ L)) (answer : List ℕ) (k : ℕ) (before left : L) (after : List ℕ) → 1 ≤ length answer
+    → left ≡ leftOf want before
     → Gives (lengthStored (saidOf want) answer) answer k after → Gives (answeringBeside 1 oneValue want answer) (before, answer) k (left, after)
 unfolding answeringBeside lengthStored
 stored-length (refused n) answer k before left after h e g = rw (le-ltb (length answer) 1 h, e, g .buffers) (record { number = g .number; buffers = refl })
@@ -107,3 +114,13 @@ unfolding front
 stored-front values answer h =
     let g : 0 + length values ≤ length answer = omega arith in
     sets-eq values answer 0 g ∙ ap (λ (n : ℕ). values ++ drop n answer) (zero-add (length values))
+
+-- a length, or the number of a refusal
+module _ (r : Length) (n : ℕ) (answer : List ℕ) where
+  pub stores-refused : r ≡ Refused n → Gives (lengthStored (measured r) answer) answer n answer
+  unfolding lengthStored
+  stores-refused e = rw e (record { number = refl; buffers = refl })
+
+  pub stores-length : 1 ≤ length answer → r ≡ Accepted n → Gives (lengthStored (measured r) answer) answer 0 (set answer 0 n)
+  unfolding lengthStored
+  stores-length h e = rw e (record { number = refl; buffers = stored-front (n ∷ []) answer h })

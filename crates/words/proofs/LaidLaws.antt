@@ -47,12 +47,14 @@ pub laid-length : {l m : List ℕ} {at i : ℕ} {a : List ℕ} → Laid l at a i
 laid-length p = ap length (p .kept) ∙ simp length-sets
 
 -- what a callee that was lent the part from at on says of the part, said of the whole
-pub lend : {l m ws : List ℕ} {next : ℕ} (at : ℕ) → at ≤ length l → Laid (midOf at (length l - at) l) 0 ws next m → Laid l at ws (at + next) (putMid at (length l - at) l m)
+pub lend : {l m ws : List ℕ} {next : ℕ} (at : ℕ) → at ≤ length l → Laid (midOf at (length l - at) l) 0 ws next m
+    → Laid l at ws (at + next) (putMid at (length l - at) l m)
 lend {l} {m} {ws} {next} at h p = record {
   past = ap (λ (x : ℕ). at + x) (p .past ∙ zero-add (length ws));
   kept =
       ap (λ (x : List ℕ). take at l ++ (m ++ x)) (drop-of-length-le (drop at l) {i = length l - at} (simp length-drop (omega arith)))
-      ∙ ap (λ (x : List ℕ). take at l ++ x) (append-nil m ∙ p .kept ∙ ap (λ (x : List ℕ). sets x 0 ws) (take-all (length l - at) (drop at l) (simp length-drop (omega arith))))
+      ∙ ap (λ (x : List ℕ). take at l ++ x)
+      (append-nil m ∙ p .kept ∙ ap (λ (x : List ℕ). sets x 0 ws) (take-all (length l - at) (drop at l) (simp length-drop (omega arith))))
       ∙ sets-part ws l at 0 h
       ∙ ap (λ (x : ℕ). sets l x ws) (add-zero at);
 }

@@ -33,5 +33,6 @@ module _ {L : Type 0} {want : Outcome (Done ℕ L)} {before : L} where
   pub meets-refused : {n : ℕ} → want ≡ refused n → Meets measured want before (Refused n) before
   meets-refused e = record { answer = rw e; buffer = rw e }
 
-  pub meets-length : {n : ℕ} {left after : L} → want ≡ accepted (record { says = n; leaves = left }) → after ≡ left → Meets measured want before (Accepted n) after
+  pub meets-length : {n : ℕ} {left after : L} → want ≡ accepted (record { says = n; leaves = left }) → after ≡ left
+      → Meets measured want before (Accepted n) after
   meets-length e f = record { answer = rw e; buffer = f ∙ rw e }

@@ -5,7 +5,8 @@ use mathlib.Core.Bool.{Bool, true, false}
 use mathlib.Core.Logic.{⊎-elim}
 use mathlib.Core.List.{List, [], _∷_, _++_}
 use Prim.Native.Nat.{ℕ, zero, suc, _+_, _-_, _*_, _/_, _%_, _^_, _≤_, _<_, zero-le}
-use native.Mathlib.Nat.{pow-suc, le-of-lt, lt-of-lt-of-le, div-eq-of-lt, div-eq-of-lt-le, add-mul-div-right, add-mul-mod-self-right, mul-assoc, mul-comm, mod-lt, mod-eq-of-lt, mod-one, one-mul, lt-of-le-of-lt, le-of-suc-le-suc, add-comm, zero-add}
+use native.Mathlib.Nat.{pow-suc, le-of-lt, lt-of-lt-of-le, div-eq-of-lt, div-eq-of-lt-le, add-mul-div-right, add-mul-mod-self-right, mul-assoc}
+use native.Mathlib.Nat.{mul-comm, mod-lt, mod-eq-of-lt, mod-one, one-mul, lt-of-le-of-lt, le-of-suc-le-suc, add-comm, zero-add}
 use native.Mathlib.Numerals.{one-add}
 use native.Mathlib.Decide.{le-ind}
 use native.Mathlib.Omega.{arith}
@@ -126,7 +127,8 @@ module _ (k n : ℕ) (p : 0 < n) (h : n < 2 ^ suc k) where
   pub bits-cleared : (bitsOf (suc k) n ≡ place ∷ bitsOf (suc k) (n - shifted)) × (place < suc k) × (n - shifted < n)
   bits-cleared =
       let t = leading-top (suc k) n p h in
-      (rw (shift-top, place-top) (bits-top (suc k) (t .0) n (omega (arith, t .1)) (t .2) (t .3)), omega arith, rw shift-top (omega (arith, t .2, pow-pos (t .0))))
+      let first = bits-top (suc k) (t .0) n (omega (arith, t .1)) (t .2) (t .3) in
+      (rw (shift-top, place-top) first, omega arith, rw shift-top (omega (arith, t .2, pow-pos (t .0))))
 
 -- ---- how many bits are set
 digit : (d k : ℕ) (l : List ℕ) → d < 2 → length (pick (eqb d 1) (k ∷ l) l) ≡ ones d + length l
@@ -177,7 +179,8 @@ above-agree zero b n m e = refl
 above-agree (suc k) b n m e =
     ⊎-elim (λ (h : k ≤ b). above-none b (suc k) n (omega arith) ∙ sym (above-none b (suc k) m (omega arith)))
     (λ (h : b < k).
-    rw (above-kept (has n k) b k (bitsOf k n) h, above-kept (has m k) b k (bitsOf k m) h, e k h (omega arith), above-agree k b n m (λ x g l. e x g (omega arith))))
+    let below = above-agree k b n m (λ x g l. e x g (omega arith)) in
+    rw (above-kept (has n k) b k (bitsOf k n) h, above-kept (has m k) b k (bitsOf k m) h, e k h (omega arith), below))
     (le-or-lt k b)
 
 -- a set bit stands in the list after those above it and before those below it

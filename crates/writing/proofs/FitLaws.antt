@@ -14,24 +14,8 @@ use Rattle.words.proofs.RefusalLaws.{first-passed, none-given, after-first, fir
 use Rattle.packet.specs.declared.Parts.{Parts}
 use Rattle.packet.specs.Parts.{requiredOf}
 use Rattle.packet.specs.Read.{timeOver, bodyList, bodyChecks}
-use Rattle.writing.specs.Write.{
-  headerWord,
-  sizeFor,
-  codesFit,
-  flagsFit,
-  classFits,
-  partsFit,
-  partsList,
-  measureList,
-  roomList,
-  writeList,
-  partsChecks,
-  measureChecks,
-  roomChecks,
-  writeChecks,
-  writtenDone,
-  writeOf,
-}
+use Rattle.writing.specs.Write.{headerWord, sizeFor, codesFit, flagsFit, classFits, partsFit, partsList, measureList, roomList, writeList, partsChecks}
+use Rattle.writing.specs.Write.{measureChecks, roomChecks, writeChecks, writtenDone, writeOf}
 
 -- the numbers of parts that fit
 pub record Fits (p : Parts) : Type 0 where

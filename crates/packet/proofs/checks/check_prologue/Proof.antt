@@ -18,14 +18,16 @@ unfolding prologueChecks
 returns-3 c =
     let at-class-high : tie.After-class-high = search in
     let at-tsf-of : tie.After-tsf-of = search in
-    search (cases, ← at-class-high .class-high .ensures, ← at-tsf-of .tsf-of .ensures, ← c .before .before .fraction-of .ensures, ← c .before .time-over .ensures, c .if3 .taken)
+    let over = c .before .time-over .ensures in
+    search (cases, ← at-class-high .class-high .ensures, ← at-tsf-of .tsf-of .ensures, ← c .before .before .fraction-of .ensures, ← over, c .if3 .taken)
 
 returns-4 : tie.Need-returns-4
 unfolding prologueChecks
 returns-4 c =
     let at-class-high : tie.After-class-high = search in
     let at-tsf-of : tie.After-tsf-of = search in
-    search (cases, ← at-class-high .class-high .ensures, ← at-tsf-of .tsf-of .ensures, ← c .before .before .fraction-of .ensures, ← c .before .time-over .ensures, c .if3 .left)
+    let over = c .before .time-over .ensures in
+    search (cases, ← at-class-high .class-high .ensures, ← at-tsf-of .tsf-of .ensures, ← c .before .before .fraction-of .ensures, ← over, c .if3 .left)
 
 pub check-prologue-spec : {M : Type 1} → statement M
 check-prologue-spec =

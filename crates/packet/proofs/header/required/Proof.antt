@@ -8,7 +8,9 @@ returns : tie.Need-returns
 unfolding requiredOf
 returns c =
     let t = c .before .before in
-    (rw (c .when-so2 .ensures .0, c .before .type-of .ensures, t .when-so .ensures .0, t .before .has-trailer .ensures, t .before .before .body-at .ensures .0), search needs)
+    let at-body-at : tie.After-body-at = search in
+    let parts = at-body-at .body-at .ensures .0 in
+    (rw (c .when-so2 .ensures .0, c .before .type-of .ensures, t .when-so .ensures .0, t .before .has-trailer .ensures, parts), search needs)
 
 pub required-spec : {M : Type 1} → statement M
 required-spec =

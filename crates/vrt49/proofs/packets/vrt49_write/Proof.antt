@@ -11,4 +11,5 @@ unfolding writeGives
 vrt49-write-spec =
     tie.close
     (tie.spec
-    (λ c. search beside-room) (λ c κs. search needs) (λ c κs. search (needs, written-small)) (λ c. search needs) (λ c. search needs) (λ c. search length-beside))
+    (λ c. search beside-room) (λ c κs. search needs) (λ c κs. search (needs, written-small)) (λ c. search needs) (λ c. search needs)
+    (λ c. search length-beside))
