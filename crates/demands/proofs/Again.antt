@@ -8,11 +8,11 @@ use Prim.Native.Nat.{ℕ, zero, suc, _+_, _-_, _*_, _/_, _%_, _^_, _≤_, _<_}
 use native.Mathlib.Nat.{add-zero, mod-lt, div-one, le-refl}
 use native.Mathlib.Numerals.{add-one}
 use native.Mathlib.Omega.{arith}
-use borrow.Author.Tests.{eqb-true, not-false, ltb-false, lt-ltb, le-ltb, ne-eqb}
+use borrow.Author.Tests.{eqb-true, not-false, ltb-false, lt-ltb, le-ltb}
 use lib.Dec.{eqb, ltb, lit<}
 use lib.ListN.{length, getD, take, drop}
 use lib.Seq.{take-suc, take-add, append-snoc}
-use Rattle.words.specs.Tests.{pick, when, both}
+use Rattle.words.specs.Tests.{pick, when}
 use Rattle.words.specs.Word.{bits, has, highFirst, join, total}
 use Rattle.words.specs.Part.{part}
 use Rattle.words.specs.Outcome.{accepted}

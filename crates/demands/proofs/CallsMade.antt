@@ -8,7 +8,6 @@ use Rattle.words.specs.declared.Length.{Length}
 use Rattle.words.specs.Outcome.{accepted, measured, saidOf, Meets}
 use Rattle.words.proofs.MeetLaws.{meets-accepted}
 use Rattle.table.specs.Layout.{base}
-use Rattle.table.specs.Start.{startOf}
 use Rattle.play.specs.declared.Played.{Played}
 use Rattle.play.specs.Play.{paper}
 use Rattle.page.specs.Save.{saveOf}

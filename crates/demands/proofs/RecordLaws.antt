@@ -104,7 +104,8 @@ module _ (ids : List ℕ) (a : Arrival) (f : Fine ids a) (r : List ℕ) (l : len
   held-after g b =
       ⊎-elim
       (λ o.
-      let bit : has (heldOf next) b ≡ pick (eqb (a .kind) 4) (pick (has (heldOf r) b) true (both (has (indicatorOf (a .body)) b) true)) (has (heldOf r) b) =
+      let held : Bool = pick (eqb (a .kind) 4) (pick (has (heldOf r) b) true (both (has (indicatorOf (a .body)) b) true)) (has (heldOf r) b) in
+      let bit : has (heldOf next) b ≡ held =
       ap (λ (n : ℕ). has n b) (after-held (a .kind) (a .count) (a .body) r l (f .body)) ∙ pick-has (eqb (a .kind) 4) _ (heldOf r) b
       ∙ ap (λ (t : Bool). pick (eqb (a .kind) 4) t (has (heldOf r) b))
       (held-bit (indicatorOf (a .body)) (heldOf r) b ∙ ap (λ (t : Bool). pick (has (heldOf r) b) true (both (has (indicatorOf (a .body)) b) t)) o) in

@@ -7,7 +7,7 @@ use Rattle.words.specs.All.{all}
 use Rattle.fields.specs.Sizes.{sizeOf, asciiWords, listWords, wordsOf}
 use Rattle.fields.specs.Format.{codeKnown, codeFits, formatOk}
 use Rattle.fields.specs.Rules.{notNegative, upperHalfZero, deviceRule, stateRule, formatRule, asciiRule, listsRule, ruleOf}
-use Rattle.fields.specs.Layout.{spanOf, obeyed, bodyWords, lowBitsSet, otherLength, ruleBroken, contextOf}
+use Rattle.fields.specs.Layout.{spanOf, obeyed, bodyWords, lowBitsSet, otherLength, ruleBroken}
 use Rattle.packet.specs.Header.{trailed, tsmOf, reservedOf}
 use Rattle.packet.specs.Parts.{streamed, hasSeconds, hasFraction, classAt, secondsAt, fractionAt, bodyAt, requiredOf, bodyLength, wordIf, classHigh}
 use Rattle.packet.specs.Parts.{classLow, fractionOf, partsOf, bodyOf, packetOf}
@@ -18,8 +18,8 @@ use Rattle.bitstream.specs.Filled.{filled}
 use Rattle.payload.specs.Format.{wideProcessing, formatBad, carriedBits, packingOf}
 use Rattle.payload.specs.Count.{unitOf, countBad, wordsFor}
 use Rattle.payload.specs.Field.{fitting}
-use Rattle.payload.specs.Pack.{packCheck, packOf}
-use Rattle.payload.specs.Unpack.{unpackCheck, unpackOf}
+use Rattle.payload.specs.Pack.{packOf}
+use Rattle.payload.specs.Unpack.{unpackOf}
 use Rattle.payload.specs.Signs.{twosComplement, signedOf}
 use Rattle.record.specs.Counts.{missedOf}
 use Rattle.panel.specs.Values.{unitsOf, share, over, lowerHalf}
@@ -28,5 +28,11 @@ use Rattle.demands.specs.Samples.{Hold, bench}
 use Rattle.demands.proofs.Listing.{_and_}
 
 pub samples : Hold bench
-unfolding bench part bitsOf above all sizeOf asciiWords listWords wordsOf codeKnown codeFits formatOk notNegative upperHalfZero deviceRule stateRule formatRule asciiRule listsRule ruleOf spanOf obeyed bodyWords lowBitsSet otherLength ruleBroken contextOf trailed tsmOf reservedOf streamed hasSeconds hasFraction classAt secondsAt fractionAt bodyAt requiredOf bodyLength wordIf classHigh classLow fractionOf partsOf bodyOf packetOf headerChecks sizeChecks timeOver prologueChecks bodyChecks readOf bit span carried fieldOf wordOf needed filled wideProcessing formatBad carriedBits packingOf unitOf countBad wordsFor fitting packCheck packOf unpackCheck unpackOf twosComplement signedOf missedOf unitsOf lowerHalf share over isFrequency shownOf trailingZeros
-samples = refl and refl and refl and refl and refl and refl and refl and refl and refl and refl and refl and refl and refl and refl and refl and refl and refl and refl and refl and refl and refl and tt
+unfolding bench part bitsOf above all sizeOf asciiWords listWords wordsOf codeKnown codeFits formatOk notNegative upperHalfZero deviceRule stateRule formatRule
+    asciiRule listsRule ruleOf spanOf obeyed bodyWords lowBitsSet otherLength ruleBroken trailed tsmOf reservedOf streamed hasSeconds hasFraction classAt
+    secondsAt fractionAt bodyAt requiredOf bodyLength wordIf classHigh classLow fractionOf partsOf bodyOf packetOf timeOver readOf bit span carried fieldOf
+    wordOf needed filled wideProcessing formatBad carriedBits packingOf unitOf countBad wordsFor fitting packOf unpackOf twosComplement signedOf missedOf
+    unitsOf lowerHalf share over isFrequency shownOf trailingZeros
+samples =
+    refl and refl and refl and refl and refl and refl and refl and refl and refl and refl and refl and refl and refl and refl and refl and refl and refl and
+    refl and refl and refl and refl and tt

@@ -13,7 +13,7 @@ use Rattle.words.specs.All.{all, firstOf}
 use Rattle.words.specs.Outcome.{Outcome, refused, accepted, Done, saidOf, leftOf}
 use Rattle.fields.specs.Sizes.{sizeOf, wordsOf}
 use Rattle.fields.specs.Rules.{ruleOf}
-use Rattle.fields.specs.Layout.{spanOf, obeyed, bodyWords, placeOf, fieldOf, lowBitsSet, otherLength, ruleBroken, contextOf}
+use Rattle.fields.specs.Layout.{spanOf, obeyed, bodyWords, placeOf, fieldOf, lowBitsSet, otherLength, ruleBroken}
 use Rattle.packet.specs.declared.Packet.{Packet}
 use Rattle.packet.specs.Header.{trailed, tsmOf, reservedOf}
 use Rattle.packet.specs.Parts.{streamed, hasSeconds, hasFraction, classAt, secondsAt, fractionAt, bodyAt, requiredOf, bodyLength, wordIf, classHigh}
@@ -59,7 +59,9 @@ record Computed : Type 0 where
   field-second : fieldOf 30 (0x40000000 ∷ 2 ∷ []) ≡ 2 ∷ []
 
 computed : Computed
-unfolding heardBy arrivalOf placeIn firstOf trailed tsmOf reservedOf streamed hasSeconds hasFraction classAt secondsAt fractionAt bodyAt requiredOf bodyLength wordIf classHigh classLow fractionOf partsOf bodyOf packetOf part headerChecks sizeChecks timeOver prologueChecks bodyChecks readOf contextOf lowBitsSet otherLength ruleBroken bodyWords spanOf obeyed ruleOf wordsOf sizeOf bitsOf above placeOf fieldOf
+unfolding heardBy arrivalOf placeIn firstOf trailed tsmOf reservedOf streamed hasSeconds hasFraction classAt secondsAt fractionAt bodyAt requiredOf bodyLength
+    wordIf classHigh classLow fractionOf partsOf bodyOf packetOf part timeOver readOf lowBitsSet otherLength ruleBroken bodyWords spanOf obeyed ruleOf wordsOf
+    sizeOf bitsOf above placeOf fieldOf
 computed = record {
   read3 = (_, refl, refl);
   read4 = (_, refl, refl);

@@ -4,27 +4,8 @@ use mathlib.Core.Path.{_≡_}
 use Prim.Native.Nat.{ℕ}
 use mathlib.Core.List.{List, [], _∷_, _++_}
 use lib.ListN.{length, getD, drop}
-use Rattle.words.specs.Numbers.{
-  EMPTY,
-  TYPE,
-  BITS,
-  SHORT,
-  CUT,
-  CLASS,
-  TIME,
-  INDICATOR,
-  LAYOUT,
-  FIELD,
-  STREAM,
-  LIST,
-  ROOM,
-  VALUE,
-  SIZE,
-  FORMAT,
-  COUNT,
-  TABLE,
-  PAGE,
-}
+use Rattle.words.specs.Numbers.{EMPTY, TYPE, BITS, SHORT, CUT, CLASS, TIME, INDICATOR, LAYOUT, FIELD}
+use Rattle.words.specs.Numbers.{STREAM, LIST, ROOM, VALUE, SIZE, FORMAT, COUNT, TABLE, PAGE}
 use Rattle.words.specs.Word.{join}
 use Rattle.words.specs.Outcome.{Outcome, accepted}
 use Rattle.words.specs.Refusals.{Refusals, firstGiven, numbersIn}

@@ -94,6 +94,8 @@ module _ (n : ℕ) (b : List ℕ) (e : n ≡ heldOf b) (l : length b ≡ pageBod
         → take headWords rec ++ (last ++ drop (recordWords - headWords) (drop headWords rec)) ≡ recordOf b
     unfolding recordOf
     filled-record last g =
+        let blank : List ℕ = replicate slotWords 0 in
+        let slots : List ℕ = refilled (bitAnd n heldMask) headWords b blank in
         lent-to headWords recordWords slotWords (refilled (bitAnd n heldMask) headWords b) last rec refl g
         ∙ ap₂ (λ (s r : List ℕ). put headWords slotWords (refilled (bitAnd n heldMask) headWords b s) r)
         (ap (part headWords slotWords) first-put ∙ slots-blank) (first-put ∙ begun-is)

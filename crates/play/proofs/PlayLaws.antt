@@ -1,7 +1,7 @@
 -- Playing a packet. The idea: the record of the packet's stream is lent, so the table afterwards is `withRecord` of the record afterwards (`lent-leaves`), and
 -- that is what hearing the packet leaves (`heard-data`, `heard-context`).
 use mathlib.Core.Path.{_≡_, refl, sym, ap, _∙_}
-use mathlib.Core.Bool.{true, false, not}
+use mathlib.Core.Bool.{true, false}
 use mathlib.Core.List.{List, [], _++_}
 use Prim.Native.Nat.{ℕ, _+_, _-_, _≤_, _<_}
 use native.Mathlib.Nat.{le-trans}

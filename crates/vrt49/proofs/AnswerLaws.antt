@@ -9,11 +9,12 @@ use Prim.Native.Nat.{ℕ, _+_, _^_, _≤_, _<_}
 use native.Mathlib.Nat.{zero-add}
 use native.Mathlib.Omega.{arith}
 use borrow.Author.Tests.{lt-ltb, le-ltb}
-use lib.ListN.{length, drop}
+use lib.ListN.{length, drop, set}
 use lib.Seq.{sets, sets-eq}
 use Rattle.words.specs.Numbers.{ROOM}
 use Rattle.words.specs.Part.{part, put}
 use Rattle.words.specs.declared.Length.{Length}
+use Rattle.words.specs.declared.Length.the-variants.{Accepted, Refused}
 use Rattle.words.specs.Outcome.{Outcome, refused, accepted, numberOf, measured, Done, saidOf, leftOf, Meets}
 use Rattle.words.proofs.MeetLaws.{said-refused, meets-accepted}
 use Rattle.words.proofs.PartLaws.{part-whole}
@@ -82,6 +83,9 @@ pub small-beside : {L : Type 0} {want : Outcome (Done ℕ L)} {before left : L} 
     → ((d : Done ℕ L) → want ≡ accepted d → d .says < 2 ^ 32) → Small (measured r)
 small-beside m f = small-length _ (λ n e. let t = meets-accepted m e in rw (← t .says) (f (t .done) (t .wants)))
 
+pub small-told : (r : Length) (n : ℕ) → Small (measured r) → r ≡ Accepted n → n < 2 ^ 32
+small-told r n s e = subst (λ (x : Length). Small (measured x)) e s
+
 -- it is stored, or the number of the refusal is given
 stored-length : {L : Type 0} (want : Outcome (Done ℕ L)) (answer : List ℕ) (k : ℕ) (before left : L) (after : List ℕ) → 1 ≤ length answer
     → left ≡ leftOf want before
@@ -112,3 +116,13 @@ unfolding front
 stored-front values answer h =
     let g : 0 + length values ≤ length answer = omega arith in
     sets-eq values answer 0 g ∙ ap (λ (n : ℕ). values ++ drop n answer) (zero-add (length values))
+
+-- a length, or the number of a refusal
+module _ (r : Length) (n : ℕ) (answer : List ℕ) where
+  pub stores-refused : r ≡ Refused n → Gives (lengthStored (measured r) answer) answer n answer
+  unfolding lengthStored
+  stores-refused e = rw e (record { number = refl; buffers = refl })
+
+  pub stores-length : 1 ≤ length answer → r ≡ Accepted n → Gives (lengthStored (measured r) answer) answer 0 (set answer 0 n)
+  unfolding lengthStored
+  stores-length h e = rw e (record { number = refl; buffers = stored-front (n ∷ []) answer h })

@@ -10,7 +10,7 @@ use lib.ListN.{length, getD, length-take, length-drop}
 use Rattle.words.specs.Tests.{pick}
 use Rattle.words.specs.Part.{part}
 use Rattle.words.specs.declared.Length.{Length}
-use Rattle.words.specs.Outcome.{Outcome, accepted, measured, Done, Meets}
+use Rattle.words.specs.Outcome.{accepted, measured, Done, Meets}
 use Rattle.words.proofs.Cases.{both-left, accepted-same}
 use Rattle.words.proofs.RefusalLaws.{first-passed, either-passed}
 use Rattle.words.proofs.MeetLaws.{meets-accepted}
@@ -28,7 +28,7 @@ use Rattle.payload.proofs.FormatLaws.{field-most, carry-most, count-few}
 use Rattle.fields.specs.Sizes.{sizeOf}
 use Rattle.record.specs.Held.{slotAt}
 use Rattle.record.specs.Layout.{headWords, slotWords, slotIn, slotsOf, slotOf}
-use Rattle.table.specs.Layout.{streamsOf, base, recordAt}
+use Rattle.table.specs.Layout.{streamsOf, recordAt}
 use Rattle.table.specs.Start.{startOf}
 use Rattle.table.proofs.WellLaws.{well-few}
 use Rattle.table.proofs.StartLaws.{start-well-made}
