@@ -22,11 +22,11 @@ use Rattle.words.proofs.WordLaws.{fieldsFrom, join-split, split-from}
 use Rattle.packet.specs.declared.Parts.{Parts}
 use Rattle.packet.specs.declared.Packet.{Packet}
 use Rattle.packet.specs.Header.{typeOf, classed, trailed, tsmOf, reservedOf, tsiOf, tsfOf, countOf, sizeOf}
-use Rattle.packet.specs.Parts.{streamed, hasSeconds, hasFraction, classAt, secondsAt, fractionAt, bodyAt, requiredOf, bodyLength, wordIf, classHigh}
-use Rattle.packet.specs.Parts.{classLow, fractionOf, partsOf, bodyOf, packetOf}
+use Rattle.packet.specs.Parts.{streamed, hasSeconds, hasFraction, classAt, secondsAt, fractionAt, bodyAt, requiredOf, bodyLength, wordIf, classHigh, classLow}
+use Rattle.packet.specs.Parts.{fractionOf, partsOf, bodyOf, packetOf}
 use Rattle.packet.specs.Read.{headerList, prologueList, headerChecks, timeOver, prologueChecks, bodyChecks, readOf}
-use Rattle.writing.specs.Write.{bit, headerWidths, headerWord, sizeFor, given, classWord, headWords, classWords, timeWords, prologueWords}
-use Rattle.writing.specs.Write.{trailerWords, packetWords, codesFit, flagsFit, classFits, partsFit, writeList, partsChecks, measureChecks, roomChecks, writeChecks, writeOf}
+use Rattle.writing.specs.Write.{bit, headerWidths, headerWord, sizeFor, given, classWord, headWords, classWords, timeWords, prologueWords, trailerWords}
+use Rattle.writing.specs.Write.{packetWords, codesFit, flagsFit, classFits, partsFit, writeList, partsChecks, measureChecks, roomChecks, writeChecks, writeOf}
 use Rattle.packet.proofs.RoomLaws.{Room, room}
 use Rattle.packet.proofs.ReadLaws.{Passed, sized, read-accepts}
 use Rattle.writing.proofs.FitLaws.{parts-fit, nothing-refused}
@@ -54,8 +54,8 @@ header-passed w e =
 pub header-again : (w : ℕ) (ws : List ℕ) → w < 2 ^ 32 → reservedOf w ≡ 0 → headerWord (partsOf w ws) (sizeOf w) ≡ w
 unfolding headerWord partsOf reservedOf trailed tsmOf total
 header-again w ws h e =
-    let f = flags-again (ltb (typeOf w) 4) (w / 2 ^ 26 % 2) (w / 2 ^ 25 % 2) (w / 2 ^ 24 % 2) (mod-lt _ (lit< tt)) (mod-lt _ (lit< tt))
-    (rw (two-bits w 24, two-bits w 25) at e) in
+    let clear = rw (two-bits w 24, two-bits w 25) at e in
+    let f = flags-again (ltb (typeOf w) 4) (w / 2 ^ 26 % 2) (w / 2 ^ 25 % 2) (w / 2 ^ 24 % 2) (mod-lt _ (lit< tt)) (mod-lt _ (lit< tt)) clear in
     let c : bit (classed w) ≡ w / 2 ^ 27 % 2 = bit-again (w / 2 ^ 27 % 2) (mod-lt _ (lit< tt)) in
     let size : sizeOf w ≡ w / 2 ^ 0 % 2 ^ 16 = rw (div-one w) in
     let same : sizeOf w ∷ countOf w ∷ tsfOf w ∷ tsiOf w ∷ bit (tsmOf w) ∷ 0 ∷ bit (trailed w) ∷ bit (classed w) ∷ typeOf w ∷ [] ≡ fieldsFrom 0 headerWidths w =
@@ -112,23 +112,20 @@ flags-read false t m = refl
 
 class-read : (t : Bool) (high low : ℕ) → classFits t (bits 23 0 high) (bits 31 16 low) (bits 15 0 low) ≡ true
 unfolding classFits
-class-read true high low = rw (
-  lt-ltb (bits 23 0 high) (2 ^ 24) (mod-lt _ (lit< tt)),
-  lt-ltb (bits 31 16 low) (2 ^ 16) (mod-lt _ (lit< tt)),
-  lt-ltb (bits 15 0 low) (2 ^ 16) (mod-lt _ (lit< tt)),
-)
+class-read true high low =
+    let oui = lt-ltb (bits 23 0 high) (2 ^ 24) (mod-lt _ (lit< tt)) in
+    let information = lt-ltb (bits 31 16 low) (2 ^ 16) (mod-lt _ (lit< tt)) in
+    let packet = lt-ltb (bits 15 0 low) (2 ^ 16) (mod-lt _ (lit< tt)) in
+    rw (oui, information, packet)
 class-read false high low = refl
 
 pub parts-read : (w : ℕ) (ws : List ℕ) → partsFit (partsOf w ws) ≡ true
 unfolding partsFit partsOf codesFit flagsFit trailed tsmOf
 parts-read w ws =
-    rw (
-      lt-ltb (tsiOf w) 4 (mod-lt _ (lit< tt)),
-      lt-ltb (tsfOf w) 4 (mod-lt _ (lit< tt)),
-      lt-ltb (countOf w) 16 (mod-lt _ (lit< tt)),
-      flags-read (ltb (typeOf w) 4) (has w 26) (has w 24),
-    )
-    (class-read (classed w) (classHigh w ws) (classLow w ws))
+    let tsi = lt-ltb (tsiOf w) 4 (mod-lt _ (lit< tt)) in
+    let tsf = lt-ltb (tsfOf w) 4 (mod-lt _ (lit< tt)) in
+    let count = lt-ltb (countOf w) 16 (mod-lt _ (lit< tt)) in
+    rw (tsi, tsf, count, flags-read (ltb (typeOf w) 4) (has w 26) (has w 24)) (class-read (classed w) (classHigh w ws) (classLow w ws))
 
 -- ---- the words of an accepted packet, written again
 module _ (ws : List ℕ) (small : (i : ℕ) → getD ws i 0 < 2 ^ 32) (p : Packet) (e : readOf ws ≡ accepted p) where
@@ -156,14 +153,16 @@ module _ (ws : List ℕ) (small : (i : ℕ) → getD ws i 0 < 2 ^ 32) (p : Packe
 
   head-again : headWords w P ≡ take (classAt w) ws
   unfolding headWords partsOf classAt
-  head-again = ap (λ (l : List ℕ). l ++ given (streamed w) (wordIf (streamed w) 1 ws ∷ [])) (first-word ws (read-accepts ws p e .some))
+  head-again =
+      ap (λ (l : List ℕ). l ++ given (streamed w) (wordIf (streamed w) 1 ws ∷ [])) (first-word ws (read-accepts ws p e .some))
       ∙ one-more ws 1 (streamed w) (lies .identifier)
 
   class-words-again : take (classAt w) ws ++ classWords w P ≡ take (secondsAt w) ws
   unfolding classWords partsOf secondsAt classHigh classLow
   class-words-again =
-      let c = class-again (classHigh w ws) (classLow w ws) (word-small (classed w) (classAt w) ws small)
-      (word-small (classed w) (classAt w + 1) ws small) class-clear in
+      let high = word-small (classed w) (classAt w) ws small in
+      let low = word-small (classed w) (classAt w + 1) ws small in
+      let c = class-again (classHigh w ws) (classLow w ws) high low class-clear in
       rw (c .0, c .1) (two-more ws (classAt w) (classed w) (lies .class))
 
   time-words-again : take (secondsAt w) ws ++ timeWords w P ≡ take (bodyAt w) ws

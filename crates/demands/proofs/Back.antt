@@ -17,11 +17,11 @@ use Rattle.words.proofs.Cases.{both-left, both-right, both-no, accepted-same}
 use Rattle.words.proofs.RefusalLaws.{first-passed, none-given}
 use Rattle.packet.specs.declared.Parts.{Parts}
 use Rattle.packet.specs.Header.{classed, trailed, sizeOf}
-use Rattle.packet.specs.Parts.{streamed, hasSeconds, hasFraction, classAt, secondsAt, fractionAt, bodyAt, requiredOf, bodyLength, wordIf, classHigh}
-use Rattle.packet.specs.Parts.{classLow, fractionOf, partsOf, bodyOf, packetOf}
+use Rattle.packet.specs.Parts.{streamed, hasSeconds, hasFraction, classAt, secondsAt, fractionAt, bodyAt, requiredOf, bodyLength, wordIf, classHigh, classLow}
+use Rattle.packet.specs.Parts.{fractionOf, partsOf, bodyOf, packetOf}
 use Rattle.packet.specs.Read.{headerChecks, sizeChecks, timeOver, prologueChecks, readOf}
-use Rattle.writing.specs.Write.{headerWord, sizeFor, given, classWord, headWords, classWords, timeWords, prologueWords, trailerWords, packetWords}
-use Rattle.writing.specs.Write.{plainParts, classFits, writeList, writeChecks, writeOf}
+use Rattle.writing.specs.Write.{headerWord, sizeFor, given, classWord, headWords, classWords, timeWords, prologueWords, trailerWords, packetWords, plainParts}
+use Rattle.writing.specs.Write.{classFits, writeList, writeChecks, writeOf}
 use Rattle.writing.proofs.FitLaws.{Fits, parts-fit, Writable, writable}
 use Rattle.packet.proofs.RoomLaws.{body-past}
 use Rattle.packet.proofs.ReadLaws.{Passed, accepts-read}
@@ -109,8 +109,8 @@ module _ (p : Parts) (body more : List ℕ) (room at : ℕ) (may : Writable p bo
   class-words-back : (classHigh W Ws ≡ when (classed W) (p .oui)) × (classLow W Ws ≡ when (classed W) (classWord (p .information) (p .packet)))
   unfolding classHigh classLow packetWords prologueWords classWords
   class-words-back =
-      found-two Ws (headWords W p) (timeWords W p ++ (body ++ (trailerWords W p ++ more))) (classed W) (p .oui)
-      (classWord (p .information) (p .packet)) (classAt W) (simp append-assoc) head-at
+      found-two Ws (headWords W p) (timeWords W p ++ (body ++ (trailerWords W p ++ more))) (classed W) (p .oui) (classWord (p .information) (p .packet))
+      (classAt W) (simp append-assoc) head-at
 
   class-at : length (headWords W p ++ classWords W p) ≡ secondsAt W
   unfolding secondsAt
@@ -125,7 +125,8 @@ module _ (p : Parts) (body more : List ℕ) (room at : ℕ) (may : Writable p bo
 
   seconds-at : length (headWords W p ++ classWords W p ++ given (hasSeconds W) (p .seconds ∷ [])) ≡ fractionAt W
   unfolding fractionAt
-  seconds-at = length-append (headWords W p ++ classWords W p) (given (hasSeconds W) (p .seconds ∷ []))
+  seconds-at =
+      length-append (headWords W p ++ classWords W p) (given (hasSeconds W) (p .seconds ∷ []))
       ∙ omega (arith, class-at, length-given (hasSeconds W) (p .seconds ∷ []))
 
   fraction-words-back : (wordIf (hasFraction W) (fractionAt W) Ws ≡ when (hasFraction W) (p .fraction / 2 ^ 32))
@@ -157,24 +158,9 @@ module _ (p : Parts) (body more : List ℕ) (room at : ℕ) (may : Writable p bo
       let c = class-back (classed W) (p .oui) (p .information) (p .packet) class-fits in
       let k = may .kind in
       let z = may .small in
-      rw (
-        identifier-back,
-        class-words-back .0,
-        class-words-back .1,
-        c .1,
-        c .2,
-        c .3,
-        seconds-back,
-        fraction-is,
-        trailer-back,
-        type-is p size k fits z,
-        trailed-is p size k fits z,
-        tsm-is p size k fits z,
-        tsi-is p size k fits z,
-        tsf-is p size k fits z,
-        count-is p size k fits z,
-        classed-is p size k fits z,
-      )
+      rw (identifier-back, class-words-back .0, class-words-back .1, c .1, c .2, c .3, seconds-back, fraction-is, trailer-back)
+      (rw (type-is p size k fits z, trailed-is p size k fits z, tsm-is p size k fits z, tsi-is p size k fits z)
+      (rw (tsf-is p size k fits z, count-is p size k fits z, classed-is p size k fits z)))
 
   length-back : bodyLength W ≡ length body
   unfolding bodyLength

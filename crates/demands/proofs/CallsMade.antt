@@ -76,10 +76,9 @@ module _ (ids lent t middle page room back : List ℕ) (first rest : List (List 
 pub demand-3-made : Demand3Made
 demand-3-made = record {
   plays = λ ids lent t last packets answers a p. ruled ids t last [] packets answers (started ids lent t a) p;
-  resumes = λ ids lent t middle page room back last first rest heard answers r a b c h m p. (
-    accepted-back ids lent t middle page room back first rest heard r a b c h m,
-    resumed ids lent t middle page room back first rest heard r a b c h m last answers p,
-  );
+  resumes = λ ids lent t middle page room back last first rest heard answers r a b c h m p.
+      let k = resumed ids lent t middle page room back first rest heard r a b c h m last answers p in
+      (accepted-back ids lent t middle page room back first rest heard r a b c h m, k);
   unbroken = λ ids lent t middle page room back last whole first rest heard answers all r a b c h m p q.
       as-unbroken ids lent t middle page room back first rest heard r a b c h m last answers p whole all q;
   apart = λ ids lent room t u last other ps qs answers others s a x b y h alter.

@@ -24,7 +24,7 @@ use Rattle.table.specs.Layout.{recordAt}
 use Rattle.table.proofs.RecordLaws.{record-identifier}
 use Rattle.table.proofs.WellLaws.{well-whole, well-record}
 use Rattle.page.specs.Layout.{tableFrom}
-use Rattle.page.proofs.PieceLaws.{part-join}
+use Rattle.page.proofs.JoinedLaws.{part-join}
 use Rattle.page.proofs.LayoutLaws.{table-same, table-again}
 use Rattle.demands.specs.Trace.{countedTypes}
 use Rattle.demands.specs.Demands.{heldIn, Right, layoutOf, Determined}
@@ -41,8 +41,10 @@ same-word : (i : ℕ) (r q : List ℕ) → i + 1 ≤ length r → i + 1 ≤ leng
 same-word i r q h g e =
     let l = part-length i 1 r h in
     ext-getD 0 (part i 1 r) (part i 1 q) (l ∙ sym (part-length i 1 q g))
-    (λ j k. let o : i + j ≡ i = omega arith in let n : j < 1 = omega arith in getD-part i 1 j r n ∙ ap (λ (x : ℕ). getD r x 0) o ∙ e
-    ∙ ap (λ (x : ℕ). getD q x 0) (sym o) ∙ sym (getD-part i 1 j q n))
+    (λ j k.
+    let o : i + j ≡ i = omega arith in
+    let n : j < 1 = omega arith in
+    getD-part i 1 j r n ∙ rw o e ∙ sym (getD-part i 1 j q n))
 
 -- ---- what is held or not
 
@@ -120,6 +122,8 @@ pub determined : Determined
 determined ids packets t u p q =
     sym (layout-is p)
     ∙ table-same (length ids) (λ s. recordAt s t) (λ s. recordAt s u)
-    (λ s h. records-same ids packets packets t u p q s h (λ b. p .held s h b ∙ sym (q .held s h b))
+    (λ s h.
+    records-same ids packets packets t u p q s h
+    (λ b. p .held s h b ∙ sym (q .held s h b))
     (λ kind o. p .counts s h kind o ∙ sym (q .counts s h kind o)))
     ∙ layout-is q

@@ -77,14 +77,14 @@ module _ (first : ℕ) (processing-efficient : linkEfficient first ≡ false) wh
         → fieldIn (packingOf first) ws k
         ≡ getD ws (k / (32 / packingSize first)) 0 / 2 ^ (32 - (k % (32 / packingSize first) * packingSize first + packingSize first)) % 2 ^ packingSize first
     unfolding packingOf
-    processing k ws = rw whole-carried
-        (several (32 / packingSize first) (packingSize first) (field-some first) some-fit (div-mul-le-self 32 (packingSize first)) k ws)
+    processing k ws =
+        rw whole-carried (several (32 / packingSize first) (packingSize first) (field-some first) some-fit (div-mul-le-self 32 (packingSize first)) k ws)
 
     -- so n fields take n over m words, rounded up
     pub processing-words : (n : ℕ) → wordsFor first n ≡ (n + (32 / packingSize first - 1)) / (32 / packingSize first)
     unfolding wordsFor
-    processing-words n = rw whole-carried
-        (several-words (32 / packingSize first) (packingSize first) (field-some first) some-fit (div-mul-le-self 32 (packingSize first)) n)
+    processing-words n =
+        rw whole-carried (several-words (32 / packingSize first) (packingSize first) (field-some first) some-fit (div-mul-le-self 32 (packingSize first)) n)
 
   -- ---- and of 64
   module _ (double : packingSize first ≡ 64) where

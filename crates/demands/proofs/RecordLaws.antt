@@ -40,7 +40,8 @@ by-types C x y z w kind e =
     (λ h. ⊎-elim (λ (i : kind ≡ 3). rw i y)
     (λ i. ⊎-elim (λ (j : kind ≡ 4). rw j z)
     (λ j. ⊎-elim (λ (k : kind ≡ 5). rw k w)
-    (λ k. let n : among kind countedTypes ≡ false = rw (ne-eqb kind 1 h, ne-eqb kind 3 i, ne-eqb kind 4 j, ne-eqb kind 5 k) in
+    (λ k.
+    let n : among kind countedTypes ≡ false = rw (ne-eqb kind 1 h, ne-eqb kind 3 i, ne-eqb kind 4 j, ne-eqb kind 5 k) in
     absurd (true-is-false (sym e ∙ n)))
     (same-or-not kind 5)) (same-or-not kind 4)) (same-or-not kind 3)) (same-or-not kind 1)
 
@@ -110,25 +111,24 @@ module _ (ids : List ℕ) (a : Arrival) (f : Fine ids a) (r : List ℕ) (l : len
       ∙ ap (λ (t : Bool). pick (eqb (a .kind) 4) t (has (heldOf r) b))
       (held-bit (indicatorOf (a .body)) (heldOf r) b ∙ ap (λ (t : Bool). pick (has (heldOf r) b) true (both (has (indicatorOf (a .body)) b) t)) o) in
       ap (λ (t : Bool). pick t (some (slotOf b next)) none) bit
-      ∙ ap (λ (ws : List ℕ). pick
-      (pick (eqb (a .kind) 4) (pick (has (heldOf r) b) true (both (has (indicatorOf (a .body)) b) true)) (has (heldOf r) b)) (some ws) none)
-      (after-slot (a .kind) (a .count) (a .body) r l (f .body) b o)
+      ∙ ap (λ (ws : List ℕ). pick held (some ws) none) (after-slot (a .kind) (a .count) (a .body) r l (f .body) b o)
       ∙ comes (eqb (a .kind) 4) (has (indicatorOf (a .body)) b) (has (heldOf r) b) (fieldOf b (a .body)) (slotOf b r)
-      ∙ ap (λ (t : Bool). orElse (pick (both t (both (eqb (a .kind) 4) (has (indicatorOf (a .body)) b))) (some (fieldOf b (a .body))) none)
-      (heldIn b r)) (sym (kept-holds b o)))
+      ∙ ap (λ (t : Bool). orElse (pick (both t (both (eqb (a .kind) 4) (has (indicatorOf (a .body)) b))) (some (fieldOf b (a .body))) none) (heldIn b r))
+      (sym (kept-holds b o)))
       (λ o.
       none-held b next (after-length (a .kind) (a .count) (a .body) r l (f .body)) (after-good (a .kind) (a .count) (a .body) r l (f .body) (f .count) g) o
       ∙ sym (rw (none-carried b a o) (none-held b r l g o)))
       (true-or-false (holds b))
 
   pub count-after : (kind : ℕ) → among kind countedTypes ≡ true
-      → countOf (orderOf kind) (recordAfter (a .kind) (a .count) (a .body) r) ≡ pick (eqb (a .kind) kind)
-      (countedOf (a .count) (countOf (orderOf kind) r)) (countOf (orderOf kind) r)
+      → countOf (orderOf kind) (recordAfter (a .kind) (a .count) (a .body) r)
+      ≡ pick (eqb (a .kind) kind) (countedOf (a .count) (countOf (orderOf kind) r)) (countOf (orderOf kind) r)
   count-after kind k =
       ⊎-elim
       (λ (e : a .kind ≡ kind).
       rw (eq-eqb (a .kind) kind e)
-      (ap (λ (j : ℕ). countOf (orderOf j) next) (sym e) ∙ after-count (a .kind) (a .count) (a .body) r l (f .body)
+      (ap (λ (j : ℕ). countOf (orderOf j) next) (sym e)
+      ∙ after-count (a .kind) (a .count) (a .body) r l (f .body)
       ∙ ap (λ (j : ℕ). countedOf (a .count) (countOf (orderOf j) r)) e))
       (λ (n : a .kind ≡ kind → ⊥).
       rw (ne-eqb (a .kind) kind n)

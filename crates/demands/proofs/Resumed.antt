@@ -1,6 +1,5 @@
 -- A play that is broken off and resumed. The idea: a page that was saved holds the table's layout, so the table that it is put back into is right for the
--- packets
--- before (`right-layout`), and goes on as any right table does; by the rules, and since they leave nothing open, as the unbroken play.
+-- packets before (`right-layout`), and goes on as any right table does; by the rules, and since they leave nothing open, as the unbroken play.
 use mathlib.Core.Path.{_≡_, refl, sym, ap, _∙_}
 use mathlib.Core.Bool.{true}
 use mathlib.Core.List.{List, [], _∷_, _++_}
@@ -84,8 +83,8 @@ module _ (ids t : List ℕ) (r : Right ids [] t) (first rest : List (List ℕ)) 
   here : Right ids first (layoutOf ids (playAll ours t first) ++ pastOf ids lent)
   here = right-layout ids first middle (pastOf ids lent) reached
 
-  put-back : putBackOf (take (e .says) (e .leaves)) lent ≡ accepted
-      (record { says = base (length ids); leaves = layoutOf ids (playAll ours t first) ++ pastOf ids lent })
+  put-back : putBackOf (take (e .says) (e .leaves)) lent
+      ≡ accepted (record { says = base (length ids); leaves = layoutOf ids (playAll ours t first) ++ pastOf ids lent })
   put-back =
       let l : base (streamsOf middle) ≤ length lent = rw (reached .streams) room in
       ap (λ (p : List ℕ). putBackOf p lent) (page-words middle page (reached .made) e s)

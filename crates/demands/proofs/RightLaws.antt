@@ -24,8 +24,8 @@ use Rattle.table.proofs.StartLaws.{fresh-record, start-well-made}
 use Rattle.play.specs.declared.Heard.{Heard}
 use Rattle.play.specs.Play.{playOf}
 use Rattle.play.proofs.KeepLaws.{play-keeps}
-use Rattle.demands.specs.Trace.{Arrival, Trace, heardBy, traceOf, own, valueCarried, orElse, lastCarried, countedTypes, countsOf, countRule}
-use Rattle.demands.specs.Trace.{answerTo, answersAfter}
+use Rattle.demands.specs.Trace.{Arrival, Trace, heardBy, traceOf, own, valueCarried, orElse, lastCarried}
+use Rattle.demands.specs.Trace.{countedTypes, countsOf, countRule, answerTo, answersAfter}
 use Rattle.demands.specs.Demands.{ours, heldIn, Right, pastOf, playAll, saidAll}
 use Rattle.demands.proofs.RuleLaws.{own-append, last-more, counts-append, added-by-last, rule-more}
 use Rattle.demands.proofs.HearingLaws.{Fine, heard-fine, Listed, recordOn, doneOn, play-is, listed-on, record-whole, record-own, record-other}
@@ -38,8 +38,8 @@ unfolding startOf
 start-leaves ids t d e =
     ap (λ (x : Done ℕ (List ℕ)). x .leaves) (sym (accepted-same (first-passed (startList ids t) _ d e .1)))
 
-pub start-accepts : (ids t : List ℕ) → listGood (length ids) (listed ids) ≡ true → base (length ids) ≤ length t → (d : Done ℕ (List ℕ))
-    × (startOf ids t ≡ accepted d)
+pub start-accepts : (ids t : List ℕ) → listGood (length ids) (listed ids) ≡ true → base (length ids) ≤ length t
+    → (d : Done ℕ (List ℕ)) × (startOf ids t ≡ accepted d)
 unfolding startOf
 start-accepts ids t g h = (record { says = base (length ids); leaves = freshTable ids t }, rw (g, le-ltb (length t) (base (length ids)) h))
 
@@ -122,7 +122,8 @@ module _ (ids : List ℕ) (before : List (List ℕ)) (t : List ℕ) (r : Right i
         made = l .made;
         streams = l .streams;
         list = l .list;
-        held = λ s h b. ap (λ (u : List ℕ). heldIn b (recordAt s u)) same ∙ ruled-heard (heardBy ids ws) (heard-fine ids ws) s h .held b
+        held =
+            λ s h b. ap (λ (u : List ℕ). heldIn b (recordAt s u)) same ∙ ruled-heard (heardBy ids ws) (heard-fine ids ws) s h .held b
             ∙ ap (lastCarried b) (sym (grown s));
         counts = λ s h kind o.
             ap (λ (u : List ℕ). countOf (orderOf kind) (recordAt s u)) same ∙ ruled-heard (heardBy ids ws) (heard-fine ids ws) s h .counts kind o
@@ -135,8 +136,8 @@ module _ (ids : List ℕ) (before : List (List ℕ)) (t : List ℕ) (r : Right i
   answer-heard (refused n) f = refl
   answer-heard (accepted a) f =
       let g = f a refl in
-      let added : addedBy (a .kind) (a .count) (recordAt (a .stream) t) ≡ addedOf
-      (lastOf (countRule (countsOf (a .kind) (own (a .stream) (traceOf ids before))))) (a .count) =
+      let counts = countRule (countsOf (a .kind) (own (a .stream) (traceOf ids before))) in
+      let added : addedBy (a .kind) (a .count) (recordAt (a .stream) t) ≡ addedOf (lastOf counts) (a .count) =
       ap (λ (ws : List ℕ). addedOf (lastOf ws) (a .count)) (r .counts (a .stream) (g .stream) (a .kind) (g .kind)) in
       rw (added, added-by-last (countsOf (a .kind) (own (a .stream) (traceOf ids before))) (a .count))
 

@@ -187,26 +187,18 @@ module _ (first second n : ℕ) (ws is es cs out : List ℕ) (f : formatBad firs
     (there : length ws ≡ wordsFor first n) (h : Parts first n ws is es cs) (room : length ws ≤ length out) where
   repacks : PackPassed first second is es cs (length out)
   unfolding packingOf
-  repacks = record {
-    format = f;
-    count = rw (h .items) c;
-    places = rw (h .items, ← there) room;
-    items = record {
-      many = refl;
-      each = λ k l. let q : k < n = omega (arith, h .items) in
-          rw (h .item k q) (item-small (packingOf first) (legal first second f) ws k);
-    };
-    events = record {
-      many = h .events ∙ sym (h .items);
-      each = λ k l. let q : k < n = omega (arith, h .items) in
-          rw (h .event k q) (mod-lt _ (pow-pos (eventSize first)));
-    };
-    channels = record {
-      many = h .channels ∙ sym (h .items);
-      each = λ k l. let q : k < n = omega (arith, h .items) in
-          rw (h .channel k q) (mod-lt _ (pow-pos (channelSize first)));
-    };
-  }
+  repacks =
+      let item-fits : (k : ℕ) → k < n → getD is k 0 < 2 ^ itemSize first = λ k q. rw (h .item k q) (item-small (packingOf first) (legal first second f) ws k) in
+      let event-fits : (k : ℕ) → k < n → getD es k 0 < 2 ^ eventSize first = λ k q. rw (h .event k q) (mod-lt _ (pow-pos (eventSize first))) in
+      let channel-fits : (k : ℕ) → k < n → getD cs k 0 < 2 ^ channelSize first = λ k q. rw (h .channel k q) (mod-lt _ (pow-pos (channelSize first))) in
+      record {
+        format = f;
+        count = rw (h .items) c;
+        places = rw (h .items, ← there) room;
+        items = record { many = refl; each = λ k l. item-fits k (omega (arith, h .items)) };
+        events = record { many = h .events ∙ sym (h .items); each = λ k l. event-fits k (omega (arith, h .items)) };
+        channels = record { many = h .channels ∙ sym (h .items); each = λ k l. channel-fits k (omega (arith, h .items)) };
+      }
 
   -- the fields are those of the words, and the words come back
   repacked : ((j : ℕ) → getD ws j 0 < 2 ^ 32) → Clean first n ws → take (length ws) (packed (packingOf first) (length is) is es cs out) ≡ ws
@@ -219,8 +211,8 @@ module _ (first second n : ℕ) (ws is es cs out : List ℕ) (f : formatBad firs
       let past : (k : ℕ) → n ≤ k → g k ≡ 0 =
       λ k l. fields-blank (packingOf first) k is es cs (omega (arith, h .items)) (omega (arith, h .events)) (omega (arith, h .channels)) in
       let back : (j : ℕ) → j < length ws → wordOf (carriedBits first) (packingSize first) g j ≡ getD ws j 0 =
-      λ j l. word-back (carriedBits first) (packingSize first) n g ws j (field-some first) (carry-some first) (carry-most first) same past
-      (z .padding) (w j) (z .uncarried j) in
+      λ j l. word-back (carriedBits first) (packingSize first) n g ws j (field-some first) (carry-some first) (carry-most first) same past (z .padding) (w j)
+      (z .uncarried j) in
       rw (h .items, ← there) (filled-front (length ws) (wordOf (carriedBits first) (packingSize first) g) out ws room refl back)
 
   packs-back : ((j : ℕ) → getD ws j 0 < 2 ^ 32) → Clean first n ws

@@ -1,6 +1,5 @@
--- The rules of a trace, when a packet more is heard. The idea: each rule of `before ++ (a ∷ [])` is that of `before`, taken one packet on; the
--- last-carried rule asks
--- the new packet first, and a count goes on as `countedOf` says.
+-- The rules of a trace, when a packet more is heard. The idea: each rule of `before ++ (a ∷ [])` is that of `before`, taken one packet on; the last-carried
+-- rule asks the new packet first, and a count goes on as `countedOf` says.
 use mathlib.Core.Path.{_≡_, refl, sym, ap, _∙_}
 use mathlib.Core.Bool.{Bool, true, false}
 use mathlib.Core.List.{List, [], _∷_, _++_}
@@ -69,15 +68,16 @@ from-silent b [] h = refl
 from-silent b (a ∷ later) h = rw (from-silent b later (h .1), h .0)
 
 further : (b : ℕ) (a : Arrival) (packets : List Arrival) (v : List ℕ) → LastCarried b packets v → LastCarried b (a ∷ packets) v
-further b a packets v x = record {
-  before = a ∷ x .before;
-  last = x .last;
-  later = x .later;
-  cut = ap (λ (l : List Arrival). a ∷ l) (x .cut);
-  does = x .does;
-  value = x .value;
-  silent = x .silent;
-}
+further b a packets v x =
+    record {
+      before = a ∷ x .before;
+      last = x .last;
+      later = x .later;
+      cut = ap (λ (l : List Arrival). a ∷ l) (x .cut);
+      does = x .does;
+      value = x .value;
+      silent = x .silent;
+    }
 
 found : (b : ℕ) (a : Arrival) (later : List Arrival) (v : List ℕ) (o : Option (List ℕ)) → lastCarried b later ≡ o
     → ((w : List ℕ) → lastCarried b later ≡ some w → LastCarried b later w) → orElse o (valueCarried b a) ≡ some v → LastCarried b (a ∷ later) v

@@ -1,6 +1,5 @@
 -- A run plays a recording's packets. The idea: a walk goes on exactly where the trace does (`on-same`), since what play says is what the rules say; so the
--- walk's
--- table and entries are those of playing its packets one by one (`walked`).
+-- walk's table and entries are those of playing its packets one by one (`walked`).
 use mathlib.Core.Path.{_≡_, refl, sym, ap, _∙_}
 use mathlib.Core.Bool.{true, false}
 use mathlib.Core.Logic.{⊎-elim}
@@ -45,11 +44,8 @@ walked ids (suc n) ws at before t r =
     ⊎-elim
     (λ (e : goesPast (heardBy ids (drop at ws)) ≡ true).
     let ih = walked ids n ws next (before ++ (drop at ws ∷ [])) left (right-more ids before t r (drop at ws)) in
-    rw (lt-leb (length ws) at h, same, e) (
-      ih .0,
-      ap (λ (l : List ℕ). l ++ walkOf n ws next left .entries) entry
-          ∙ ap (λ (l : List ℕ). entryOf (saidOf (playOf t (drop at ws))) (sizeOf (getD (drop at ws) 0 0)) ++ l) (ih .1),
-    ))
+    rw (lt-leb (length ws) at h, same, e)
+    (ih .0, rw entry (ap (λ (l : List ℕ). entryOf (saidOf (playOf t (drop at ws))) (sizeOf (getD (drop at ws) 0 0)) ++ l) (ih .1))))
     (λ (e : goesPast (heardBy ids (drop at ws)) ≡ false). rw (lt-leb (length ws) at h, same, e) (refl, ap (λ (l : List ℕ). l ++ []) entry))
     (true-or-false (goesPast (heardBy ids (drop at ws)))))
     (le-or-lt (length ws) at)
@@ -64,6 +60,7 @@ runs ids before t r ws from out =
       done = record { says = reachedOf w; leaves = (w .table, answersOf w out) };
       accepts = rw (r .made);
       right = rw (k .0) (right-on ids before (packetsFrom ids n ws from) t r);
-      entries = ap (λ (es : List ℕ). es ++ drop (length es) out)
+      entries =
+          ap (λ (es : List ℕ). es ++ drop (length es) out)
           (k .1 ∙ ap (entriesOf (packetsFrom ids n ws from)) (answers-on ids before (packetsFrom ids n ws from) t r));
     }

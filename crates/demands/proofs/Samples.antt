@@ -9,9 +9,9 @@ use Rattle.fields.specs.Format.{codeKnown, codeFits, formatOk}
 use Rattle.fields.specs.Rules.{notNegative, upperHalfZero, deviceRule, stateRule, formatRule, asciiRule, listsRule, ruleOf}
 use Rattle.fields.specs.Layout.{spanOf, obeyed, bodyWords, lowBitsSet, otherLength, ruleBroken}
 use Rattle.packet.specs.Header.{trailed, tsmOf, reservedOf}
-use Rattle.packet.specs.Parts.{streamed, hasSeconds, hasFraction, classAt, secondsAt, fractionAt, bodyAt, requiredOf, bodyLength, wordIf, classHigh}
-use Rattle.packet.specs.Parts.{classLow, fractionOf, partsOf, bodyOf, packetOf}
-use Rattle.packet.specs.Read.{headerChecks, sizeChecks, timeOver, prologueChecks, bodyChecks, readOf}
+use Rattle.packet.specs.Parts.{streamed, hasSeconds, hasFraction, classAt, secondsAt, fractionAt, bodyAt, requiredOf, bodyLength, wordIf, classHigh, classLow}
+use Rattle.packet.specs.Parts.{fractionOf, partsOf, bodyOf, packetOf}
+use Rattle.packet.specs.Read.{timeOver, readOf}
 use Rattle.bitstream.specs.Stream.{bit, span}
 use Rattle.bitstream.specs.Carried.{carried, fieldOf, wordOf, needed}
 use Rattle.bitstream.specs.Filled.{filled}

@@ -1,6 +1,5 @@
--- Streams do not touch one another. The idea: the rules look at a stream's own packets alone, so two recordings with the same own packets (`own-altered`)
--- give the
--- same rules for its record, hence the same words (`records-same`), and the same answers (`own-answers`).
+-- Streams do not touch one another. The idea: the rules look at a stream's own packets alone, so two recordings with the same own packets (`own-altered`) give
+-- the same rules for its record, hence the same words (`records-same`), and the same answers (`own-answers`).
 use mathlib.Core.Path.{_≡_, refl, sym, ap, _∙_}
 use mathlib.Core.Bool.{Bool, false}
 use mathlib.Core.Logic.{⊎-elim}
@@ -51,8 +50,8 @@ ownRule before (a ∷ later) = ownHeard before a ∷ ownRule (before ++ (a ∷ [
 chosen : (s : ℕ) (x : Outcome Arrival) (before later : Trace) (answers : List (Outcome Heard)) → answers ≡ ownRule (own s (before ++ (x ∷ []))) (own s later)
     → pick (isOwn s x) (answerTo before x ∷ answers) answers ≡ ownRule (own s before) (own s (x ∷ later))
 unfolding ownRule ownHeard
-chosen s (refused n) before later answers e = e ∙ ap (λ (l : List Arrival). ownRule l (own s later))
-    (own-append s before (refused n ∷ []) ∙ append-nil (own s before))
+chosen s (refused n) before later answers e =
+    e ∙ ap (λ (l : List Arrival). ownRule l (own s later)) (own-append s before (refused n ∷ []) ∙ append-nil (own s before))
 chosen s (accepted a) before later answers e =
     ⊎-elim
     (λ t.

@@ -16,9 +16,9 @@ use Rattle.fields.specs.Rules.{ruleOf}
 use Rattle.fields.specs.Layout.{spanOf, obeyed, bodyWords, placeOf, fieldOf, lowBitsSet, otherLength, ruleBroken}
 use Rattle.packet.specs.declared.Packet.{Packet}
 use Rattle.packet.specs.Header.{trailed, tsmOf, reservedOf}
-use Rattle.packet.specs.Parts.{streamed, hasSeconds, hasFraction, classAt, secondsAt, fractionAt, bodyAt, requiredOf, bodyLength, wordIf, classHigh}
-use Rattle.packet.specs.Parts.{classLow, fractionOf, partsOf, bodyOf, packetOf}
-use Rattle.packet.specs.Read.{headerChecks, sizeChecks, timeOver, prologueChecks, bodyChecks, readOf}
+use Rattle.packet.specs.Parts.{streamed, hasSeconds, hasFraction, classAt, secondsAt, fractionAt, bodyAt, requiredOf, bodyLength, wordIf, classHigh, classLow}
+use Rattle.packet.specs.Parts.{fractionOf, partsOf, bodyOf, packetOf}
+use Rattle.packet.specs.Read.{timeOver, readOf}
 use Rattle.record.specs.Layout.{orderOf, countOf, seenOf}
 use Rattle.record.specs.Counts.{missedOf}
 use Rattle.table.specs.Layout.{recordAt}
@@ -116,8 +116,8 @@ module _ (P : Program) (d : Demand3 P) where
   abbrev fresh : List ℕ
   fresh = begun .0 .leaves
 
-  seen-after : (packets : List (List ℕ)) → countOf (orderOf 1) (recordAt 0 (playAll P (begun .0 .leaves) packets)) ≡ countRule
-      (countsOf 1 (own 0 (traceOf ids packets)))
+  seen-after : (packets : List (List ℕ))
+      → countOf (orderOf 1) (recordAt 0 (playAll P (begun .0 .leaves) packets)) ≡ countRule (countsOf 1 (own 0 (traceOf ids packets)))
   seen-after packets = d .right ids buffer (begun .0) (begun .1) packets .counts 0 (omega arith) 1 refl
 
   held-after : (packets : List (List ℕ)) → heldIn 30 (recordAt 0 (playAll P (begun .0 .leaves) packets)) ≡ lastCarried 30 (own 0 (traceOf ids packets))

@@ -31,8 +31,8 @@ use Rattle.page.specs.PutBack.{putBackOf}
 use Rattle.demands.specs.Calls.{OneOutcome, RefusalLeaves, Each, calls}
 use Rattle.demands.specs.Refusals.{InOrder}
 use Rattle.demands.specs.Clean.{Clean}
-use Rattle.demands.specs.Trace.{Arrival, heardBy, traceOf, isOwn, own, lastCarried, NoneCarried, LastCarried, countedTypes, countsOf, countRule}
-use Rattle.demands.specs.Trace.{answersAfter}
+use Rattle.demands.specs.Trace.{Arrival, heardBy, traceOf, isOwn, own, lastCarried, NoneCarried, LastCarried}
+use Rattle.demands.specs.Trace.{countedTypes, countsOf, countRule, answersAfter}
 
 -- ---- a program
 

@@ -34,9 +34,8 @@ entriesOf [] answers = []
 entriesOf (ws ∷ packets) [] = []
 entriesOf (ws ∷ packets) (x ∷ answers) = entryOf x (sizeOf (getD ws 0 0)) ++ entriesOf packets answers
 
--- a run on a table that is right for some packets is accepted; the table is right for these and the recording's, and the entries are those of the answers
--- that the
--- rules give. There are as many packets as there is room for entries, unless the recording ends before.
+-- a run on a table that is right for some packets is accepted; the table is right for these and the recording's, and the entries are those of the answers that
+-- the rules give. There are as many packets as there is room for entries, unless the recording ends before.
 pub record RunRight (ids : List ℕ) (before : List (List ℕ)) (t ws : List ℕ) (from : ℕ) (out : List ℕ) (packets : List (List ℕ)) : Type 0 where
   pub done : Done Reached (List ℕ × List ℕ)
   pub accepts : runOf t ws from out ≡ accepted done

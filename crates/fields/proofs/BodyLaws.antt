@@ -21,7 +21,8 @@ use Rattle.words.proofs.SetBitLaws.{bits-split}
 use Rattle.words.proofs.PartLaws.{part-is}
 use Rattle.fields.specs.Sizes.{sizeOf, sizesOf, wordsOf}
 use Rattle.fields.specs.Rules.{ruleOf}
-use Rattle.fields.specs.Layout.{spanOf, obeyed, carried, indicatorOf, bodyWords, placeOf, fieldOf, insideOf, foundOf, lowBitsSet, otherLength, ruleBroken, contextList, contextOf}
+use Rattle.fields.specs.Layout.{spanOf, obeyed, carried, indicatorOf, bodyWords, placeOf, fieldOf, insideOf, foundOf, lowBitsSet, otherLength}
+use Rattle.fields.specs.Layout.{ruleBroken, contextList, contextOf}
 use Rattle.fields.proofs.SizeLaws.{words-fixed}
 use Rattle.fields.proofs.RuleLaws.{rule-own}
 use Rattle.fields.proofs.WalkLaws.{span-cons, rules-cons}
@@ -91,7 +92,8 @@ module _ (b : ℕ) (body : List ℕ) (h : b < 31) (carries : has (indicatorOf bo
 
   -- the rules of a body: those of the fields before, its own, and those of the later fields
   pub rules-split : obeyed (carried (indicatorOf body)) (drop 1 body)
-      ≡ both (obeyed (above b (carried (indicatorOf body))) (drop 1 body)) (both (ruleOf b (fromField b body)) (obeyed (bitsOf b (indicatorOf body)) (pastField b body)))
+      ≡ both (obeyed (above b (carried (indicatorOf body))) (drop 1 body))
+      (both (ruleOf b (fromField b body)) (obeyed (bitsOf b (indicatorOf body)) (pastField b body)))
   rules-split =
       ap (λ (l : List ℕ). obeyed l (drop 1 body)) (bits-split 31 (indicatorOf body) b h carries)
       ∙ obeyed-append before (b ∷ later) (drop 1 body)

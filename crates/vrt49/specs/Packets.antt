@@ -24,8 +24,8 @@ use Rattle.vrt49.specs.Answers.{oneValue, answering, answeringBeside}
 -- words, trailer word
 abbrev pub packetValues : Packet → List ℕ
 packetValues p =
-    p .parts .kind ∷ when (p .parts .classed) 1 ∷ when (p .parts .trailed) 1 ∷ when (p .parts .tsm) 1 ∷ p .parts .tsi ∷ p .parts .tsf
-    ∷ p .parts .count ∷ p .size
+    p .parts .kind ∷ when (p .parts .classed) 1 ∷ when (p .parts .trailed) 1 ∷ when (p .parts .tsm) 1 ∷ p .parts .tsi ∷ p .parts .tsf ∷ p .parts .count
+    ∷ p .size
     ∷ p .parts .identifier ∷ p .parts .oui ∷ p .parts .information ∷ p .parts .packet ∷ p .parts .seconds
     ∷ p .parts .fraction / 2 ^ 32 ∷ p .parts .fraction % 2 ^ 32 ∷ p .body ∷ p .length ∷ p .parts .trailer ∷ []
 

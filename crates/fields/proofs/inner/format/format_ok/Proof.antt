@@ -8,7 +8,14 @@ returns : tie.Need-returns
 unfolding formatOk
 returns c =
     let k = c .before .before .before in
-    simp (c .both-of4 .ensures, c .before .both-of3 .ensures, c .before .before .both-of2 .ensures, k .code-known .ensures, k .before .both-of .ensures, k .before .before .code-fits .ensures)
+    simp (
+      c .both-of4 .ensures,
+      c .before .both-of3 .ensures,
+      c .before .before .both-of2 .ensures,
+      k .code-known .ensures,
+      k .before .both-of .ensures,
+      k .before .before .code-fits .ensures,
+    )
 
 pub format-ok-spec : {M : Type 1} → statement M
 format-ok-spec =

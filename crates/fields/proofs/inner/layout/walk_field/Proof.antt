@@ -8,5 +8,6 @@ pub walk-field-spec : {M : Type 1} → statement M
 walk-field-spec =
     tie.close
     (tie.spec
-    (λ c κs. search needs) (λ c κs. search needs) (λ c κs. search needs) (λ c. search needs) (λ c κs. search needs) (λ c. ((cc, search needs), cc)) (λ c κs. search needs)
+    (λ c κs. search needs) (λ c κs. search needs) (λ c κs. search needs) (λ c. search needs) (λ c κs. search needs) (λ c. ((cc, search needs), cc))
+    (λ c κs. search needs)
     (λ c. search needs) (λ c. ((search unruled-past, search needs), search unruled-kept)))

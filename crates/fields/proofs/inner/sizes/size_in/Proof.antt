@@ -11,7 +11,8 @@ use borrow.Author.Needs.{needs}
 use Rattle.fields.proofs.inner.sizes.size_in.Statement.{statement}
 use Rattle.fields.proofs.inner.sizes.size_in.Tie as tie
 
-row : (c : tie.After-result) → (getD (c .before .args .sizes .now) (c .before .args .bit) 0 ≡ sizeOf (c .before .args .bit)) × (getD (c .before .args .sizes .now) (c .before .args .bit) 0 ≤ 13)
+row : (c : tie.After-result) → (getD (c .before .args .sizes .now) (c .before .args .bit) 0 ≡ sizeOf (c .before .args .bit))
+    × (getD (c .before .args .sizes .now) (c .before .args .bit) 0 ≤ 13)
 row c =
     let e : getD (c .before .args .sizes .now) (c .before .args .bit) 0 ≡ sizeOf (c .before .args .bit) = tabled-at 32 (c .before .args .sizes .now) sizeOf
     (c .before .args .bit) (c .before .pre .0) (search needs) in
