@@ -1,7 +1,7 @@
 -- The answers. The idea: where nothing is refused the record is there and the bit has a slot; the slot is a part of the record, and so are the held words,
 -- also those of an absent field, which are none.
 use mathlib.Core.Path.{_≡_, refl, sym, ap, subst, _∙_}
-use mathlib.Core.Bool.{Bool, true, false}
+use mathlib.Core.Bool.{Bool, true, false, not}
 use mathlib.Core.List.{List, [], _++_}
 use Prim.Native.Nat.{ℕ, _+_, _-_, _≤_, _<_}
 use native.Mathlib.Omega.{arith}
