@@ -24,7 +24,7 @@ use Rattle.table.specs.Layout.{recordAt}
 use Rattle.table.proofs.RecordLaws.{record-identifier}
 use Rattle.table.proofs.WellLaws.{well-whole, well-record}
 use Rattle.page.specs.Layout.{tableFrom}
-use Rattle.page.proofs.JoinedLaws.{part-join}
+use Rattle.page.proofs.PieceLaws.{part-join}
 use Rattle.page.proofs.LayoutLaws.{table-same, table-again}
 use Rattle.demands.specs.Trace.{countedTypes}
 use Rattle.demands.specs.Demands.{heldIn, Right, layoutOf, Determined}
