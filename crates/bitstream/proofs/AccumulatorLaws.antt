@@ -1,9 +1,7 @@
 -- An accumulator of w bits whose last `have` bits are a span. The idea: what stands above them is never looked at, so it need not be cleared; bits are
 -- put behind them by a shift that may lose high bits (`appended`), and taken from their left by a shift and a remainder (`taken`, `left`).
-use mathlib.Core.Path.{_≡_, sym, ap, ap₂, _∙_}
-use Prim.Native.Nat.{ℕ, _+_, _-_, _*_, _/_, _%_, _^_, _≤_, _<_}
+use Rattle.words.proofs.Kit.{_≡_, sym, ap, ap₂, _∙_, ℕ, _+_, _-_, _*_, _/_, _%_, _^_, _≤_, _<_, arith}
 use native.Mathlib.Nat.{add-zero, mul-mod-left, mod-lt}
-use native.Mathlib.Omega.{arith}
 use lib.Arith.{digits-lt}
 use lib.Pow.{pow-pos, pow-add, high, low, mod-pow-add, mod-mod-pow, shl-shr, field}
 use Rattle.bitstream.specs.Stream.{span}

@@ -1,11 +1,7 @@
 -- The words as one big number, the first word at the left: the stream of all their bits is that number's (`by-value`).
-use mathlib.Core.Path.{_≡_, refl, sym, ap, ap₂, _∙_}
-use mathlib.Core.List.{List, [], _∷_}
-use Prim.Native.Nat.{ℕ, zero, suc, _+_, _-_, _*_, _/_, _%_, _^_, _≤_, _<_}
+use Rattle.words.proofs.Kit.{_≡_, refl, sym, ap, ap₂, _∙_, List, [], _∷_, ℕ, zero, suc, _+_, _-_, _*_, _/_, _%_, _^_, _≤_, _<_, arith, getD, length}
 use native.Mathlib.Nat.{zero-add, add-mul-div-right, add-mod-right, one-mul}
 use native.Mathlib.Numerals.{add-one}
-use native.Mathlib.Omega.{arith}
-use lib.ListN.{getD, length}
 use Rattle.bitstream.specs.Stream.{bit, span}
 use Rattle.bitstream.proofs.SpanLaws.{split, within, whole}
 

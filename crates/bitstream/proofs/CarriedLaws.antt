@@ -1,12 +1,7 @@
 -- Words of which c bits carry packing fields. The idea: writing and reading are one regrouping of a stream, from digits of f bits to digits of c bits
 -- and back (`field-back`, `word-back`), so the round trip is proved once over both widths.
-use mathlib.Core.Path.{_≡_, sym, ap, ap₂, _∙_, subst}
-use mathlib.Core.Logic.{⊎-elim}
-use mathlib.Core.List.{List}
-use Prim.Native.Nat.{ℕ, suc, _+_, _-_, _*_, _/_, _%_, _^_, _≤_, _<_}
+use Rattle.words.proofs.Kit.{_≡_, sym, ap, ap₂, _∙_, subst, ⊎-elim, List, ℕ, suc, _+_, _-_, _*_, _/_, _%_, _^_, _≤_, _<_, arith, getD}
 use native.Mathlib.Nat.{mul-comm, mul-add, mul-le-mul-left, lt-of-mul-lt-mul-right, div-add-mod', mod-lt, div-one}
-use native.Mathlib.Omega.{arith}
-use lib.ListN.{getD}
 use lib.Arith.{digits-div}
 use lib.Pow.{shr-shr, shl-shr, shr-lt}
 use lib.Pow as Pow

@@ -1,15 +1,11 @@
 -- Laws of `filled`: the start, a turn and the end of a loop that fills a buffer, and what then stands at each place; and of `filledFrom`, where another
 -- loop goes on.
-use mathlib.Core.Path.{_≡_, refl, sym, ap, ap₂, _∙_, subst}
-use mathlib.Core.List.{List}
-use mathlib.Core.Logic.{⊎-elim}
-use Prim.Native.Nat.{ℕ, zero, suc, _+_, _≤_, _<_}
+use Rattle.words.proofs.Kit.{_≡_, refl, sym, ap, ap₂, _∙_, subst, List, ⊎-elim, ℕ, zero, suc, _+_, _≤_, _<_, arith, getD, length, set, take, lt-ltb}
+use Rattle.words.proofs.Kit.{le-ltb}
 use native.Mathlib.Nat.{eq-or-lt-of-le, le-of-suc-le-suc, not-suc-le-zero, lt-irrefl}
 use native.Mathlib.Numerals.{add-one}
-use native.Mathlib.Omega.{arith}
-use lib.ListN.{getD, length, set, length-set, take}
+use lib.ListN.{length-set}
 use lib.Seq.{getD-set-same, getD-set-other, ext-getD, getD-take, length-take-le}
-use borrow.Author.Tests.{lt-ltb, le-ltb}
 use Rattle.words.proofs.Cases.{le-or-lt}
 use Rattle.bitstream.specs.Filled.{filled, filledFrom}
 

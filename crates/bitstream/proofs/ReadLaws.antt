@@ -1,11 +1,7 @@
 -- Bits taken from words. The idea: `Ahead` says which bits of the words' stream an accumulator holds. A word's bits put behind them keep it
 -- (`refilled`), and bits taken from the left move it on (`took`); a field of more than 32 bits is taken in two parts (`took-wide`).
-use mathlib.Core.Path.{_≡_, refl, sym, ap, ap₂, _∙_}
-use mathlib.Core.List.{List}
-use Prim.Native.Nat.{ℕ, _+_, _-_, _*_, _/_, _%_, _^_, _≤_, _<_}
+use Rattle.words.proofs.Kit.{_≡_, refl, sym, ap, ap₂, _∙_, List, ℕ, _+_, _-_, _*_, _/_, _%_, _^_, _≤_, _<_, arith, length}
 use native.Mathlib.Nat.{mul-comm, mul-add}
-use native.Mathlib.Omega.{arith}
-use lib.ListN.{length}
 use lib.Arith.{digits-lt}
 use lib.Pow.{pow-add, pow-mono, shr-shr, field}
 use Rattle.bitstream.specs.Stream.{span}

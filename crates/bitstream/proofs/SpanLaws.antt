@@ -1,10 +1,8 @@
 -- Laws of `span`, once over the width of the digits. The idea: a span of j + k bits is one of j bits and then one of k (`split`), so its left part is a
 -- quotient and its right part a remainder by 2 ^ k (`first`, `last`). Callers cite these laws and never unfold `span`.
-use mathlib.Core.Path.{_≡_, refl, sym, ap, ap₂, _∙_}
-use Prim.Native.Nat.{ℕ, zero, suc, _+_, _-_, _*_, _/_, _%_, _^_, _≤_, _<_}
+use Rattle.words.proofs.Kit.{_≡_, refl, sym, ap, ap₂, _∙_, ℕ, zero, suc, _+_, _-_, _*_, _/_, _%_, _^_, _≤_, _<_, arith}
 use native.Mathlib.Nat.{le-div-iff-mul-le, zero-div, add-zero, add-suc, add-assoc, mul-assoc, add-mul, mul-one, mod-one, mod-lt}
 use native.Mathlib.Nat.{mod-eq-of-lt, pow-suc, mul-comm, div-add-mod', div-lt-iff-lt-mul, div-one, zero-lt-suc}
-use native.Mathlib.Omega.{arith}
 use native.Mathlib.Numerals.{add-one}
 use lib.Arith.{digits-lt, digits-div, digits-mod}
 use lib.Pow.{pow-add, shr-shr, high, low, mod-pow-add}

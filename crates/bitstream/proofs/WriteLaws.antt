@@ -1,12 +1,8 @@
 -- Bits put into words. The idea: `Behind` says which words are written and which bits of the fields' stream are held after them. Bits put behind them
 -- keep it, whether they fill a word (`pushed-word`) or not (`pushed-more`); a field of more than 32 bits is put in two parts (`pushed-wide`), and the
 -- last bits are a word with zeros behind them (`finished`).
-use mathlib.Core.Path.{_≡_, refl, sym, ap, ap₂, _∙_}
-use mathlib.Core.List.{List}
-use Prim.Native.Nat.{ℕ, zero, suc, _+_, _-_, _*_, _/_, _%_, _^_, _≤_, _<_}
+use Rattle.words.proofs.Kit.{_≡_, refl, sym, ap, ap₂, _∙_, List, ℕ, zero, suc, _+_, _-_, _*_, _/_, _%_, _^_, _≤_, _<_, arith, length, set}
 use native.Mathlib.Nat.{add-assoc, mul-add, mul-comm, mul-assoc, add-zero, lt-of-mul-lt-mul-right}
-use native.Mathlib.Omega.{arith}
-use lib.ListN.{length, set}
 use lib.Pow.{pow-add, shr-lt}
 use Rattle.bitstream.specs.Stream.{span}
 use Rattle.bitstream.specs.Carried.{wordOf, needed}

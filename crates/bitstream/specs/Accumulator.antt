@@ -1,10 +1,7 @@
 -- An accumulator of bits: its last `have` bits are held, and what stands above them is never looked at. Unpacking takes bits from the left of those
 -- that are held, and adds a word's bits behind them when there are too few; packing adds a field's bits behind them, and writes a word when there are
 -- enough.
-use mathlib.Core.Path.{_≡_}
-use mathlib.Core.List.{List}
-use Prim.Native.Nat.{ℕ, _+_, _-_, _*_, _/_, _%_, _^_, _≤_, _<_}
-use lib.ListN.{length, set}
+use Rattle.words.specs.Kit.{_≡_, List, ℕ, _+_, _-_, _*_, _/_, _%_, _^_, _≤_, _<_, length, set}
 use Rattle.bitstream.specs.Stream.{span}
 use Rattle.bitstream.specs.Carried.{carried, wordOf}
 use Rattle.bitstream.specs.Filled.{filled}

@@ -1,8 +1,6 @@
 -- Packing fields in words of 32 bits, of which the leftmost c carry the stream of fields. One number says both packings of document 01: c is 32 where
 -- "fields of f bits follow without a gap", and as many bits as whole fields take where "each word holds as many whole fields as fit, from the left".
-use Prim.Native.Nat.{ℕ, _+_, _-_, _*_, _/_, _^_}
-use mathlib.Core.List.{List}
-use lib.ListN.{getD}
+use Rattle.words.specs.Kit.{ℕ, _+_, _-_, _*_, _/_, _^_, List, getD}
 use Rattle.bitstream.specs.Stream.{span}
 
 -- the bits of word j that carry the stream; past the last word they are 0

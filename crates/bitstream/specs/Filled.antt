@@ -1,8 +1,5 @@
 -- What a call that fills places of a buffer leaves in it.
-use Prim.Native.Nat.{ℕ, zero, suc}
-use mathlib.Core.List.{List}
-use lib.ListN.{set}
-use lib.Dec.{ltb}
+use Rattle.words.specs.Kit.{ℕ, zero, suc, List, set, ltb}
 use Rattle.words.specs.Tests.{pick}
 
 -- l with `h 0` to `h (n - 1)` in its first n places; those after them stay

@@ -1,8 +1,7 @@
 // Powers of two, and the low bits of a number; an accumulator of bits.
 pub mod accumulator;
 
-ghost use mathlib.Core.Path.{_≡_};
-ghost use Prim.Native.Nat.{_+_, _%_, _^_, _≤_, _<_};
+ghost use Rattle.words.specs.Kit.{_≡_, _+_, _%_, _^_, _≤_, _<_};
 
 // A power of two.
 pub fn power(n: usize) -> u64

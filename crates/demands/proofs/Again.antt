@@ -1,16 +1,12 @@
 -- Demand 2: "An accepted packet written again gives the same words." The idea: the header that reading took apart joins to itself, each part stands
 -- where reading found it, so the pieces of the packet written again are the first words of what was read, one after the other (`one-more`,
 -- `two-more`). The words are those of 32-bit slices, below 2 ^ 32.
-use mathlib.Core.Path.{_≡_, refl, sym, ap, _∙_}
-use mathlib.Core.Bool.{Bool, true, false, not}
-use mathlib.Core.List.{List, [], _∷_, _++_, append-nil, append-assoc}
-use Prim.Native.Nat.{ℕ, zero, suc, _+_, _-_, _*_, _/_, _%_, _^_, _≤_, _<_}
+use Rattle.words.proofs.Kit.{_≡_, refl, sym, ap, _∙_, Bool, true, false, not, List, [], _∷_, _++_, ℕ, zero, suc, _+_, _-_, _*_, _/_, _%_, _^_, _≤_}
+use Rattle.words.proofs.Kit.{_<_, arith, eqb-true, not-false, ltb-false, lt-ltb, le-ltb, eqb, ltb, length, getD, take, drop}
+use mathlib.Core.List.{append-nil, append-assoc}
 use native.Mathlib.Nat.{add-zero, mod-lt, div-one, le-refl}
 use native.Mathlib.Numerals.{add-one}
-use native.Mathlib.Omega.{arith}
-use borrow.Author.Tests.{eqb-true, not-false, ltb-false, lt-ltb, le-ltb}
-use lib.Dec.{eqb, ltb, lit<}
-use lib.ListN.{length, getD, take, drop}
+use lib.Dec.{lit<}
 use lib.Seq.{take-suc, take-add, append-snoc}
 use Rattle.words.specs.Tests.{pick, when}
 use Rattle.words.specs.Word.{bits, has, highFirst, join, total}

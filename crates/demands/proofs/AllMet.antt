@@ -1,6 +1,5 @@
 -- The demands are met. Each line cites the theorem that proves it.
-use mathlib.Core.Path.{refl, _∙_}
-use mathlib.Core.List.{[]}
+use Rattle.words.proofs.Kit.{refl, _∙_, []}
 use Rattle.table.proofs.StartLaws.{start-well-made}
 use Rattle.demands.specs.Calls.{calls}
 use Rattle.demands.specs.Demands.{ours, Demand1, Demand2, Demand3, playAll}

@@ -1,13 +1,10 @@
 -- What was written reads back as the same parts and body, absent parts zero. The idea: the header that was written says the same again
 -- (HeaderLaws), so each part is looked for where it was laid (`found-one`, `found-two`), whatever words follow the packet.
-use mathlib.Core.Path.{_≡_, refl, sym, ap, _∙_}
-use mathlib.Core.Bool.{Bool, true, false}
-use mathlib.Core.List.{List, [], _∷_, _++_, append-assoc}
-use Prim.Native.Nat.{ℕ, _+_, _-_, _/_, _%_, _^_, _≤_, _<_}
-use native.Mathlib.Omega.{arith}
-use borrow.Author.Tests.{ltb-true, le-ltb}
-use lib.Dec.{eqb, ltb}
-use lib.ListN.{length, getD, take, drop, length-append}
+use Rattle.words.proofs.Kit.{_≡_, refl, sym, ap, _∙_, Bool, true, false, List, [], _∷_, _++_, ℕ, _+_, _-_, _/_, _%_, _^_, _≤_, _<_, arith, le-ltb}
+use Rattle.words.proofs.Kit.{eqb, ltb, length, getD, take, drop}
+use mathlib.Core.List.{append-assoc}
+use borrow.Author.Tests.{ltb-true}
+use lib.ListN.{length-append}
 use lib.Seq.{getD-at, drop-at, take-at, length-take-le}
 use Rattle.words.specs.Tests.{when}
 use Rattle.words.specs.Word.{bits, highFirst, join}

@@ -1,9 +1,7 @@
 -- Demand 3 of calls as they are made. The idea: an outcome that meets a promise is the one that the definition gives, answer and lent words; so calls one
 -- after the other are `playAll` and `saidAll`.
-use mathlib.Core.Path.{_≡_, refl, sym, ap, _∙_}
-use mathlib.Core.List.{List, [], _++_, map, map-append}
-use Prim.Native.Nat.{ℕ, _≤_}
-use lib.ListN.{length, take}
+use Rattle.words.proofs.Kit.{_≡_, refl, sym, ap, _∙_, List, [], _++_, ℕ, _≤_, length, take}
+use mathlib.Core.List.{map, map-append}
 use Rattle.words.specs.declared.Length.{Length}
 use Rattle.words.specs.Outcome.{accepted, measured, saidOf, Meets}
 use Rattle.words.proofs.MeetLaws.{meets-accepted}

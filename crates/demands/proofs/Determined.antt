@@ -1,13 +1,7 @@
 -- The rules leave nothing open. The idea: a good record is fixed by its identifier, its counts and what it holds (`record-by`): the held indicator bit by bit,
 -- a held slot by its value, an unheld one since it is zero. A layout is fixed by its records.
-use mathlib.Core.Path.{_≡_, refl, sym, ap, _∙_}
-use mathlib.Core.Bool.{Bool, true, false}
-use mathlib.Core.Logic.{⊎-elim}
-use mathlib.Core.List.{List, _++_}
+use Rattle.words.proofs.Kit.{_≡_, refl, sym, ap, _∙_, Bool, true, false, ⊎-elim, List, _++_, ℕ, _+_, _≤_, _<_, arith, length, getD}
 use mathlib.Core.Option.{none, some, Option·none-ne-some, Option·some-injective}
-use Prim.Native.Nat.{ℕ, _+_, _≤_, _<_}
-use native.Mathlib.Omega.{arith}
-use lib.ListN.{length, getD}
 use lib.Seq.{ext-getD}
 use Rattle.words.specs.Tests.{pick, among}
 use Rattle.words.specs.Word.{has}

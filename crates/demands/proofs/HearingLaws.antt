@@ -1,13 +1,7 @@
 -- Playing on a table of a list, as the trace tells it. The idea: a table of the list looks an identifier up as the list does (`place-same`), so play is reading
 -- and the list, and then one record replaced (`play-is`); what reading accepts is fine to replace a record by (`heard-fine`).
-use mathlib.Core.Path.{_≡_, refl, sym, ap, _∙_}
-use mathlib.Core.Bool.{true, false}
-use mathlib.Core.List.{List, [], _∷_}
-use Prim.Native.Nat.{ℕ, zero, suc, _≤_, _<_}
-use native.Mathlib.Omega.{arith}
-use borrow.Author.Tests.{leb-false, ltb-false}
-use lib.Dec.{eqb, leb}
-use lib.ListN.{length, getD}
+use Rattle.words.proofs.Kit.{_≡_, refl, sym, ap, _∙_, true, false, List, [], _∷_, ℕ, zero, suc, _≤_, _<_, arith, ltb-false, eqb, leb, length, getD}
+use borrow.Author.Tests.{leb-false}
 use Rattle.words.specs.Tests.{among}
 use Rattle.words.specs.Outcome.{Outcome, refused, accepted, onward, Done, leftOf}
 use Rattle.words.proofs.Cases.{onward-passed, accepted-same}

@@ -1,7 +1,6 @@
 -- Every promise leaves one outcome, and a refusal leaves the lent words. The first cites the law of each call; the second is one law over `Meets`, whose
 -- `leftOf` is the words as they were where the answer is a refusal.
-use mathlib.Core.Path.{sym, _∙_}
-use mathlib.Core.List.{List, [], _∷_}
+use Rattle.words.proofs.Kit.{sym, _∙_, List, [], _∷_}
 use Rattle.words.proofs.MeetLaws.{said-refused}
 use Rattle.words.proofs.Once.{measured-once, lent-once}
 use Rattle.fields.proofs.Uniqueness.{field-count-once, check-body-once, find-once}

@@ -1,14 +1,9 @@
 -- The definition says what document 01 says of both packings. The idea: `carriedBits` is the one number by which they differ, so each statement is a
 -- law of streams at that number.
-use mathlib.Core.Path.{_≡_, sym, ap, _∙_}
-use mathlib.Core.Bool.{true, false}
-use mathlib.Core.List.{List}
-use Prim.Native.Nat.{ℕ, suc, _+_, _-_, _*_, _/_, _%_, _^_, _≤_, _<_}
+use Rattle.words.proofs.Kit.{_≡_, sym, ap, _∙_, true, false, List, ℕ, suc, _+_, _-_, _*_, _/_, _%_, _^_, _≤_, _<_, arith, getD, length, le-leb}
+use Rattle.words.proofs.Kit.{lt-leb}
 use native.Mathlib.Nat.{mul-comm, div-add-mod', add-mul, mul-assoc, mul-le-mul-right, mod-lt, suc-mul, le-div-iff-mul-le, div-mul-le-self}
-use native.Mathlib.Omega.{arith}
-use lib.ListN.{getD, length}
 use lib.Arith.{digits-div}
-use borrow.Author.Tests.{le-leb, lt-leb}
 use Rattle.words.specs.Word.{highFirst}
 use Rattle.fields.specs.Format.{packingSize}
 use Rattle.bitstream.specs.Stream.{span}

@@ -1,16 +1,10 @@
 -- One packet more, in the record of its stream. The idea: what a record holds afterwards is what the packet carried, and else what it held (`held-after`, by
 -- `after-slot` and `after-held`); the count of the packet's type goes on, and the others stay (`count-after`).
-use mathlib.Core.Path.{_≡_, refl, sym, ap, _∙_}
-use mathlib.Core.Bool.{Bool, true, false}
-use mathlib.Core.Logic.{⊎-elim}
-use mathlib.Core.List.{List, [], _∷_}
+use Rattle.words.proofs.Kit.{_≡_, refl, sym, ap, _∙_, Bool, true, false, ⊎-elim, List, [], _∷_, ℕ, zero, suc, _≤_, arith, eq-eqb, ne-eqb, le-leb, eqb}
+use Rattle.words.proofs.Kit.{leb, length}
 use mathlib.Core.Option.{none, some}
-use Prim.Native.Nat.{ℕ, zero, suc, _≤_}
-use native.Mathlib.Omega.{arith}
-use borrow.Author.Tests.{eq-eqb, ne-eqb, le-leb, leb-true}
-use lib.Dec.{eqb, leb}
+use borrow.Author.Tests.{leb-true}
 use lib.Pow.{pow-pos}
-use lib.ListN.{length}
 use Rattle.words.specs.Tests.{pick, both, among}
 use Rattle.words.specs.Word.{has}
 use Rattle.words.specs.Part.{part}

@@ -1,11 +1,6 @@
 -- A play that is broken off and resumed. The idea: a page that was saved holds the table's layout, so the table that it is put back into is right for the
 -- packets before (`right-layout`), and goes on as any right table does; by the rules, and since they leave nothing open, as the unbroken play.
-use mathlib.Core.Path.{_≡_, refl, sym, ap, _∙_}
-use mathlib.Core.Bool.{true}
-use mathlib.Core.List.{List, [], _∷_, _++_}
-use Prim.Native.Nat.{ℕ, _+_, _*_, _≤_, _<_}
-use native.Mathlib.Omega.{arith}
-use lib.ListN.{length, take, drop}
+use Rattle.words.proofs.Kit.{_≡_, refl, sym, ap, _∙_, true, List, [], _∷_, _++_, ℕ, _+_, _*_, _≤_, _<_, arith, length, take, drop}
 use lib.Seq.{take-at, drop-at, length-take-le}
 use Rattle.words.specs.Outcome.{Outcome, accepted, Done, saidOf, leftOf}
 use Rattle.words.proofs.Cases.{accepted-same}

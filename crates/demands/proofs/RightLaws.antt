@@ -1,14 +1,9 @@
 -- Tables stay right. The idea: a fresh table is right for no packets (`right-start`), and a table that is right for some packets is right, after one more is
 -- played, for these and that one (`right-more`): a refusal changes neither the table nor a stream's own packets, and an accepted packet takes its stream's
 -- record one packet on. The answers follow, since the counts before each packet are those of the rules.
-use mathlib.Core.Path.{_≡_, refl, sym, ap, _∙_}
-use mathlib.Core.Bool.{Bool, true, false}
-use mathlib.Core.Logic.{⊎-elim}
-use mathlib.Core.List.{List, [], _∷_, _++_, append-nil, append-assoc}
-use Prim.Native.Nat.{ℕ, _≤_, _<_}
-use borrow.Author.Tests.{eq-eqb, ne-eqb, le-ltb}
-use lib.Dec.{eqb}
-use lib.ListN.{length, getD}
+use Rattle.words.proofs.Kit.{_≡_, refl, sym, ap, _∙_, Bool, true, false, ⊎-elim, List, [], _∷_, _++_, ℕ, _≤_, _<_, eq-eqb, ne-eqb, le-ltb, eqb}
+use Rattle.words.proofs.Kit.{length, getD}
+use mathlib.Core.List.{append-nil, append-assoc}
 use Rattle.words.specs.Tests.{pick, among}
 use Rattle.words.specs.Outcome.{Outcome, refused, accepted, onward, Done, saidOf, leftOf}
 use Rattle.words.proofs.Cases.{accepted-same, same-or-not}

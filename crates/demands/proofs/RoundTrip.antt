@@ -1,17 +1,11 @@
 -- What is packed is unpacked again, and the other way, over the promises of the two public calls: once for every format, both packings, and every
 -- number of items. The idea: an accepted answer tells that every test passed, the tests of the other call then pass too, and fields and words
 -- come back by one regrouping of the stream (`field-back`, `word-back`).
-use mathlib.Core.Path.{_≡_, refl, sym, ap, _∙_}
-use mathlib.Core.Bool.{true, false}
-use mathlib.Core.List.{List}
-use Prim.Native.Nat.{ℕ, _+_, _-_, _*_, _^_, _≤_, _<_}
+use Rattle.words.proofs.Kit.{_≡_, refl, sym, ap, _∙_, true, false, List, ℕ, _+_, _-_, _*_, _^_, _≤_, _<_, arith, length, getD, take, ltb, lt-ltb}
+use Rattle.words.proofs.Kit.{le-ltb, eq-eqb}
 use native.Mathlib.Nat.{mod-lt}
-use native.Mathlib.Omega.{arith}
-use lib.ListN.{length, getD, take}
 use lib.Seq.{getD-take, length-take-le}
-use lib.Dec.{ltb}
 use lib.Pow.{pow-pos, shr-lt}
-use borrow.Author.Tests.{lt-ltb, le-ltb, eq-eqb}
 use Rattle.words.specs.Outcome.{accepted, Done, saidOf, leftOf}
 use Rattle.words.proofs.Cases.{accepted-same}
 use Rattle.words.proofs.RefusalLaws.{first-passed, none-given, first-fine}

@@ -1,13 +1,7 @@
 -- Streams do not touch one another. The idea: the rules look at a stream's own packets alone, so two recordings with the same own packets (`own-altered`) give
 -- the same rules for its record, hence the same words (`records-same`), and the same answers (`own-answers`).
-use mathlib.Core.Path.{_≡_, refl, sym, ap, _∙_}
-use mathlib.Core.Bool.{Bool, false}
-use mathlib.Core.Logic.{⊎-elim}
-use mathlib.Core.List.{List, [], _∷_, _++_, append-nil}
-use Prim.Native.Nat.{ℕ, _<_}
-use borrow.Author.Tests.{eqb-true}
-use lib.Dec.{eqb}
-use lib.ListN.{length}
+use Rattle.words.proofs.Kit.{_≡_, refl, sym, ap, _∙_, Bool, false, ⊎-elim, List, [], _∷_, _++_, ℕ, _<_, eqb-true, eqb, length}
+use mathlib.Core.List.{append-nil}
 use Rattle.words.specs.Tests.{pick}
 use Rattle.words.specs.Outcome.{Outcome, refused, accepted}
 use Rattle.words.proofs.Cases.{true-or-false}

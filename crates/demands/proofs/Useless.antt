@@ -1,12 +1,8 @@
 -- Five useless programs, each shut out by a demand: no program of its kind, whatever its other calls do, meets the demand. The idea: the demand fixes what a
 -- table holds or an answer says for two short recordings, and the useless program would have to give one thing for both.
-use mathlib.Core.Path.{_≡_, refl, sym, ap, _∙_}
-use mathlib.Core.Bool.{true}
-use mathlib.Core.List.{List, [], _∷_}
+use Rattle.words.proofs.Kit.{_≡_, refl, sym, ap, _∙_, true, List, [], _∷_, ℕ, _-_, arith, length, getD}
 use mathlib.Core.Option.{Option, none, some}
-use Prim.Native.Nat.{ℕ, _-_}
-use native.Mathlib.Omega.{arith}
-use lib.ListN.{length, getD, replicate, length-replicate}
+use lib.ListN.{replicate, length-replicate}
 use Rattle.words.specs.Part.{part}
 use Rattle.words.specs.SetBits.{bitsOf, above}
 use Rattle.words.specs.All.{all, firstOf}

@@ -1,9 +1,7 @@
 -- Every public call, with its promise. No call has a `requires`: it may be handed any words. The promise of a call that is lent nothing is `paper r ≡ want h`,
 -- and that of a call that is lent words is `Meets paper (want h) (lent h) r after`, of what it is handed, h, its answer r, and the lent words afterwards; these
 -- are the `ensures` of the calls, word for word.
-use mathlib.Core.Path.{_≡_}
-use Prim.Native.Nat.{ℕ}
-use mathlib.Core.List.{List, [], _∷_}
+use Rattle.words.specs.Kit.{_≡_, ℕ, List, [], _∷_}
 use Rattle.words.specs.Outcome.{Outcome, refused, checked, measured, Done, Meets}
 use Rattle.fields.specs.Answers.{foundPaper}
 use Rattle.fields.specs.Layout.{fieldCount, foundOf, contextOf}

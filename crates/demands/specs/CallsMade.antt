@@ -1,9 +1,7 @@
 -- Demand 3, of calls as they are made: outcomes, answer and lent words, of which nothing is known but that each meets its call's promise. These are the
 -- outcomes of the code, since its `ensures` are these promises.
-use mathlib.Core.Path.{_≡_}
-use Prim.Native.Nat.{ℕ, _≤_, _<_}
-use mathlib.Core.List.{List, [], _∷_, _++_, map}
-use lib.ListN.{length, take}
+use Rattle.words.specs.Kit.{_≡_, ℕ, _≤_, _<_, List, [], _∷_, _++_, length, take}
+use mathlib.Core.List.{map}
 use Rattle.words.specs.declared.Length.{Length}
 use Rattle.words.specs.Outcome.{accepted, measured, Meets}
 use Rattle.table.specs.Layout.{base, recordAt}

@@ -1,8 +1,5 @@
 -- Document 01, 'Payload': "Writers put zero in unused bits; readers ignore them." Words as a writer makes them.
-use mathlib.Core.Path.{_≡_}
-use Prim.Native.Nat.{ℕ, _-_, _*_, _%_, _^_, _≤_, _<_}
-use mathlib.Core.List.{List}
-use lib.ListN.{getD}
+use Rattle.words.specs.Kit.{_≡_, ℕ, _-_, _*_, _%_, _^_, _≤_, _<_, List, getD}
 use Rattle.fields.specs.Format.{packingSize}
 use Rattle.bitstream.specs.Stream.{bit}
 use Rattle.bitstream.specs.Carried.{carried}

@@ -1,13 +1,9 @@
 -- The three demands, in the words of the person this is built for (quoted above each statement), as statements about a program: a record of what its calls
 -- answer, and what they leave in the words that they are lent. `ours` is the program of this project: each call by the definition that its promise cites, so
 -- that proofs/AllMet.antt, which proves the demands of `ours`, proves them of the code.
-use mathlib.Core.Path.{_≡_}
-use Prim.Native.Nat.{ℕ, _+_, _*_, _^_, _≤_, _<_}
-use mathlib.Core.Bool.{true, false}
+use Rattle.words.specs.Kit.{_≡_, ℕ, _+_, _*_, _^_, _≤_, _<_, true, false, List, [], _∷_, _++_, length, getD, take, drop}
 use mathlib.Core.Logic.{_↔_}
-use mathlib.Core.List.{List, [], _∷_, _++_}
 use mathlib.Core.Option.{Option, none, some}
-use lib.ListN.{length, getD, take, drop}
 use Rattle.words.specs.Tests.{pick, among}
 use Rattle.words.specs.Word.{has}
 use Rattle.words.specs.Part.{part}

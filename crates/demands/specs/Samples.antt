@@ -1,9 +1,6 @@
 -- Document 01, 'Samples from the bench': the cases marked P, as one table. A row says what the definitions give and what the bench wants; `Hold` is the one
 -- statement over all rows, proved in proofs/Samples.antt.
-use mathlib.Core.Path.{_≡_}
-use Prim.Native.Nat.{ℕ}
-use mathlib.Core.Bool.{true}
-use mathlib.Core.List.{List, [], _∷_}
+use Rattle.words.specs.Kit.{_≡_, ℕ, true, List, [], _∷_}
 use lib.IntN.{pos, negsuc}
 use lib.Ieee.{fin}
 use Rattle.words.specs.Numbers.{SHORT, CUT}

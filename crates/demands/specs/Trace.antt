@@ -1,12 +1,8 @@
 -- What a trace of packets says by itself: which of them are accepted, by reading and by the list of identifiers, and the rules that a table is held to. No
 -- rule here goes through a table, or through playing: each looks at the packets.
-use mathlib.Core.Path.{_≡_}
-use Prim.Native.Nat.{ℕ, _+_, _%_, _^_}
-use mathlib.Core.Bool.{Bool, true, false}
-use mathlib.Core.List.{List, [], _∷_, _++_, map}
+use Rattle.words.specs.Kit.{_≡_, ℕ, _+_, _%_, _^_, Bool, true, false, List, [], _∷_, _++_, eqb, leb, length}
+use mathlib.Core.List.{map}
 use mathlib.Core.Option.{Option, none, some}
-use lib.Dec.{eqb, leb}
-use lib.ListN.{length}
 use Rattle.words.specs.Numbers.{STREAM}
 use Rattle.words.specs.Tests.{pick, both, among, either}
 use Rattle.words.specs.Word.{has}

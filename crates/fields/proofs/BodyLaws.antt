@@ -1,14 +1,10 @@
 -- What callers use of a type 4 body that is accepted. The idea: the carried bits are those above b, b, and those below it (`bits-split`), so the
 -- words and the rules of all fields are those of the fields before b's, of b's own, and of the rest (`body-split`, `rules-split`).
-use mathlib.Core.Path.{_≡_, refl, sym, ap, _∙_}
-use mathlib.Core.Bool.{Bool, true, false}
-use mathlib.Core.List.{List, [], _∷_, _++_}
-use Prim.Native.Nat.{ℕ, _+_, _≤_, _<_}
+use Rattle.words.proofs.Kit.{_≡_, refl, sym, ap, _∙_, Bool, true, false, List, [], _∷_, _++_, ℕ, _+_, _≤_, _<_, arith, eqb-true, not-false, le-ltb}
+use Rattle.words.proofs.Kit.{le-leb, ltb, length, take, drop}
 use native.Mathlib.Nat.{zero-add, add-assoc}
-use native.Mathlib.Omega.{arith}
-use borrow.Author.Tests.{eqb-true, not-false, ltb-true, le-ltb, le-leb}
-use lib.Dec.{ltb}
-use lib.ListN.{length, take, drop, length-drop}
+use borrow.Author.Tests.{ltb-true}
+use lib.ListN.{length-drop}
 use lib.Seq.{drop-drop, length-take-le}
 use Rattle.words.specs.Tests.{pick, both}
 use Rattle.words.specs.Word.{bits, has}

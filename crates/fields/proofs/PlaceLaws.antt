@@ -1,14 +1,11 @@
 -- Where a field stands. The words of a body from a place on: the first two of them, where a field's rule and its own lengths stand. A field lies
 -- inside where the words past its place suffice (`inside-cut`, `inside-whole`), and its place follows from the indicator with the bits up to
 -- its own cleared (`place-above`).
-use mathlib.Core.Path.{_≡_, sym, ap, _∙_}
-use mathlib.Core.List.{List, [], _∷_}
-use Prim.Native.Nat.{ℕ, _+_, _-_, _*_, _/_, _%_, _^_, _≤_, _<_}
+use Rattle.words.proofs.Kit.{_≡_, sym, ap, _∙_, List, [], _∷_, ℕ, _+_, _-_, _*_, _/_, _%_, _^_, _≤_, _<_, arith, le-leb, lt-leb, length, take, drop}
+use Rattle.words.proofs.Kit.{getD}
 use native.Mathlib.Nat.{add-zero, mod-eq-of-lt, div-mul-le-self, lt-of-le-of-lt}
 use native.Mathlib.Numerals.{add-one}
-use native.Mathlib.Omega.{arith}
-use borrow.Author.Tests.{le-leb, lt-leb}
-use lib.ListN.{length, take, drop, getD, length-drop}
+use lib.ListN.{length-drop}
 use lib.Seq.{getD-drop, take-all}
 use Rattle.words.specs.SetBits.{bitsOf}
 use Rattle.words.proofs.SetBitLaws.{bits-mod, bits-above}

@@ -1,15 +1,8 @@
 -- The field rules. The idea: every rule looks at the first word alone, but for device (17), which looks at two; so a rule of a field from bit 10 up,
 -- which has a word (device has two), is the rule of its own words. A rule is a limit of the first word and what else is asked (`rule-limit`); and the
 -- fields that have one are the bits of one constant (`ruled-bit`).
-use mathlib.Core.Path.{_≡_, refl, sym, _∙_}
-use mathlib.Core.Bool.{Bool, true, false, not}
-use mathlib.Core.Logic.{⊎-elim}
-use mathlib.Core.List.{List, [], _∷_}
-use Prim.Native.Nat.{ℕ, _+_, _/_, _%_, _^_, _≤_, _<_}
-use native.Mathlib.Omega.{arith}
-use borrow.Author.Tests.{eqb-true, eq-eqb, ne-eqb, lt-ltb, le-ltb}
-use lib.Dec.{eqb, ltb}
-use lib.ListN.{take, drop, getD}
+use Rattle.words.proofs.Kit.{_≡_, refl, sym, _∙_, Bool, true, false, not, ⊎-elim, List, [], _∷_, ℕ, _+_, _/_, _%_, _^_, _≤_, _<_, arith, eqb-true}
+use Rattle.words.proofs.Kit.{eq-eqb, ne-eqb, lt-ltb, le-ltb, eqb, ltb, take, drop, getD}
 use lib.Seq.{getD-take}
 use Rattle.words.specs.Tests.{pick, both, among}
 use Rattle.words.specs.All.{all}

@@ -1,14 +1,9 @@
 -- The sizes of fields. The idea: what holds of the rows at every bit is one test that computes, and `wordsOf` looks only at the first two words, and
 -- at none from bit 10 up.
-use mathlib.Core.Path.{_≡_, refl, sym}
-use mathlib.Core.Bool.{Bool, true}
-use mathlib.Core.List.{List, [], _∷_, _++_}
-use Prim.Native.Nat.{ℕ, _+_, _-_, _*_, _^_, _≤_, _<_}
+use Rattle.words.proofs.Kit.{_≡_, refl, sym, Bool, true, List, [], _∷_, _++_, ℕ, _+_, _-_, _*_, _^_, _≤_, _<_, arith, le-ltb, ne-eqb, ltb, leb}
+use Rattle.words.proofs.Kit.{length, getD}
 use native.Mathlib.Nat.{mul-le-mul-left, zero-add}
-use native.Mathlib.Omega.{arith}
-use borrow.Author.Tests.{leb-true, le-ltb, ne-eqb}
-use lib.Dec.{ltb, leb}
-use lib.ListN.{length, getD}
+use borrow.Author.Tests.{leb-true}
 use Rattle.words.specs.Tests.{pick}
 use Rattle.words.specs.SetBits.{bitsOf, above}
 use Rattle.words.specs.All.{all}

@@ -1,8 +1,6 @@
 -- Two answers that meet the promise of a public call are equal. The idea: an answer is found again from its numbers and values, as by
 -- `foundBack`, so `once` applies; a count is its own number.
-use mathlib.Core.Path.{_≡_, refl}
-use mathlib.Core.List.{List, [], _∷_}
-use Prim.Native.Nat.{ℕ}
+use Rattle.words.proofs.Kit.{_≡_, refl, List, [], _∷_, ℕ}
 use Rattle.words.specs.declared.Check.{Check}
 use Rattle.words.specs.Outcome.{checked}
 use Rattle.words.proofs.Once.{once, checked-once}

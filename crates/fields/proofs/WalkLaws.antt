@@ -1,11 +1,6 @@
 -- The walk over the fields of a body. The idea: at the loop's head the span and the rules of all fields are those found so far, completed by the
 -- fields of the bits that are left, from the place reached on (`Walking`); a turn takes the first of these (`walking-turn`).
-use mathlib.Core.Path.{_≡_, refl, sym, ap, _∙_}
-use mathlib.Core.Bool.{Bool, true}
-use mathlib.Core.List.{List, [], _∷_}
-use Prim.Native.Nat.{ℕ, _+_, _*_, _%_, _^_, _≤_, _<_}
-use native.Mathlib.Omega.{arith}
-use lib.ListN.{length, drop}
+use Rattle.words.proofs.Kit.{_≡_, refl, sym, ap, _∙_, Bool, true, List, [], _∷_, ℕ, _+_, _*_, _%_, _^_, _≤_, _<_, arith, length, drop}
 use lib.Seq.{drop-drop}
 use Rattle.words.specs.Tests.{both}
 use Rattle.words.specs.SetBits.{bitsOf}

@@ -1,6 +1,5 @@
 -- The answers of this crate's calls, by their values.
-use Prim.Native.Nat.{ℕ}
-use mathlib.Core.List.{List, [], _∷_}
+use Rattle.words.specs.Kit.{ℕ, List, [], _∷_}
 use Rattle.fields.specs.declared.places.Found.{Found}
 use Rattle.fields.specs.declared.places.Found.the-variants.{At, Absent}
 

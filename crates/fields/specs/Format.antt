@@ -1,7 +1,5 @@
 -- Document 01, 'The packet', field rules: "Format (15)". The parts of the format's first word have the names of 'Payload'.
-use Prim.Native.Nat.{ℕ, _+_}
-use mathlib.Core.Bool.{Bool, true, not}
-use lib.Dec.{eqb, leb}
+use Rattle.words.specs.Kit.{ℕ, _+_, Bool, true, not, eqb, leb}
 use Rattle.words.specs.Tests.{pick, both}
 use Rattle.words.specs.Word.{bits}
 

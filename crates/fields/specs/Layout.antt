@@ -1,10 +1,6 @@
 -- Document 01, 'The packet': "A type 4 body begins with the indicator word. .. Fields follow from bit 30 downwards."
 -- A word past the end of a body reads as 0: a body that ends inside a field has fewer words than its fields need, whatever that field says.
-use Prim.Native.Nat.{ℕ, _+_, _/_, _^_}
-use mathlib.Core.Bool.{Bool, true, not}
-use mathlib.Core.List.{List, [], _∷_}
-use lib.Dec.{eqb, ltb, leb}
-use lib.ListN.{length, take, drop, getD}
+use Rattle.words.specs.Kit.{ℕ, _+_, _/_, _^_, Bool, true, not, List, [], _∷_, eqb, ltb, leb, length, take, drop, getD}
 use Rattle.words.specs.Numbers.{INDICATOR, LAYOUT, FIELD}
 use Rattle.words.specs.Tests.{pick, both}
 use Rattle.words.specs.Word.{bits, has}

@@ -1,9 +1,5 @@
 -- Document 01, 'The packet': "Field rules". Each rule is of a field whose own words are the first of ws.
-use Prim.Native.Nat.{ℕ}
-use mathlib.Core.Bool.{Bool, true}
-use mathlib.Core.List.{List, [], _∷_}
-use lib.Dec.{eqb}
-use lib.ListN.{getD}
+use Rattle.words.specs.Kit.{ℕ, Bool, true, List, [], _∷_, eqb, getD}
 use Rattle.words.specs.Tests.{pick, both, among}
 use Rattle.words.specs.Word.{bits}
 use Rattle.fields.specs.Format.{formatOk}

@@ -1,8 +1,5 @@
 -- Document 01, 'The packet': "Words for each bit".
-use Prim.Native.Nat.{ℕ, _+_, _*_}
-use mathlib.Core.List.{List, [], _∷_}
-use lib.Dec.{eqb}
-use lib.ListN.{getD}
+use Rattle.words.specs.Kit.{ℕ, _+_, _*_, List, [], _∷_, eqb, getD}
 use Rattle.words.specs.Tests.{pick, among}
 use Rattle.words.specs.Word.{bits}
 

@@ -1,6 +1,5 @@
 // Where the fields of a body stand.
-ghost use mathlib.Core.Path.{_≡_};
-ghost use Prim.Native.Nat.{_<_};
+ghost use Rattle.words.specs.Kit.{_≡_, _<_};
 ghost use Rattle.fields.specs.Layout.{insideOf, foundOf};
 ghost use Rattle.fields.specs.Answers.{foundPaper};
 

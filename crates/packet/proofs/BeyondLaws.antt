@@ -1,14 +1,8 @@
 -- "words beyond the size are ignored". The idea: all that reading looks at past the header lies inside the size (`room`), so two lists of words that
 -- agree on it are read alike.
-use mathlib.Core.Path.{_≡_, refl, sym, ap, _∙_}
-use mathlib.Core.Bool.{Bool, true, false}
-use mathlib.Core.List.{List, [], _∷_}
-use Prim.Native.Nat.{ℕ, _+_, _-_, _≤_, _<_}
+use Rattle.words.proofs.Kit.{_≡_, refl, sym, ap, _∙_, Bool, true, false, List, [], _∷_, ℕ, _+_, _-_, _≤_, _<_, arith, ne-eqb, le-ltb, ltb-false, ltb}
+use Rattle.words.proofs.Kit.{length, take, getD}
 use native.Mathlib.Nat.{le-refl}
-use native.Mathlib.Omega.{arith}
-use borrow.Author.Tests.{ne-eqb, le-ltb, ltb-false}
-use lib.Dec.{ltb}
-use lib.ListN.{length, take, getD}
 use lib.Seq.{getD-take}
 use Rattle.words.specs.Tests.{when}
 use Rattle.words.specs.Numbers.{SHORT}

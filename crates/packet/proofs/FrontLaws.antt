@@ -1,11 +1,7 @@
 -- Reading in two steps: what looks at no body, and then the body. The idea: the list of reading is the front's list and then the body's (`read-front`); so a
 -- program that asks the front first, and the body of a type 4 packet alone, finds what reading answers.
-use mathlib.Core.Path.{_≡_, sym, ap, _∙_}
-use mathlib.Core.List.{List}
-use Prim.Native.Nat.{ℕ, _≤_, _<_}
-use native.Mathlib.Omega.{arith}
-use borrow.Author.Tests.{eqb-true, eqb-false, ltb-false, ne-eqb, not-false}
-use lib.ListN.{length, getD}
+use Rattle.words.proofs.Kit.{_≡_, sym, ap, _∙_, List, ℕ, _≤_, _<_, arith, eqb-true, ltb-false, ne-eqb, not-false, length, getD}
+use borrow.Author.Tests.{eqb-false}
 use Rattle.words.specs.Outcome.{refused, accepted, after}
 use Rattle.words.specs.Refusals.{firstGiven}
 use Rattle.words.proofs.RefusalLaws.{None, first-passed, after-first}

@@ -1,15 +1,9 @@
 -- What an accepted packet is: it passed every test of its list (`first-passed`), and so its parts lie inside the words, its body is as document 01 says, and
 -- nothing past its size is looked at. Callers of `read` use these laws and not the definitions' text.
-use mathlib.Core.Path.{_≡_, refl, ap, subst, _∙_}
-use mathlib.Core.List.{List}
-use Prim.Native.Nat.{ℕ, zero, suc, _+_, _^_, _≤_, _<_}
+use Rattle.words.proofs.Kit.{_≡_, refl, ap, subst, _∙_, List, ℕ, zero, suc, _+_, _^_, _≤_, _<_, arith, needs, eq-eqb, ne-eqb, ltb-false, eqb, length}
+use Rattle.words.proofs.Kit.{getD, false}
 use native.Mathlib.Nat.{le-refl, mod-lt}
-use native.Mathlib.Omega.{arith}
-use borrow.Author.Needs.{needs}
-use borrow.Author.Tests.{eq-eqb, ne-eqb, eqb-false, ltb-false}
-use lib.Dec.{eqb}
-use lib.ListN.{length, getD}
-use mathlib.Core.Bool.{false}
+use borrow.Author.Tests.{eqb-false}
 use Rattle.words.specs.Numbers.{STREAM}
 use Rattle.words.specs.Outcome.{refused, accepted}
 use Rattle.words.specs.Part.{part}

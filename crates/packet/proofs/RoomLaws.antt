@@ -1,13 +1,7 @@
 -- Where the parts of a packet lie. The idea: each part ends where the next begins, and the last ends at the size; so all lie inside n words as
 -- soon as the required parts fit the size and the size fits n.
-use mathlib.Core.Path.{_≡_, refl, sym}
-use mathlib.Core.Bool.{Bool, true, false, not}
-use mathlib.Core.List.{List, [], _∷_}
-use Prim.Native.Nat.{ℕ, _+_, _-_, _/_, _%_, _^_, _≤_, _<_}
-use native.Mathlib.Omega.{arith}
-use borrow.Author.Tests.{ne-eqb}
-use lib.Dec.{eqb, ltb}
-use lib.ListN.{getD}
+use Rattle.words.proofs.Kit.{_≡_, refl, sym, Bool, true, false, not, List, [], _∷_, ℕ, _+_, _-_, _/_, _%_, _^_, _≤_, _<_, arith, ne-eqb, eqb, ltb}
+use Rattle.words.proofs.Kit.{getD}
 use Rattle.words.specs.Tests.{pick, when, among}
 use Rattle.words.specs.Word.{has, highFirst}
 use Rattle.words.specs.All.{all}

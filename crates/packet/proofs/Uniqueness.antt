@@ -1,7 +1,5 @@
 -- Two answers that meet the promise of a public call are equal: each `paper` has a left inverse (`once`).
-use mathlib.Core.Path.{_≡_, refl}
-use mathlib.Core.List.{List}
-use Prim.Native.Nat.{ℕ}
+use Rattle.words.proofs.Kit.{_≡_, refl, List, ℕ}
 use Rattle.words.specs.Outcome.{Outcome, refused, accepted}
 use Rattle.words.proofs.Once.{once}
 use Rattle.packet.specs.declared.Packet.{Packet}

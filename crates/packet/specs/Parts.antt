@@ -1,10 +1,6 @@
 -- Document 01, 'The packet': "Order: header; stream identifier (types 1, 3, 4, 5); class (two words, if C); integer seconds (if TSI is not 0);
 -- fraction (two words, high first, if TSF is not 0); body; trailer (if T)." w is the header word; a part that is absent reads as zero.
-use Prim.Native.Nat.{ℕ, _+_, _-_}
-use mathlib.Core.Bool.{Bool, not}
-use mathlib.Core.List.{List, [], _∷_}
-use lib.Dec.{eqb}
-use lib.ListN.{getD}
+use Rattle.words.specs.Kit.{ℕ, _+_, _-_, Bool, not, List, [], _∷_, eqb, getD}
 use Rattle.words.specs.Tests.{when, among}
 use Rattle.words.specs.Word.{bits, highFirst}
 use Rattle.words.specs.Part.{part}

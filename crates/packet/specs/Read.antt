@@ -1,10 +1,6 @@
 -- Document 01, 'Numbers given back': "The first that applies is given, in these orders. Read: 1 to 10 as listed; words beyond the size are
 -- ignored." w is the header word, ws the words that were handed in.
-use Prim.Native.Nat.{ℕ, _^_}
-use mathlib.Core.Bool.{Bool, not}
-use mathlib.Core.List.{List, [], _∷_, _++_}
-use lib.Dec.{eqb, ltb, leb}
-use lib.ListN.{length, getD}
+use Rattle.words.specs.Kit.{ℕ, _^_, Bool, not, List, [], _∷_, _++_, eqb, ltb, leb, length, getD}
 use Rattle.words.specs.Numbers.{EMPTY, TYPE, BITS, SHORT, CUT, CLASS, TIME}
 use Rattle.words.specs.Tests.{both}
 use Rattle.words.specs.Word.{bits}

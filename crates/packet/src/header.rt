@@ -1,6 +1,5 @@
 // The header word: what it says, which parts it announces, and where each begins.
-ghost use mathlib.Core.Path.{_≡_};
-ghost use Prim.Native.Nat.{_≤_};
+ghost use Rattle.words.specs.Kit.{_≡_, _≤_};
 ghost use Rattle.packet.specs.Header.{typeOf, classed, trailed, tsmOf, reservedOf, tsiOf, tsfOf, countOf, sizeOf};
 ghost use Rattle.packet.specs.Parts.{streamed, hasSeconds, hasFraction, classAt, secondsAt, fractionAt, bodyAt, requiredOf};
 

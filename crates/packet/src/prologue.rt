@@ -1,8 +1,5 @@
 // The parts of a packet whose words are all there.
-ghost use mathlib.Core.Path.{_≡_};
-ghost use mathlib.Core.Bool.{true};
-ghost use Prim.Native.Nat.{_+_, _≤_, _<_};
-ghost use lib.ListN.{length};
+ghost use Rattle.words.specs.Kit.{_≡_, true, _+_, _≤_, _<_, length};
 ghost use Rattle.packet.specs.Header.{reservedOf, sizeOf};
 ghost use Rattle.packet.specs.Parts.{streamed, requiredOf, bodyAt, bodyLength, wordIf, classHigh, classLow, fractionOf, partsOf, packetOf};
 

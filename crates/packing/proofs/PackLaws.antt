@@ -1,14 +1,8 @@
 -- What is known where nothing of packing is refused, and the answers of `pack` by whether its checks pass.
-use mathlib.Core.Path.{_≡_, refl, sym, ap}
-use mathlib.Core.Bool.{Bool, false, not}
-use mathlib.Core.List.{List, [], _∷_}
-use mathlib.Core.Logic.{⊎-elim}
-use Prim.Native.Nat.{ℕ, _+_, _-_, _*_, _^_, _≤_, _<_}
-use native.Mathlib.Omega.{arith}
-use lib.ListN.{length, getD, List·getD-eq-default}
+use Rattle.words.proofs.Kit.{_≡_, refl, sym, ap, Bool, false, not, List, [], _∷_, ⊎-elim, ℕ, _+_, _-_, _*_, _^_, _≤_, _<_, arith, length, getD, ltb}
+use Rattle.words.proofs.Kit.{eqb, ltb-false, eqb-true, eq-eqb, not-false}
+use lib.ListN.{List·getD-eq-default}
 use lib.Arith.{lt-one}
-use lib.Dec.{ltb, eqb}
-use borrow.Author.Tests.{ltb-false, eqb-true, eq-eqb, not-false}
 use Rattle.words.specs.Tests.{either}
 use Rattle.words.specs.declared.Length.the-variants.{Accepted, Refused}
 use Rattle.words.specs.Outcome.{Outcome, refused, accepted, measured, Meets}

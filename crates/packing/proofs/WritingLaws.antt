@@ -1,12 +1,8 @@
 -- Fields put into words, one after the other. The idea: before field k the words that are full are written, and the accumulator holds the bits of the
 -- fields' stream after them (`Writing`); there is room for the next field (`writing-can`), which leaves the same of field k + 1 (`writing-next`), and after
 -- the last field the last bits fill the words that are needed (`writing-done`).
-use mathlib.Core.Path.{_≡_, sym, ap, _∙_}
-use mathlib.Core.List.{List}
-use Prim.Native.Nat.{ℕ, _+_, _*_, _^_, _≤_, _<_}
+use Rattle.words.proofs.Kit.{_≡_, sym, ap, _∙_, List, ℕ, _+_, _*_, _^_, _≤_, _<_, arith, length}
 use native.Mathlib.Nat.{mul-add, mul-comm, lt-of-mul-lt-mul-right, mul-le-mul-left, mul-le-mul-right}
-use native.Mathlib.Omega.{arith}
-use lib.ListN.{length}
 use Rattle.bitstream.specs.Stream.{span}
 use Rattle.bitstream.specs.Carried.{wordOf, needed}
 use Rattle.bitstream.specs.Filled.{filled}

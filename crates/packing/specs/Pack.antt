@@ -1,10 +1,5 @@
 -- Document 01: "Pack: FORMAT, COUNT, VALUE, ROOM"; "in packing, the three inputs have n entries each".
-use Prim.Native.Nat.{ℕ, _^_, _≤_, _<_}
-use mathlib.Core.Path.{_≡_}
-use mathlib.Core.Bool.{not}
-use mathlib.Core.List.{List, [], _∷_}
-use lib.ListN.{length, getD}
-use lib.Dec.{eqb, ltb}
+use Rattle.words.specs.Kit.{ℕ, _^_, _≤_, _<_, _≡_, not, List, [], _∷_, length, getD, eqb, ltb}
 use Rattle.words.specs.Tests.{either}
 use Rattle.words.specs.Outcome.{Outcome, accepted, Done}
 use Rattle.words.specs.Refusals.{Refusals, firstGiven}

@@ -1,7 +1,5 @@
 // The refusals of packing: FORMAT, COUNT, VALUE, ROOM.
-ghost use mathlib.Core.Path.{_≡_};
-ghost use Prim.Native.Nat.{_≤_, _<_};
-ghost use lib.ListN.{length};
+ghost use Rattle.words.specs.Kit.{_≡_, _≤_, _<_, length};
 ghost use Rattle.words.specs.Outcome.{checked};
 ghost use Rattle.payload_format.specs.Field.{fitting, joined};
 ghost use Rattle.packing.specs.Pack.{packCheck};

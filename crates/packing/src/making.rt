@@ -1,7 +1,5 @@
 // The words of packing fields.
-ghost use mathlib.Core.Path.{_≡_};
-ghost use Prim.Native.Nat.{_-_, _*_, _^_, _<_};
-ghost use lib.ListN.{length, getD};
+ghost use Rattle.words.specs.Kit.{_≡_, _-_, _*_, _^_, _<_, length, getD};
 ghost use Rattle.bitstream.specs.Carried.{needed, wordOf};
 ghost use Rattle.bitstream.specs.Filled.{filled};
 ghost use Rattle.payload_format.specs.Format.{Legal};

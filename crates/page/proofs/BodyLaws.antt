@@ -1,16 +1,10 @@
 -- A record and its body. The idea: their first words are the same; the rest of a body is the held words of the record's slots, and crate record's laws of
 -- squeezing say that slots give the words again and words the slots (`record-body`, `body-record`).
-use mathlib.Core.Path.{_≡_, refl, sym, ap, ap₂, _∙_}
-use mathlib.Core.Logic.{⊎-elim}
-use mathlib.Core.Bool.{Bool, true, false}
-use mathlib.Core.List.{List, _∷_, _++_}
-use Prim.Native.Nat.{ℕ, zero, suc, _+_, _-_, _%_, _^_, _≤_, _<_}
+use Rattle.words.proofs.Kit.{_≡_, refl, sym, ap, ap₂, _∙_, ⊎-elim, Bool, true, false, List, _∷_, _++_, ℕ, zero, suc, _+_, _-_, _%_, _^_, _≤_, _<_}
+use Rattle.words.proofs.Kit.{arith, eqb-true, eqb, length, drop, getD}
 use native.Mathlib.Nat.{zero-add, mod-lt}
-use native.Mathlib.Omega.{arith}
-use borrow.Author.Tests.{eqb-true}
 use lib.Bits.{bitAnd}
-use lib.Dec.{eqb}
-use lib.ListN.{length, drop, getD, replicate, length-append, length-drop, length-replicate, take-append-drop}
+use lib.ListN.{replicate, length-append, length-drop, length-replicate, take-append-drop}
 use lib.Seq.{drop-at, ext-getD}
 use Rattle.words.specs.Tests.{both}
 use Rattle.words.specs.Word.{has}

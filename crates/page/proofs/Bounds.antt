@@ -1,11 +1,6 @@
 -- How long a page is: "at least 2 + 16S and at most 2 + 90S words". The idea: a body has its 14 first words and at most the 74 words of all held fields
 -- (`words-most`). So no page reaches SIZE (`page-small`).
-use mathlib.Core.Path.{_≡_, ap}
-use mathlib.Core.Bool.{true}
-use mathlib.Core.List.{List}
-use Prim.Native.Nat.{ℕ, zero, suc, _+_, _*_, _≤_, _<_}
-use native.Mathlib.Omega.{arith}
-use lib.ListN.{length}
+use Rattle.words.proofs.Kit.{_≡_, ap, true, List, ℕ, zero, suc, _+_, _*_, _≤_, _<_, arith, length}
 use Rattle.record.specs.Layout.{headWords, recordWords, heldOf}
 use Rattle.table.specs.Layout.{streamsOf, recordAt}
 use Rattle.table.specs.Well.{wellMade}

@@ -1,14 +1,8 @@
 -- Right contents. The idea: the test says what `GoodContents` says in facts (`contents-of`, `of-contents`); the page of bodies whose lengths are those of
 -- their held indicators has right contents (`page-contents`), and in right contents each body is as long as its held indicator says (`body-words`).
-use mathlib.Core.Path.{_≡_, sym, ap, _∙_}
-use mathlib.Core.Bool.{Bool, true}
-use mathlib.Core.List.{List}
-use Prim.Native.Nat.{ℕ, _+_, _≤_, _<_}
+use Rattle.words.proofs.Kit.{_≡_, sym, ap, _∙_, Bool, true, List, ℕ, _+_, _≤_, _<_, arith, eq-eqb, le-leb, eqb-true, eqb, leb, length, getD}
 use native.Mathlib.Nat.{le-of-lt, le-refl}
-use native.Mathlib.Omega.{arith}
-use borrow.Author.Tests.{eq-eqb, le-leb, eqb-true, leb-true}
-use lib.Dec.{eqb, leb}
-use lib.ListN.{length, getD}
+use borrow.Author.Tests.{leb-true}
 use Rattle.words.specs.Tests.{both}
 use Rattle.words.specs.All.{all}
 use Rattle.words.proofs.Cases.{both-left, both-right, both-true}

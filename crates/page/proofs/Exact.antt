@@ -2,14 +2,11 @@
 -- table give back their pieces; so a well-made table is got back from its page (`table-back`), a page that passes the tests is that of the table put back
 -- from it (`page-back`), and the tests pass exactly the well-made pages (`page-tested`), those that well-made
 -- tables save (`page-exact`).
-use mathlib.Core.Path.{_≡_, sym, ap, _∙_}
-use mathlib.Core.Bool.{Bool, true}
+use Rattle.words.proofs.Kit.{_≡_, sym, ap, _∙_, Bool, true, List, [], _++_, ℕ, _<_, arith, length, getD, take}
 use mathlib.Core.Logic.{_↔_}
-use mathlib.Core.List.{List, [], _++_, append-nil}
-use Prim.Native.Nat.{ℕ, _<_}
+use mathlib.Core.List.{append-nil}
 use native.Mathlib.Nat.{add-zero}
-use native.Mathlib.Omega.{arith}
-use lib.ListN.{length, getD, take, length-append}
+use lib.ListN.{length-append}
 use Rattle.words.specs.Tests.{both, sameWords}
 use Rattle.words.specs.All.{all}
 use Rattle.words.proofs.Cases.{same-test, both-left, both-right, both-true, same-words, words-same}

@@ -1,18 +1,12 @@
 -- How a program tests a page. The idea: while the pairs before it are right, body s begins where the lengths say (`Paired`), so one pass tests them all; the
 -- identifiers are gathered into a list (`Gathering`), and each test is a row of its definition. The record of a body need not be made to be tested: its
 -- first words are the body's, the slots of held fields have the words that a walk over the body finds, and the other slots are zero (`rules-below`).
-use mathlib.Core.Path.{_≡_, refl, sym, ap, ap₂, _∙_}
-use mathlib.Core.Bool.{Bool, true, false, not}
-use mathlib.Core.Logic.{⊎-elim}
-use mathlib.Core.List.{List}
-use Prim.Native.Nat.{ℕ, zero, suc, _+_, _-_, _*_, _^_, _≤_, _<_}
+use Rattle.words.proofs.Kit.{_≡_, refl, sym, ap, ap₂, _∙_, Bool, true, false, not, ⊎-elim, List, ℕ, zero, suc, _+_, _-_, _*_, _^_, _≤_, _<_, arith}
+use Rattle.words.proofs.Kit.{eq-eqb, ne-eqb, le-leb, lt-leb, not-true, not-false, eqb, leb, length, take, drop, getD, set}
 use native.Mathlib.Nat.{zero-add, one-mul, lt-of-le-of-lt}
 use native.Mathlib.Numerals.{add-one}
-use native.Mathlib.Omega.{arith}
-use borrow.Author.Tests.{eq-eqb, ne-eqb, le-leb, lt-leb, not-true, not-false}
 use lib.Bits.{bitAnd, and-le-r}
-use lib.Dec.{eqb, leb}
-use lib.ListN.{length, take, drop, getD, set, length-set}
+use lib.ListN.{length-set}
 use lib.Seq.{getD-set-same, getD-set-other, drop-drop}
 use Rattle.words.specs.Tests.{both}
 use Rattle.words.specs.Word.{has}

@@ -1,11 +1,8 @@
 -- The page of some bodies, and the table of some records. The idea: pairs, bodies and records are numbered pieces, so each is found at its place (`pair-at`,
 -- `body-in`, `record-in`); and a page with right contents is the page of the bodies in it (`page-again`), a table that of its records (`table-again`).
-use mathlib.Core.Path.{_≡_, refl, sym, ap, ap₂, _∙_}
-use mathlib.Core.List.{List, [], _∷_, _++_}
-use Prim.Native.Nat.{ℕ, zero, suc, _+_, _-_, _*_, _≤_, _<_}
+use Rattle.words.proofs.Kit.{_≡_, refl, sym, ap, ap₂, _∙_, List, [], _∷_, _++_, ℕ, zero, suc, _+_, _-_, _*_, _≤_, _<_, arith, length, getD, take}
 use native.Mathlib.Nat.{add-zero, le-of-lt}
-use native.Mathlib.Omega.{arith}
-use lib.ListN.{length, getD, take, length-append}
+use lib.ListN.{length-append}
 use lib.Seq.{drop-cons}
 use Rattle.words.specs.Part.{part}
 use Rattle.words.proofs.PartLaws.{part-is, part-past, part-within, part-whole, part-length, getD-part}

@@ -1,12 +1,8 @@
 -- Numbered pieces, one after the other. The idea: piece s begins where the pieces before it end, so it is found there (`pieces-at`); and a list cut at places
 -- without gaps is its parts, one after the other (`pieces-parts`).
-use mathlib.Core.Path.{_≡_, refl, sym, ap, _∙_}
-use mathlib.Core.Logic.{⊎-elim}
-use mathlib.Core.List.{List, [], _++_}
-use Prim.Native.Nat.{ℕ, zero, suc, _+_, _-_, _*_, _≤_, _<_}
+use Rattle.words.proofs.Kit.{_≡_, refl, sym, ap, _∙_, ⊎-elim, List, [], _++_, ℕ, zero, suc, _+_, _-_, _*_, _≤_, _<_, arith, length}
 use native.Mathlib.Nat.{add-zero, mul-zero, not-suc-le-zero}
-use native.Mathlib.Omega.{arith}
-use lib.ListN.{length, length-append}
+use lib.ListN.{length-append}
 use lib.Seq.{take-add, drop-drop}
 use Rattle.words.specs.Part.{part}
 use Rattle.words.proofs.Cases.{le-or-lt}

@@ -1,13 +1,10 @@
 -- How putting back goes. The idea: a body's first words and its held words are put into zeroed words (`filled-record`), and the records are pieces laid one
 -- after the other behind S (`Putting`).
-use mathlib.Core.Path.{_≡_, refl, sym, ap, ap₂, _∙_}
-use mathlib.Core.Bool.{Bool, true, false, not}
-use mathlib.Core.List.{List, [], _∷_, _++_, append-nil}
-use Prim.Native.Nat.{ℕ, _+_, _-_, _^_, _≤_, _<_}
-use native.Mathlib.Omega.{arith}
-use borrow.Author.Tests.{lt-ltb, le-ltb, not-true, not-false}
+use Rattle.words.proofs.Kit.{_≡_, refl, sym, ap, ap₂, _∙_, Bool, true, false, not, List, [], _∷_, _++_, ℕ, _+_, _-_, _^_, _≤_, _<_, arith, lt-ltb}
+use Rattle.words.proofs.Kit.{le-ltb, not-true, not-false, length, take, drop, set}
+use mathlib.Core.List.{append-nil}
 use lib.Bits.{bitAnd}
-use lib.ListN.{length, take, drop, set, replicate, length-replicate, length-set}
+use lib.ListN.{replicate, length-replicate, length-set}
 use Rattle.words.specs.Numbers.{PAGE, ROOM}
 use Rattle.words.specs.declared.Length.the-variants.{Accepted, Refused}
 use Rattle.words.specs.Outcome.{measured, Meets}

@@ -1,12 +1,6 @@
 -- Saving and putting back, one after the other. The idea: what a call leaves is fixed by its definition, and `table-back` and `page-back` say what the other
 -- call makes of it.
-use mathlib.Core.Path.{_≡_, sym, ap, _∙_}
-use mathlib.Core.Bool.{true}
-use mathlib.Core.List.{List, _++_}
-use Prim.Native.Nat.{ℕ, _≤_}
-use native.Mathlib.Omega.{arith}
-use borrow.Author.Tests.{le-ltb}
-use lib.ListN.{length, take, drop}
+use Rattle.words.proofs.Kit.{_≡_, sym, ap, _∙_, true, List, _++_, ℕ, _≤_, arith, le-ltb, length, take, drop}
 use Rattle.words.specs.Outcome.{accepted}
 use Rattle.table.specs.Layout.{streamsOf, layoutWords}
 use Rattle.table.specs.Well.{wellMade}

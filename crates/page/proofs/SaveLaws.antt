@@ -1,16 +1,11 @@
 -- How saving goes. The idea: after s streams the length is the offset of body s (`Summing`), and a body's length is that of the held indicator in its record;
 -- the pairs and the bodies are pieces laid one after the other (`Pairing`, `Laying`), in one pass: a pair stands before the bodies, so writing it leaves them
 -- (`Saving`).
-use mathlib.Core.Path.{_≡_, refl, sym, ap, ap₂, _∙_}
-use mathlib.Core.Bool.{Bool, true, false, not}
-use mathlib.Core.List.{List, [], _∷_, _++_}
-use Prim.Native.Nat.{ℕ, _+_, _-_, _^_, _≤_, _<_}
+use Rattle.words.proofs.Kit.{_≡_, refl, sym, ap, ap₂, _∙_, Bool, true, false, not, List, [], _∷_, _++_, ℕ, _+_, _-_, _^_, _≤_, _<_, arith, lt-ltb}
+use Rattle.words.proofs.Kit.{le-ltb, not-true, not-false, ltb, length, getD, take, drop, set}
 use native.Mathlib.Numerals.{add-one}
-use native.Mathlib.Omega.{arith}
-use borrow.Author.Tests.{lt-ltb, le-ltb, not-true, not-false}
 use lib.Bits.{bitAnd}
-use lib.Dec.{ltb}
-use lib.ListN.{length, getD, take, drop, set, length-set}
+use lib.ListN.{length-set}
 use Rattle.words.specs.Numbers.{TABLE, SIZE, ROOM}
 use Rattle.words.specs.declared.Length.{Length}
 use Rattle.words.specs.declared.Length.the-variants.{Accepted, Refused}

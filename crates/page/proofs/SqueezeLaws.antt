@@ -1,14 +1,9 @@
 -- The loop that lays the held words of a record's slots into a page. The idea: what is laid so far, with the slots of the bits that are left, is all held
 -- words (`Squeezing`); a turn lays the slot of the first of these bits.
-use mathlib.Core.Path.{_≡_, refl, sym, ap, ap₂, _∙_}
-use mathlib.Core.Bool.{true, false}
-use mathlib.Core.Logic.{⊎-elim}
-use mathlib.Core.List.{List, [], _∷_, _++_, append-assoc, append-nil}
-use Prim.Native.Nat.{ℕ, zero, suc, _+_, _^_, _≤_, _<_}
+use Rattle.words.proofs.Kit.{_≡_, refl, sym, ap, ap₂, _∙_, true, false, ⊎-elim, List, [], _∷_, _++_, ℕ, zero, suc, _+_, _^_, _≤_, _<_, arith, length}
+use mathlib.Core.List.{append-assoc, append-nil}
 use native.Mathlib.Nat.{add-zero, lt-of-le-of-lt}
-use native.Mathlib.Omega.{arith}
 use lib.Bits.{bitAnd, and-le-r}
-use lib.ListN.{length}
 use Rattle.words.specs.Tests.{among}
 use Rattle.words.specs.Word.{has}
 use Rattle.words.specs.Part.{part, put}

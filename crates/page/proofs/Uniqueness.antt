@@ -1,9 +1,5 @@
 -- A page is that of one layout.
-use mathlib.Core.Path.{_≡_, sym, ap, _∙_}
-use mathlib.Core.Bool.{true}
-use mathlib.Core.List.{List}
-use Prim.Native.Nat.{ℕ}
-use lib.ListN.{take}
+use Rattle.words.proofs.Kit.{_≡_, sym, ap, _∙_, true, List, ℕ, take}
 use Rattle.table.specs.Layout.{streamsOf, layoutWords}
 use Rattle.table.specs.Well.{wellMade}
 use Rattle.page.specs.Layout.{pageOf, tableOf}

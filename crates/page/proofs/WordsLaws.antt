@@ -1,12 +1,8 @@
 -- Words below 2^32. The idea: what is put back from a page is made of the page's words and zeros, so over words the tests accept exactly the pages that
 -- well-made tables of words save (`page-exact-words`).
-use mathlib.Core.Path.{_≡_, _∙_}
-use mathlib.Core.Bool.{Bool, true, false}
+use Rattle.words.proofs.Kit.{_≡_, _∙_, Bool, true, false, List, [], _∷_, _++_, ℕ, zero, suc, _+_, _^_, _<_, arith, getD, take, drop}
 use mathlib.Core.Logic.{_↔_}
-use mathlib.Core.List.{List, [], _∷_, _++_}
-use Prim.Native.Nat.{ℕ, zero, suc, _+_, _^_, _<_}
-use native.Mathlib.Omega.{arith}
-use lib.ListN.{getD, take, drop, replicate}
+use lib.ListN.{replicate}
 use Rattle.words.specs.Word.{has}
 use Rattle.words.specs.SetBits.{bitsOf, above}
 use Rattle.words.specs.Part.{part}

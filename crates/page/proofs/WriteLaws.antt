@@ -1,12 +1,8 @@
 -- Pieces that are written one after the other. The idea: what is written so far is the pieces so far (`laid-next`), so pairs, bodies and records are laid by
 -- one law; and words laid from the front on are followed by what stood there (`laid-front`).
-use mathlib.Core.Path.{_≡_, refl, sym, ap, _∙_}
-use mathlib.Core.List.{List, [], _∷_, _++_}
-use Prim.Native.Nat.{ℕ, suc, _+_, _≤_, _<_}
+use Rattle.words.proofs.Kit.{_≡_, refl, sym, ap, _∙_, List, [], _∷_, _++_, ℕ, suc, _+_, _≤_, _<_, arith, length, drop, set}
 use native.Mathlib.Nat.{add-zero, zero-add}
 use native.Mathlib.Numerals.{add-one}
-use native.Mathlib.Omega.{arith}
-use lib.ListN.{length, drop, set}
 use lib.Seq.{sets, sets-eq, set-comm}
 use Rattle.words.specs.Part.{put}
 use Rattle.words.specs.Laid.{Laid}

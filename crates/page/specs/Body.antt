@@ -1,7 +1,6 @@
 -- Document 01, 'The table and its page': "A body: identifier, held indicator, for types 1, 3, 4, 5 three words each (seen, missing, last plus one or 0 if not
 -- started), then the held words in field order." A record's first words are those of its body; the slots are squeezed to the held words.
-use Prim.Native.Nat.{ℕ, _+_}
-use mathlib.Core.List.{List, _++_}
+use Rattle.words.specs.Kit.{ℕ, _+_, List, _++_}
 use lib.ListN.{replicate}
 use Rattle.words.specs.Part.{part}
 use Rattle.words.specs.SetBits.{bitsOf}

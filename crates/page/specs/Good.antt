@@ -1,7 +1,5 @@
 -- Document 01, 'The table and its page': "A page is well made when some well-made table saves exactly its words."
-use mathlib.Core.Bool.{Bool}
-use mathlib.Core.List.{List}
-use Prim.Native.Nat.{ℕ}
+use Rattle.words.specs.Kit.{Bool, List, ℕ}
 use Rattle.words.specs.Tests.{both, sameWords}
 use Rattle.table.specs.Well.{wellMade}
 use Rattle.page.specs.Layout.{pageOf, tableOf}

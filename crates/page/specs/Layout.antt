@@ -1,8 +1,6 @@
 -- Document 01, 'The table and its page': "Page, contents first: word 0 is S; word 1 the page's length; then S pairs, offset from word 0 and length of each
 -- body, in list order without gaps; then bodies."
-use Prim.Native.Nat.{ℕ, zero, suc, _+_, _*_}
-use mathlib.Core.List.{List, [], _∷_, _++_}
-use lib.ListN.{length, getD}
+use Rattle.words.specs.Kit.{ℕ, zero, suc, _+_, _*_, List, [], _∷_, _++_, length, getD}
 use Rattle.words.specs.Part.{part}
 use Rattle.table.specs.Layout.{streamsOf, recordAt}
 use Rattle.page.specs.Pieces.{pieces}

@@ -1,10 +1,6 @@
 -- Document 01: "Put back: PAGE, ROOM." "Put back takes exactly one page." "A lent table may be longer than its layout: words past it are neither read nor
 -- changed."
-use Prim.Native.Nat.{ℕ}
-use mathlib.Core.Bool.{not}
-use mathlib.Core.List.{List, [], _∷_, _++_}
-use lib.Dec.{ltb}
-use lib.ListN.{length, drop}
+use Rattle.words.specs.Kit.{ℕ, not, List, [], _∷_, _++_, ltb, length, drop}
 use Rattle.words.specs.Numbers.{PAGE, ROOM}
 use Rattle.words.specs.Outcome.{Outcome, accepted, Done}
 use Rattle.words.specs.Refusals.{Refusals, firstGiven}

@@ -1,9 +1,5 @@
 -- Document 01: "Save: TABLE, SIZE, ROOM."
-use Prim.Native.Nat.{ℕ}
-use mathlib.Core.Bool.{not}
-use mathlib.Core.List.{List, [], _∷_, _++_}
-use lib.Dec.{ltb}
-use lib.ListN.{length, drop}
+use Rattle.words.specs.Kit.{ℕ, not, List, [], _∷_, _++_, ltb, length, drop}
 use Rattle.words.specs.Numbers.{TABLE, SIZE, ROOM}
 use Rattle.words.specs.Outcome.{Outcome, accepted, Done}
 use Rattle.words.specs.Refusals.{Refusals, firstGiven}

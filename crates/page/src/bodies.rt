@@ -1,9 +1,6 @@
 // The bodies of a page, one for each stream.
-ghost use mathlib.Core.Path.{_≡_};
-ghost use mathlib.Core.Bool.{true};
-ghost use Prim.Native.Nat.{_+_, _≤_, _<_};
+ghost use Rattle.words.specs.Kit.{_≡_, true, _+_, _≤_, _<_, length};
 ghost use lib.Bits.{bitAnd};
-ghost use lib.ListN.{length};
 ghost use Rattle.words.specs.SetBits.{bitsOf};
 ghost use Rattle.words.specs.Laid.{Laid};
 ghost use Rattle.words.specs.All.{tabled};

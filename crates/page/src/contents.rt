@@ -1,6 +1,5 @@
 // The contents of a page: S, the length, and a pair for each body. Places in them, and what a pair says.
-ghost use mathlib.Core.Path.{_≡_};
-ghost use Prim.Native.Nat.{_^_, _<_};
+ghost use Rattle.words.specs.Kit.{_≡_, _^_, _<_};
 ghost use Rattle.page.specs.Layout.{contentsWords, pairAt, offsetAt, lengthAt};
 
 // The words of the contents of a page of n bodies.

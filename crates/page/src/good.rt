@@ -1,8 +1,5 @@
 // Whether a page is well made: its contents, then its list, then each body's record.
-ghost use mathlib.Core.Path.{_≡_};
-ghost use mathlib.Core.Bool.{true};
-ghost use Prim.Native.Nat.{_≤_, _<_};
-ghost use lib.ListN.{length};
+ghost use Rattle.words.specs.Kit.{_≡_, true, _≤_, _<_, length};
 ghost use Rattle.words.specs.All.{all, tabled};
 ghost use Rattle.fields.specs.Sizes.{sizeOf};
 ghost use Rattle.record.specs.Layout.{heldOf};

@@ -1,9 +1,6 @@
 // The table of a page: each body's record, and the records behind S.
-ghost use mathlib.Core.Path.{_≡_};
-ghost use mathlib.Core.Bool.{true};
-ghost use mathlib.Core.List.{_++_};
-ghost use Prim.Native.Nat.{_≤_, _<_};
-ghost use lib.ListN.{length, drop, replicate};
+ghost use Rattle.words.specs.Kit.{_≡_, true, _++_, _≤_, _<_, length, drop};
+ghost use lib.ListN.{replicate};
 ghost use Rattle.record.specs.Layout.{recordWords, heldOf};
 ghost use Rattle.table.specs.Layout.{layoutWords, Has, withRecord};
 ghost use Rattle.page.specs.Body.{pageBodyWords, recordOf};

@@ -1,9 +1,5 @@
 // The page of a table, written: the contents, and then the bodies.
-ghost use mathlib.Core.Path.{_≡_};
-ghost use mathlib.Core.Bool.{true};
-ghost use mathlib.Core.List.{_++_};
-ghost use Prim.Native.Nat.{_+_, _≤_, _<_};
-ghost use lib.ListN.{length, drop, set};
+ghost use Rattle.words.specs.Kit.{_≡_, true, _++_, _+_, _≤_, _<_, length, drop, set};
 ghost use Rattle.words.specs.Laid.{Laid};
 ghost use Rattle.table.specs.Well.{wellMade};
 ghost use Rattle.page.specs.Layout.{pairAt, pairsOf, bodiesOf, pageOf, pageLength, mostWords};

@@ -1,10 +1,8 @@
 -- The bit pattern of a level, a gain or a temperature: sign, exponent and fraction fields as whole numbers, zero being all zero bits. The idea: n has `size n`
 -- bits, so its fraction field is n moved up to 24 bits without the first of them, and the exponent field counts from there.
-use mathlib.Core.Path.{_≡_, refl, sym, ap, _∙_, subst}
-use Prim.Native.Nat.{ℕ, zero, suc, _+_, _-_, _*_, _/_, _^_, _≤_, _<_}
+use Rattle.words.proofs.Kit.{_≡_, refl, sym, ap, _∙_, subst, ℕ, zero, suc, _+_, _-_, _*_, _/_, _^_, _≤_, _<_, arith, Bool, true, false}
 use native.Mathlib.Nat.{mul-assoc, mul-le-mul-right, lt-of-lt-of-le, lt-of-not-le, not-le-of-lt}
-use native.Mathlib.Omega.{arith}
-use mathlib.Core.Bool.{Bool, true, false, cond}
+use mathlib.Core.Bool.{cond}
 use lib.IntN.{ℤ, pos, negsuc, natAbs}
 use lib.Dec.{lit≤}
 use lib.Signed.{mag}

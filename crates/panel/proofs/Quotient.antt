@@ -1,11 +1,10 @@
 -- A whole number below 2 ^ 24, as a float, over 2 ^ k is the definition's float: sign, odd fraction and exponent. The idea: both fit and have one value, and
 -- two floats that fit and have one sign and value are equal, since the bit pattern sees nothing else.
-use mathlib.Core.Path.{_≡_, refl, sym, ap, subst, _∙_}
-use Prim.Native.Nat.{ℕ, zero, suc, _+_, _-_, _*_, _/_, _^_, _≤_, _<_}
+use Rattle.words.proofs.Kit.{_≡_, refl, sym, ap, subst, _∙_, ℕ, zero, suc, _+_, _-_, _*_, _/_, _^_, _≤_, _<_, arith, Bool, true, false, not, leb}
+use Rattle.words.proofs.Kit.{le-leb, lt-leb}
 use native.Mathlib.Nat.{mul-one, one-mul, mul-comm, mul-assoc, mul-right-comm, mul-pos, lt-of-lt-of-le, le-of-lt}
-use native.Mathlib.Omega.{arith}
-use mathlib.Core.Bool.{Bool, true, false, not, cond}
-use lib.Dec.{T, leb, lit<, lit≤}
+use mathlib.Core.Bool.{cond}
+use lib.Dec.{T, lit<, lit≤}
 use lib.Pow.{pow-add, pow-pos, pow-mono, shl-lt}
 use lib.IntN.{ℤ, pos, negsuc, natAbs}
 use lib.Signed.{mag, nonNeg}
@@ -16,7 +15,7 @@ use lib.Ieee.Bits.{ofBits-toBits}
 use lib.Ieee.Exact.{HasValue, odd-sign, round-exact}
 use lib.Ieee.Nearest.{div-same}
 use lib.Ieee.Scale.{round-same}
-use borrow.Author.Tests.{le-leb, lt-leb, leb-true, leb-false}
+use borrow.Author.Tests.{leb-true, leb-false}
 use Rattle.panel.specs.Values.{share, over}
 
 -- ---- a float that fits is fixed by its sign and its value

@@ -1,13 +1,8 @@
 -- The answers. The idea: where nothing is refused the record is there and the bit has a slot; the slot is a part of the record, and so are the held words,
 -- also those of an absent field, which are none.
-use mathlib.Core.Path.{_≡_, refl, sym, ap, subst, _∙_}
-use mathlib.Core.Bool.{Bool, true, false, not}
-use mathlib.Core.List.{List, [], _++_}
-use Prim.Native.Nat.{ℕ, _+_, _-_, _≤_, _<_}
-use native.Mathlib.Omega.{arith}
-use borrow.Author.Tests.{lt-ltb, le-ltb, le-leb, lt-leb, leb-false, ltb-false, not-true, not-false}
-use lib.Dec.{ltb}
-use lib.ListN.{length, take, drop}
+use Rattle.words.proofs.Kit.{_≡_, refl, sym, ap, subst, _∙_, Bool, true, false, not, List, [], _++_, ℕ, _+_, _-_, _≤_, _<_, arith, lt-ltb, le-ltb}
+use Rattle.words.proofs.Kit.{le-leb, lt-leb, ltb-false, not-true, not-false, ltb, length, take, drop}
+use borrow.Author.Tests.{leb-false}
 use Rattle.words.specs.Numbers.{TABLE, STREAM, VALUE, ROOM}
 use Rattle.words.specs.Tests.{pick, when}
 use Rattle.words.specs.Part.{part, put}

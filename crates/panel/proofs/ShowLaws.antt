@@ -1,13 +1,8 @@
 -- What a field shows. The idea: each return of `show` is a line of the definition; first and low are the field's words, as the program read them, and q is
 -- whether the field is a frequency.
-use mathlib.Core.Path.{_≡_, ap, _∙_}
-use mathlib.Core.Bool.{Bool, true, false}
-use mathlib.Core.List.{List}
-use Prim.Native.Nat.{ℕ, _/_, _%_, _^_, _<_}
-use borrow.Author.Tests.{eq-eqb, ne-eqb}
+use Rattle.words.proofs.Kit.{_≡_, ap, _∙_, Bool, true, false, List, ℕ, _/_, _%_, _^_, _<_, eq-eqb, ne-eqb, getD}
 use lib.IntN.{ℤ}
 use lib.Ieee.{Float}
-use lib.ListN.{getD}
 use lib.Signed.{mag}
 use mir.Syntax.{w64}
 use mir.Val.{toZ, ofZ}

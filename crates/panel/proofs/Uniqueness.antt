@@ -1,7 +1,5 @@
 -- Two outcomes that meet a public call's promise are equal: its answer, and the lent buffer afterwards. The idea: each `paper` has a left inverse.
-use mathlib.Core.Path.{_≡_, refl}
-use mathlib.Core.List.{List}
-use Prim.Native.Nat.{ℕ}
+use Rattle.words.proofs.Kit.{_≡_, refl, List, ℕ}
 use Rattle.words.specs.Outcome.{Outcome, refused, accepted}
 use Rattle.words.proofs.Once.{once}
 use Rattle.panel.specs.Readings.{Reading, frequency, level, gain, temperature, other, absent, readingOf, readingPaper}

@@ -1,13 +1,9 @@
 -- Numbers out of held words. The idea: two's complement is `pos` below the sign bit's weight and `negsuc` from there on, so that a range, a remainder and a
 -- machine number follow by cases; and what a division leaves below zero says that it stands 1 above rounding down.
-use mathlib.Core.Path.{_≡_, refl, sym, ap, subst, _∙_}
-use mathlib.Core.Bool.{true, false}
-use mathlib.Core.Logic.{⊎-elim}
-use Prim.Native.Nat.{ℕ, zero, suc, _+_, _-_, _*_, _/_, _%_, _^_, _≤_, _<_}
+use Rattle.words.proofs.Kit.{_≡_, refl, sym, ap, subst, _∙_, true, false, ⊎-elim, ℕ, zero, suc, _+_, _-_, _*_, _/_, _%_, _^_, _≤_, _<_, arith, lt-ltb}
+use Rattle.words.proofs.Kit.{le-ltb, lt-leb}
 use native.Mathlib.Nat.{le-of-lt, lt-of-lt-of-le, lt-of-le-of-lt}
-use native.Mathlib.Omega.{arith}
 use borrow.Author.Needs.{sfits-of}
-use borrow.Author.Tests.{lt-ltb, le-ltb, lt-leb}
 use lib.Dec.{T, lit≤, le→leb, lt→ltb}
 use lib.IntN.{ℤ, pos, negsuc, negℤ, _+ℤ_, _-ℤ_, _*ℤ_}
 use lib.Ieee.{Float, binary32, inFloat, div, ofInt}

@@ -1,9 +1,6 @@
 -- The held words themselves, for a field of which a reading says no more: TABLE, STREAM and VALUE as a reading, then ROOM. Document 01: "A refusal returns its
 -- number alone and writes nothing"; "Only words needed by an accepted answer change."
-use Prim.Native.Nat.{ℕ}
-use mathlib.Core.List.{List, [], _∷_, _++_}
-use lib.Dec.{ltb}
-use lib.ListN.{length, drop}
+use Rattle.words.specs.Kit.{ℕ, List, [], _∷_, _++_, ltb, length, drop}
 use Rattle.words.specs.Numbers.{ROOM}
 use Rattle.words.specs.Tests.{pick}
 use Rattle.words.specs.Outcome.{Outcome, accepted, Done}

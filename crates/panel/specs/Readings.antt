@@ -1,10 +1,6 @@
 -- Document 01, 'Readings for the panel': "A reading is a frequency, a level, a gain pair, a temperature, other (held, nothing more said), or absent"; and
 -- "Reading: TABLE, STREAM, VALUE".
-use Prim.Native.Nat.{ℕ}
-use mathlib.Core.Bool.{Bool, true, not}
-use mathlib.Core.List.{List, [], _∷_}
-use lib.Dec.{eqb, ltb, leb}
-use lib.ListN.{getD}
+use Rattle.words.specs.Kit.{ℕ, Bool, true, not, List, [], _∷_, eqb, ltb, leb, getD}
 use lib.IntN.{ℤ}
 use lib.Ieee.{Float}
 use Rattle.words.specs.Numbers.{TABLE, STREAM, VALUE}

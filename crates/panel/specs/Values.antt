@@ -1,7 +1,6 @@
 -- Document 01, 'Readings for the panel': numbers out of held words. "These three are f32 and exact: the promise fixes each f32 by its sign, exponent and
 -- fraction as whole numbers, zero being plus zero." Two's complement is that of crate `payload_format`.
-use Prim.Native.Nat.{ℕ, zero, suc, _-_, _/_, _%_, _^_}
-use mathlib.Core.Bool.{Bool, true, false}
+use Rattle.words.specs.Kit.{ℕ, zero, suc, _-_, _/_, _%_, _^_, Bool, true, false}
 use lib.IntN.{ℤ, pos, negsuc}
 use lib.Count.{trailingZeros}
 use lib.Ieee.{Float, fin, minus}

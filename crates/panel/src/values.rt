@@ -1,6 +1,5 @@
 // Numbers out of held words: signed numbers, whole hertz, and exact quotients as f32.
-ghost use mathlib.Core.Path.{_≡_};
-ghost use Prim.Native.Nat.{_≤_, _<_, _^_};
+ghost use Rattle.words.specs.Kit.{_≡_, _≤_, _<_, _^_};
 ghost use lib.IntN.{pos};
 ghost use lib.Signed.{ltZ};
 ghost use lib.Ieee.{binary32, ofInt, div};

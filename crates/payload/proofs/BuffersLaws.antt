@@ -1,9 +1,6 @@
 -- The parts of fields in three buffers. The idea: a loop that writes the parts of one field after the other fills the three alike (`Parts`), however it
 -- comes by the field.
-use mathlib.Core.Path.{_≡_, ap, _∙_}
-use mathlib.Core.List.{List}
-use Prim.Native.Nat.{ℕ, _+_, _-_, _/_, _^_, _≤_, _<_}
-use lib.ListN.{set}
+use Rattle.words.proofs.Kit.{_≡_, ap, _∙_, List, ℕ, _+_, _-_, _/_, _^_, _≤_, _<_, set}
 use Rattle.bitstream.proofs.FilledLaws.{Fills, fills-none, fills-start, fills-turn, fills-end, fills-all, fills-on}
 use Rattle.payload_format.specs.declared.inner.Packing.{Packing}
 use Rattle.payload_format.specs.Field.{fieldIn, itemIn, eventIn, channelIn}

@@ -1,11 +1,7 @@
 -- Fields taken from words, one after the other. The idea: before field k the accumulator holds bits of the words' stream from bit f * k on (`Reading`);
 -- the next field is there (`reading-can`), is field k (`reading-field`), and leaves the same of field k + 1 (`reading-next`).
-use mathlib.Core.Path.{_≡_}
-use mathlib.Core.List.{List}
-use Prim.Native.Nat.{ℕ, _+_, _-_, _*_, _/_, _^_, _≤_, _<_}
+use Rattle.words.proofs.Kit.{_≡_, List, ℕ, _+_, _-_, _*_, _/_, _^_, _≤_, _<_, arith, length}
 use native.Mathlib.Nat.{mul-add, mul-le-mul-left}
-use native.Mathlib.Omega.{arith}
-use lib.ListN.{length}
 use Rattle.bitstream.specs.Carried.{fieldOf}
 use Rattle.bitstream.specs.declared.inner.accumulator.Held.{Held}
 use Rattle.bitstream.specs.declared.inner.accumulator.Taken.{Taken}

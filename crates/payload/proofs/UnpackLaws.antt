@@ -1,13 +1,7 @@
 -- What is known where nothing of unpacking is refused, what fields without tags hold, and the answers of `unpack_check` and `unpack`.
-use mathlib.Core.Path.{_≡_, refl, sym, ap, _∙_}
-use mathlib.Core.Bool.{false, not}
-use mathlib.Core.List.{List, [], _∷_}
-use Prim.Native.Nat.{ℕ, _+_, _*_, _/_, _%_, _^_, _≤_, _<_}
+use Rattle.words.proofs.Kit.{_≡_, refl, sym, ap, _∙_, false, not, List, [], _∷_, ℕ, _+_, _*_, _/_, _%_, _^_, _≤_, _<_, arith, length, getD, ltb, eqb}
+use Rattle.words.proofs.Kit.{ltb-false, eqb-true, not-false}
 use native.Mathlib.Nat.{mod-one, div-one}
-use native.Mathlib.Omega.{arith}
-use lib.ListN.{length, getD}
-use lib.Dec.{ltb, eqb}
-use borrow.Author.Tests.{ltb-false, eqb-true, not-false}
 use Rattle.words.specs.declared.Check.{Check}
 use Rattle.words.specs.declared.Check.the-variants as found
 use Rattle.words.specs.declared.Length.{Length}

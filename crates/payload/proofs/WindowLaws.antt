@@ -1,11 +1,8 @@
 -- Fields read by their places. The idea: n bits from bit o of a word on are those of the words that hold n bits, without their first o, and then the
 -- first o bits of the next word (`window`); a field is the front of such bits, and its item is the front of the field (`item-here`, `field-here`).
-use mathlib.Core.Path.{_≡_, refl, sym, ap, ap₂, _∙_, subst}
-use mathlib.Core.List.{List}
-use Prim.Native.Nat.{ℕ, _+_, _-_, _*_, _/_, _%_, _^_, _≤_, _<_}
+use Rattle.words.proofs.Kit.{_≡_, refl, sym, ap, ap₂, _∙_, subst, List, ℕ, _+_, _-_, _*_, _/_, _%_, _^_, _≤_, _<_, arith, getD, length, set}
 use native.Mathlib.Nat.{div-one, zero-div, add-zero, div-add-mod', mod-eq-of-lt, add-mul, mul-comm, mul-le-mul-left, mul-le-mul-right, lt-of-mul-lt-mul-right}
-use native.Mathlib.Omega.{arith}
-use lib.ListN.{getD, length, set, List·getD-eq-default}
+use lib.ListN.{List·getD-eq-default}
 use lib.Pow.{shr-le, shr-lt, shr-shr}
 use Rattle.words.specs.Word.{highFirst}
 use Rattle.bitstream.specs.Stream.{span}

@@ -1,10 +1,5 @@
 -- Document 01: "Unpack: FORMAT, COUNT, ROOM"; "Unpacking is given n and exactly the words needed".
-use Prim.Native.Nat.{ℕ, _+_, _*_, _≤_, _<_}
-use mathlib.Core.Path.{_≡_}
-use mathlib.Core.Bool.{not}
-use mathlib.Core.List.{List, [], _∷_}
-use lib.ListN.{length}
-use lib.Dec.{eqb, ltb}
+use Rattle.words.specs.Kit.{ℕ, _+_, _*_, _≤_, _<_, _≡_, not, List, [], _∷_, length, eqb, ltb}
 use Rattle.words.specs.Tests.{either}
 use Rattle.words.specs.Outcome.{Outcome, accepted, Done}
 use Rattle.words.specs.Refusals.{Refusals, firstGiven}

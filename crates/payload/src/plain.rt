@@ -1,7 +1,5 @@
 // Fields without tags: their items, and their tags, which read as 0.
-ghost use mathlib.Core.Path.{_≡_};
-ghost use Prim.Native.Nat.{_+_, _*_, _≤_, _<_};
-ghost use lib.ListN.{length, getD};
+ghost use Rattle.words.specs.Kit.{_≡_, _+_, _*_, _≤_, _<_, length, getD};
 ghost use Rattle.words.specs.Word.{highFirst};
 ghost use Rattle.bitstream.specs.Filled.{filled, filledFrom};
 ghost use Rattle.payload_format.specs.Field.{itemIn, fieldIn};

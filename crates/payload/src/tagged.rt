@@ -1,7 +1,5 @@
 // Fields with tags: the item, the event tags and the channel tag of each.
-ghost use mathlib.Core.Path.{_≡_};
-ghost use Prim.Native.Nat.{_+_, _*_, _≤_, _<_};
-ghost use lib.ListN.{length};
+ghost use Rattle.words.specs.Kit.{_≡_, _+_, _*_, _≤_, _<_, length};
 ghost use Rattle.payload_format.specs.Format.{Legal};
 ghost use Rattle.payload_format.specs.Field.{eventIn, channelIn};
 ghost use Rattle.payload.specs.Unpack.{buffers, unpacked, unpackedFrom, Unpackable, Placed};

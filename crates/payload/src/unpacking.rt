@@ -1,7 +1,5 @@
 // Unpacking: items and their tags from words.
-ghost use mathlib.Core.Path.{_≡_};
-ghost use Prim.Native.Nat.{_≤_};
-ghost use lib.ListN.{length};
+ghost use Rattle.words.specs.Kit.{_≡_, _≤_, length};
 ghost use Rattle.words.specs.Outcome.{checked, measured, Meets};
 ghost use Rattle.payload.specs.Unpack.{buffers, unpacked, unpackCheck, unpackOf, Unpackable};
 use crate::plain::clear_tags;

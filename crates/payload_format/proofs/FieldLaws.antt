@@ -1,20 +1,15 @@
 -- A packing field and its parts. The idea: the tags together stay below the item's place, so the parts of a field that is made of them come out again,
 -- and a field whose unused bits are 0 is made of its parts. And numbers that fit, tested all at once by the bits that any of them has.
-use mathlib.Core.Path.{_≡_, refl, sym, ap, ap₂, _∙_, subst}
-use mathlib.Core.Bool.{Bool, true}
-use mathlib.Core.Logic.{⊎-elim}
-use mathlib.Core.List.{List}
-use Prim.Native.Nat.{ℕ, zero, suc, _+_, _-_, _*_, _/_, _%_, _^_, _≤_, _<_}
+use Rattle.words.proofs.Kit.{_≡_, refl, sym, ap, ap₂, _∙_, subst, Bool, true, ⊎-elim, List, ℕ, zero, suc, _+_, _-_, _*_, _/_, _%_, _^_, _≤_, _<_}
+use Rattle.words.proofs.Kit.{arith, getD, length, ltb, leb, lt-ltb, le-ltb, le-leb, lt-leb}
 use native.Mathlib.Nat.{add-assoc, mul-assoc, add-mul, lt-of-lt-of-le, mul-le-mul, mod-le}
 use native.Mathlib.Numerals.{add-one}
-use native.Mathlib.Omega.{arith}
-use lib.ListN.{getD, length, List·getD-eq-default}
+use lib.ListN.{List·getD-eq-default}
 use lib.Arith.{digits-lt}
 use lib.Bits.{bitOr, or-lt, or-add-and, and-le-l, and-le-r}
-use lib.Dec.{ltb, leb}
 use lib.Pow.{high, low, pow-add, pow-mono, pow-pos, mod-pow-add, shl-exact, shl-lt}
 use lib.Pow as Pow
-use borrow.Author.Tests.{ltb-true, lt-ltb, le-ltb, le-leb, lt-leb}
+use borrow.Author.Tests.{ltb-true}
 use Rattle.words.specs.Tests.{both}
 use Rattle.words.specs.All.{all}
 use Rattle.words.proofs.Cases.{le-or-lt}

@@ -1,12 +1,7 @@
 -- What is known of a format that FORMAT does not refuse, and of a number of items that COUNT does not refuse.
-use mathlib.Core.Path.{_≡_, refl, _∙_}
-use mathlib.Core.Bool.{Bool, true, false, not}
-use mathlib.Core.List.{[], _∷_}
-use Prim.Native.Nat.{ℕ, _+_, _*_, _/_, _≤_, _<_}
+use Rattle.words.proofs.Kit.{_≡_, refl, _∙_, Bool, true, false, not, [], _∷_, ℕ, _+_, _*_, _/_, _≤_, _<_, arith, ltb, leb, eqb, ltb-false, not-false}
 use native.Mathlib.Nat.{div-mul-le-self, le-div-iff-mul-le, mul-le-mul-right}
-use native.Mathlib.Omega.{arith}
-use lib.Dec.{ltb, leb, eqb}
-use borrow.Author.Tests.{ltb-false, leb-true, not-false}
+use borrow.Author.Tests.{leb-true}
 use Rattle.words.specs.Tests.{pick, either}
 use Rattle.words.specs.Outcome.{Outcome, accepted, onward}
 use Rattle.words.specs.Refusals.{Refusals, firstGiven}

@@ -1,11 +1,8 @@
 -- The two's complement value of an item, as the machine has it: an item whose sign bit is 0 is itself, and any other is the bits of its distance to
 -- 2 ^ w - 1 turned over, which is that distance and 1 below zero.
-use mathlib.Core.Path.{_≡_, ap}
-use Prim.Native.Nat.{ℕ, suc, _+_, _-_, _^_, _≤_, _<_}
-use native.Mathlib.Omega.{arith}
+use Rattle.words.proofs.Kit.{_≡_, ap, ℕ, suc, _+_, _-_, _^_, _≤_, _<_, arith, lt-ltb, le-ltb, lt-leb}
 use lib.Pow.{pow-mono}
 use lib.IntN.{negsuc}
-use borrow.Author.Tests.{lt-ltb, le-ltb, lt-leb}
 use mir.Syntax.{w64}
 use mir.Val.{toZ}
 use Rattle.words.specs.Outcome.{accepted}

@@ -1,6 +1,5 @@
 -- Two answers that meet the promise of `signed` are equal. The idea: `shownPaper` has a left inverse.
-use mathlib.Core.Path.{_≡_, refl}
-use Prim.Native.Nat.{ℕ}
+use Rattle.words.proofs.Kit.{_≡_, refl, ℕ}
 use lib.IntN.{ℤ}
 use Rattle.words.specs.Outcome.{Outcome, refused, accepted}
 use Rattle.words.proofs.Once.{once}

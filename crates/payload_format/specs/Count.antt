@@ -1,8 +1,5 @@
 -- Document 01, 'Payload': how many items, and how many words. COUNT: "wrong number of items or words".
-use Prim.Native.Nat.{ℕ, _*_, _%_}
-use mathlib.Core.Bool.{Bool, true, not}
-use mathlib.Core.List.{[], _∷_}
-use lib.Dec.{eqb, ltb}
+use Rattle.words.specs.Kit.{ℕ, _*_, _%_, Bool, true, not, [], _∷_, eqb, ltb}
 use Rattle.words.specs.Tests.{pick}
 use Rattle.words.specs.Outcome.{Outcome, accepted}
 use Rattle.words.specs.Refusals.{Refusals, firstGiven}

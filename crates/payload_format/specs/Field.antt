@@ -1,9 +1,5 @@
 -- Document 01, 'Payload': "A packing field holds the item at its left, unused bits, event tags, then the channel tag at its right."
-use Prim.Native.Nat.{ℕ, zero, suc, _+_, _-_, _*_, _/_, _%_, _^_}
-use mathlib.Core.Bool.{Bool}
-use mathlib.Core.List.{List}
-use lib.ListN.{getD}
-use lib.Dec.{ltb}
+use Rattle.words.specs.Kit.{ℕ, zero, suc, _+_, _-_, _*_, _/_, _%_, _^_, Bool, List, getD, ltb}
 use lib.Bits.{bitOr}
 use Rattle.words.specs.All.{all}
 use Rattle.bitstream.specs.Carried.{fieldOf}

@@ -1,8 +1,5 @@
 -- Document 01, 'Payload': the format's two words. The parts of the first that field 15's rule speaks of are named in crate `fields`.
-use Prim.Native.Nat.{ℕ, _+_, _*_, _/_, _≤_, _<_}
-use mathlib.Core.Path.{_≡_}
-use mathlib.Core.Bool.{Bool, true, not}
-use lib.Dec.{eqb, ltb, leb}
+use Rattle.words.specs.Kit.{ℕ, _+_, _*_, _/_, _≤_, _<_, _≡_, Bool, true, not, eqb, ltb, leb}
 use Rattle.words.specs.Tests.{pick, both}
 use Rattle.words.specs.Word.{bits, has}
 use Rattle.fields.specs.Format.{eventSize, channelSize, packingSize, itemSize, formatOk}

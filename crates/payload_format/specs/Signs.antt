@@ -1,7 +1,5 @@
 -- Document 01: "Another answer gives the two's complement value of a 1 to 64 bit item"; "Signed value: FORMAT, VALUE".
-use Prim.Native.Nat.{ℕ, _-_, _^_}
-use mathlib.Core.List.{[], _∷_}
-use lib.Dec.{ltb, leb}
+use Rattle.words.specs.Kit.{ℕ, _-_, _^_, [], _∷_, ltb, leb}
 use lib.IntN.{ℤ, pos, subℕ}
 use Rattle.words.specs.Tests.{pick, either}
 use Rattle.words.specs.Outcome.{Outcome, accepted}

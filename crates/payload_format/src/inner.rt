@@ -1,6 +1,5 @@
 // The format's two words: the sizes that they give, FORMAT, COUNT, and the words that fields take.
-ghost use mathlib.Core.Path.{_≡_};
-ghost use Prim.Native.Nat.{_≤_, _<_};
+ghost use Rattle.words.specs.Kit.{_≡_, _≤_, _<_};
 ghost use Rattle.bitstream.specs.Carried.{needed};
 ghost use Rattle.payload_format.specs.Format.{wideProcessing, formatBad, carriedBits, packingOf};
 ghost use Rattle.payload_format.specs.Count.{unitOf, countBad};

@@ -1,7 +1,5 @@
 // Numbers from standard input, as big-endian words of 32 bits.
-ghost use mathlib.Core.Path.{_≡_};
-ghost use Prim.Native.Nat.{_≤_};
-ghost use lib.ListN.{length};
+ghost use Rattle.words.specs.Kit.{_≡_, _≤_, length};
 
 // The next word as a number of at most 4,096.
 pub fn count() -> usize

@@ -1,7 +1,5 @@
 // Buffers as they are before a call, and lines on standard output.
-ghost use mathlib.Core.Path.{_≡_};
-ghost use Prim.Native.Nat.{_≤_};
-ghost use lib.ListN.{length};
+ghost use Rattle.words.specs.Kit.{_≡_, _≤_, length};
 
 // The pattern that a buffer of items is filled with beforehand.
 pub fn blank_items() -> [u64; 4096]

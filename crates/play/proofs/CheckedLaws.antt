@@ -1,9 +1,5 @@
 -- What the checks of the table and of a packet's front and body found, as a caller has it: the answer, what it ensures, and the case that it is.
-use mathlib.Core.Path.{_≡_, refl}
-use mathlib.Core.Bool.{true}
-use mathlib.Core.List.{List}
-use Prim.Native.Nat.{ℕ, _≤_, _<_}
-use lib.ListN.{length, getD}
+use Rattle.words.proofs.Kit.{_≡_, refl, true, List, ℕ, _≤_, _<_, length, getD}
 use Rattle.words.specs.declared.Check.{Check}
 use Rattle.words.specs.declared.Check.the-variants.{Fine, Refused}
 use Rattle.words.specs.Outcome.{refused, accepted, checked}

@@ -1,16 +1,8 @@
 -- The entry of one packet. The idea: what is refused or heard of a packet, as an entry's numbers, is `entryOf` of what play says; and it says no less, since a
 -- refusal has a number (`read-some`), and a walk goes on behind a packet that was read, which has a word (`Whole`, `step-whole`).
-use mathlib.Core.Path.{_≡_, refl, ap, subst, _∙_}
-use mathlib.Core.Bool.{Bool, true, false, not}
-use mathlib.Core.Logic.{⊎-elim}
-use mathlib.Core.List.{List}
-use Prim.Native.Nat.{ℕ, _+_, _-_, _^_, _<_}
+use Rattle.words.proofs.Kit.{_≡_, refl, ap, subst, _∙_, Bool, true, false, not, ⊎-elim, List, ℕ, _+_, _-_, _^_, _<_, arith, needs, eq-eqb, ne-eqb}
+use Rattle.words.proofs.Kit.{eqb, length, take, drop, getD}
 use native.Mathlib.Nat.{mod-lt}
-use native.Mathlib.Omega.{arith}
-use borrow.Author.Needs.{needs}
-use borrow.Author.Tests.{eq-eqb, ne-eqb}
-use lib.Dec.{eqb}
-use lib.ListN.{length, take, drop, getD}
 use Rattle.words.specs.declared.Check.{Check}
 use Rattle.words.specs.declared.Check.the-variants as Check
 use Rattle.words.specs.Numbers.{STREAM}

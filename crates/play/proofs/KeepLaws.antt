@@ -1,12 +1,6 @@
 -- What play keeps. The idea: an accepted packet replaces one record by a good one of the same identifier (`well-with`), so the table stays well made, with its
 -- list and the words past its layout.
-use mathlib.Core.Path.{_≡_, refl, sym, ap, _∙_}
-use mathlib.Core.Bool.{true}
-use mathlib.Core.Logic.{⊎-elim}
-use mathlib.Core.List.{List}
-use Prim.Native.Nat.{ℕ, _<_}
-use borrow.Author.Tests.{not-false}
-use lib.ListN.{length, drop}
+use Rattle.words.proofs.Kit.{_≡_, refl, sym, ap, _∙_, true, ⊎-elim, List, ℕ, _<_, not-false, length, drop}
 use Rattle.words.specs.Part.{part}
 use Rattle.words.specs.Outcome.{Outcome, refused, accepted, Done, leftOf}
 use Rattle.words.proofs.Cases.{true-or-false, onward-passed, accepted-same}

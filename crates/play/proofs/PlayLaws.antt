@@ -1,13 +1,7 @@
 -- Playing a packet. The idea: the record of the packet's stream is lent, so the table afterwards is `withRecord` of the record afterwards (`lent-leaves`), and
 -- that is what hearing the packet leaves (`heard-data`, `heard-context`).
-use mathlib.Core.Path.{_≡_, refl, sym, ap, _∙_}
-use mathlib.Core.Bool.{true, false}
-use mathlib.Core.List.{List, [], _++_}
-use Prim.Native.Nat.{ℕ, _+_, _-_, _≤_, _<_}
+use Rattle.words.proofs.Kit.{_≡_, refl, sym, ap, _∙_, true, false, List, [], _++_, ℕ, _+_, _-_, _≤_, _<_, arith, not-false, length, take, drop, getD}
 use native.Mathlib.Nat.{le-trans}
-use native.Mathlib.Omega.{arith}
-use borrow.Author.Tests.{not-false}
-use lib.ListN.{length, take, drop, getD}
 use Rattle.words.specs.Part.{part}
 use Rattle.words.specs.Numbers.{TABLE}
 use Rattle.words.specs.Outcome.{refused, accepted, onward}

@@ -1,14 +1,10 @@
 -- A run of packets. The idea: after n turns of the run the entries so far, then the walk that is left, are the whole walk (`Running`), and a turn takes one
 -- packet of it (`turned`, `stopped`). A run with room for one entry has that of the packet at its place, and EMPTY's where no word is left (`one-entered`).
-use mathlib.Core.Path.{_≡_, refl, sym, ap, _∙_}
-use mathlib.Core.Bool.{Bool, true, false}
-use mathlib.Core.Logic.{⊎-elim}
-use mathlib.Core.List.{List, [], _∷_, _++_, append-assoc, append-nil}
-use Prim.Native.Nat.{ℕ, zero, suc, _+_, _-_, _*_, _/_, _≤_, _<_}
+use Rattle.words.proofs.Kit.{_≡_, refl, sym, ap, _∙_, Bool, true, false, ⊎-elim, List, [], _∷_, _++_, ℕ, zero, suc, _+_, _-_, _*_, _/_, _≤_, _<_}
+use Rattle.words.proofs.Kit.{arith, ne-eqb, le-leb, lt-leb, length, take, drop, getD, set}
+use mathlib.Core.List.{append-assoc, append-nil}
 use native.Mathlib.Nat.{zero-add, add-zero}
-use native.Mathlib.Omega.{arith}
-use borrow.Author.Tests.{ne-eqb, le-leb, lt-leb}
-use lib.ListN.{length, take, drop, getD, set, length-append, length-drop}
+use lib.ListN.{length-append, length-drop}
 use lib.Seq.{drop-drop}
 use Rattle.words.specs.declared.Check.{Check}
 use Rattle.words.specs.declared.Check.the-variants as Check

@@ -1,13 +1,8 @@
 -- An accepted packet and its stream. The idea: reading accepts a packet of type 5 at most whose words are there (`headed-kind`, `headed-sized`); the types that
 -- have an identifier are all but 0 and 2, so looking for it where there is one is looking by the type (`sought-in`).
-use mathlib.Core.Path.{_≡_, refl, sym, subst, _∙_}
-use mathlib.Core.Bool.{Bool, true, false, not}
-use mathlib.Core.List.{List, [], _∷_}
-use Prim.Native.Nat.{ℕ, _+_, _≤_, _<_}
-use native.Mathlib.Omega.{arith}
-use borrow.Author.Tests.{ne-eqb, ltb-false, le-leb, lt-leb, leb-false}
-use lib.Dec.{eqb, leb}
-use lib.ListN.{length, getD}
+use Rattle.words.proofs.Kit.{_≡_, refl, sym, subst, _∙_, Bool, true, false, not, List, [], _∷_, ℕ, _+_, _≤_, _<_, arith, ne-eqb, ltb-false, le-leb}
+use Rattle.words.proofs.Kit.{lt-leb, eqb, leb, length, getD}
+use borrow.Author.Tests.{leb-false}
 use Rattle.words.specs.Numbers.{STREAM}
 use Rattle.words.specs.Tests.{pick, among, either}
 use Rattle.words.specs.All.{all}

@@ -1,7 +1,5 @@
 -- Two answers that meet the promise of a public call are equal, with the table that they leave: `paper` has a left inverse.
-use mathlib.Core.Path.{_≡_, refl}
-use mathlib.Core.List.{List}
-use Prim.Native.Nat.{ℕ}
+use Rattle.words.proofs.Kit.{_≡_, refl, List, ℕ}
 use Rattle.words.specs.Outcome.{Outcome, refused, accepted, Meets}
 use Rattle.words.proofs.Once.{meets-once}
 use Rattle.play.specs.Play.{playOf, paper}

@@ -1,9 +1,5 @@
 -- What the functions inside promise of one packet: its header, its stream, what hearing it leaves, and its entry, which is what play says of it as numbers.
-use mathlib.Core.Path.{_≡_}
-use Prim.Native.Nat.{ℕ}
-use mathlib.Core.List.{List}
-use lib.Dec.{eqb, leb}
-use lib.ListN.{getD}
+use Rattle.words.specs.Kit.{_≡_, ℕ, List, eqb, leb, getD}
 use Rattle.words.specs.Numbers.{STREAM}
 use Rattle.words.specs.Tests.{pick}
 use Rattle.words.specs.Outcome.{Outcome, refused, accepted}

@@ -1,9 +1,5 @@
 -- Document 01: "Play: TABLE, read order, STREAM". "Play answers size, type, stream number (place in the list, from 0) and missing added."
-use Prim.Native.Nat.{ℕ}
-use mathlib.Core.Bool.{not}
-use mathlib.Core.List.{List, [], _∷_, _++_}
-use lib.Dec.{leb}
-use lib.ListN.{getD}
+use Rattle.words.specs.Kit.{ℕ, not, List, [], _∷_, _++_, leb, getD}
 use Rattle.words.specs.Numbers.{STREAM, TABLE}
 use Rattle.words.specs.Tests.{among, either}
 use Rattle.words.specs.Part.{part}

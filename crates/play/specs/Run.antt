@@ -1,11 +1,6 @@
 -- The walk over a recording. Document 01, of `vrtplay`: it "stops when no word is left"; "STREAM goes on by the size, any other ends at W". What a walk does is
 -- what play does, packet by packet.
-use mathlib.Core.Path.{_≡_}
-use Prim.Native.Nat.{ℕ, zero, suc, _+_, _/_}
-use mathlib.Core.Bool.{Bool, true}
-use mathlib.Core.List.{List, [], _∷_, _++_}
-use lib.Dec.{eqb, leb}
-use lib.ListN.{length, drop, getD}
+use Rattle.words.specs.Kit.{_≡_, ℕ, zero, suc, _+_, _/_, Bool, true, List, [], _∷_, _++_, eqb, leb, length, drop, getD}
 use Rattle.words.specs.Numbers.{STREAM}
 use Rattle.words.specs.Tests.{pick, when}
 use Rattle.words.specs.Outcome.{Outcome, refused, accepted, Done, saidOf, leftOf}

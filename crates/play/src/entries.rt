@@ -1,8 +1,6 @@
 // The entry of one packet, from its words: what play says of the packet, as plain numbers. The front of a packet is checked first, and a body only of type
 // 4, so that a data packet pays for no body. Data and Context packets have a function each, so that the compiler puts both in line where a run calls `enter`.
-ghost use mathlib.Core.Path.{_≡_};
-ghost use mathlib.Core.Bool.{true};
-ghost use Prim.Native.Nat.{_<_};
+ghost use Rattle.words.specs.Kit.{_≡_, true, _<_};
 ghost use Rattle.packet.specs.Header.{typeOf, sizeOf};
 ghost use Rattle.table.specs.Well.{wellMade};
 ghost use Rattle.play.specs.Play.{paper};

@@ -1,8 +1,5 @@
 // One step of a walk over a recording, for the crates above.
-ghost use mathlib.Core.Path.{_≡_};
-ghost use mathlib.Core.Bool.{true};
-ghost use Prim.Native.Nat.{_<_};
-ghost use lib.ListN.{length};
+ghost use Rattle.words.specs.Kit.{_≡_, true, _<_, length};
 ghost use Rattle.table.specs.Well.{wellMade};
 ghost use Rattle.play.specs.Run.{Stepped};
 

@@ -1,9 +1,6 @@
 // A run of packets over a recording, with an entry of answers for each. A packet by itself is a run with room for one entry, so that `enter` is called in one
 // place and the compiler puts it in line there: a call for each packet would cost a third more.
-ghost use mathlib.Core.Path.{_≡_};
-ghost use mathlib.Core.Bool.{true};
-ghost use Prim.Native.Nat.{_+_, _^_, _≤_, _<_};
-ghost use lib.ListN.{length};
+ghost use Rattle.words.specs.Kit.{_≡_, true, _+_, _^_, _≤_, _<_, length};
 ghost use Rattle.words.specs.Part.{put};
 ghost use Rattle.table.specs.Well.{wellMade};
 ghost use Rattle.play.specs.Run.{entryWords, wordsOf, wholeWalk, WalkDone};

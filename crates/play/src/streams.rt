@@ -1,8 +1,5 @@
 // The stream of a packet, its record, and the refusals on the way.
-ghost use mathlib.Core.Path.{_≡_};
-ghost use mathlib.Core.Bool.{true};
-ghost use mathlib.Core.List.{[], _∷_};
-ghost use Prim.Native.Nat.{_<_};
+ghost use Rattle.words.specs.Kit.{_≡_, true, [], _∷_, _<_};
 ghost use Rattle.words.specs.Numbers.{STREAM};
 ghost use Rattle.words.specs.Tests.{pick, among};
 ghost use Rattle.words.specs.Outcome.{numberOf, checked, refused};

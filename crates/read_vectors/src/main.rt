@@ -1,8 +1,7 @@
 // Reads the cases of standard input with `packet::read` and writes what it answers. A case is a word n and then n words.
 use packet::Packet;
 use packet::Parsed;
-ghost use Prim.Native.Nat.{_+_, _≤_};
-ghost use lib.ListN.{length};
+ghost use Rattle.words.specs.Kit.{_+_, _≤_, length};
 
 // The line of a field of a type 4 body, where the body has it.
 fn show_field(body: &[u32], bit: u32) {

@@ -1,14 +1,9 @@
 -- A record after a packet, part by part. The idea: a count changes its three words alone, and holding changes the slots and the held indicator alone; the
 -- slots after a packet are read by `in-order-at`.
-use mathlib.Core.Path.{_≡_, refl, sym, ap, _∙_}
-use mathlib.Core.Bool.{true}
-use mathlib.Core.Logic.{⊎-elim}
-use mathlib.Core.List.{List, _++_}
-use Prim.Native.Nat.{ℕ, _+_, _-_, _^_, _≤_, _<_}
+use Rattle.words.proofs.Kit.{_≡_, refl, sym, ap, _∙_, true, ⊎-elim, List, _++_, ℕ, _+_, _-_, _^_, _≤_, _<_, arith, length, take, drop, set}
 use native.Mathlib.Nat.{lt-of-le-of-lt}
-use native.Mathlib.Omega.{arith}
 use lib.Bits.{bitAnd, bitOr, and-le-r}
-use lib.ListN.{length, take, drop, set, length-set}
+use lib.ListN.{length-set}
 use lib.Seq.{getD-set-same, getD-set-other}
 use Rattle.words.specs.Tests.{pick, both}
 use Rattle.words.specs.Word.{has}

@@ -1,13 +1,9 @@
 -- The words of a field, copied piece by piece. The idea: a piece that stands right behind another, copied after it, makes one longer piece (`copied-then`).
-use mathlib.Core.Path.{_≡_, refl, sym, ap, _∙_}
-use mathlib.Core.Bool.{Bool, true}
-use mathlib.Core.Logic.{_⊎_, inl, inr, ⊎-elim}
-use mathlib.Core.List.{List, [], _∷_, _++_, append-assoc}
-use Prim.Native.Nat.{ℕ, _+_, _≤_, _<_}
-use native.Mathlib.Omega.{arith}
-use borrow.Author.Tests.{ne-eqb, eqb-true, le-ltb}
-use lib.Dec.{eqb, ltb}
-use lib.ListN.{length, take, drop, getD, set, length-append}
+use Rattle.words.proofs.Kit.{_≡_, refl, sym, ap, _∙_, Bool, true, ⊎-elim, List, [], _∷_, _++_, ℕ, _+_, _≤_, _<_, arith, ne-eqb, eqb-true, le-ltb, eqb}
+use Rattle.words.proofs.Kit.{ltb, length, take, drop, getD, set}
+use mathlib.Core.Logic.{_⊎_, inl, inr}
+use mathlib.Core.List.{append-assoc}
+use lib.ListN.{length-append}
 use lib.Seq.{drop-cons, drop-drop, take-add, length-take-le}
 use Rattle.words.specs.Tests.{pick, among}
 use Rattle.words.specs.All.{all}

@@ -1,14 +1,7 @@
 -- Counts. The idea: the wrapping difference, reduced modulo 16, is document 01's (`added-next`); a count is three words of a record, lent as a part, so a
 -- record after a count differs in them alone.
-use mathlib.Core.Path.{_≡_, refl, sym, _∙_}
-use mathlib.Core.Bool.{true, false}
-use mathlib.Core.Logic.{⊎-elim}
-use mathlib.Core.List.{List, [], _∷_, _++_}
-use Prim.Native.Nat.{ℕ, _+_, _-_, _*_, _/_, _%_, _^_, _≤_, _<_}
-use native.Mathlib.Omega.{arith}
-use borrow.Author.Tests.{eq-eqb, ne-eqb, eqb-true}
-use lib.Dec.{eqb}
-use lib.ListN.{length, take, drop, getD, set}
+use Rattle.words.proofs.Kit.{_≡_, refl, sym, _∙_, true, false, ⊎-elim, List, [], _∷_, _++_, ℕ, _+_, _-_, _*_, _/_, _%_, _^_, _≤_, _<_, arith, eq-eqb}
+use Rattle.words.proofs.Kit.{ne-eqb, eqb-true, eqb, length, take, drop, getD, set}
 use Rattle.words.specs.Tests.{among}
 use Rattle.words.proofs.Cases.{true-or-false, true-is-false}
 use Rattle.words.proofs.LaidLaws.{sets-all}

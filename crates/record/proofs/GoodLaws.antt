@@ -1,16 +1,11 @@
 -- When a record is good. The idea: the tests of specs/Good.antt say what `Good` says in facts (`good-of`, `of-good`); a count and the fields of an accepted
 -- packet keep each of these facts, so a good record stays good.
-use mathlib.Core.Path.{_≡_, refl, sym, ap, _∙_}
-use mathlib.Core.Bool.{Bool, true, false, not}
-use mathlib.Core.Logic.{⊎-elim}
-use mathlib.Core.List.{List, [], _∷_}
-use Prim.Native.Nat.{ℕ, zero, suc, _+_, _-_, _/_, _%_, _^_, _≤_, _<_}
+use Rattle.words.proofs.Kit.{_≡_, refl, sym, ap, _∙_, Bool, true, false, not, ⊎-elim, List, [], _∷_, ℕ, zero, suc, _+_, _-_, _/_, _%_, _^_, _≤_, _<_}
+use Rattle.words.proofs.Kit.{arith, eq-eqb, ne-eqb, le-leb, eqb-true, not-true, not-false, eqb, length, take, drop, getD}
 use native.Mathlib.Nat.{add-zero, add-suc, add-assoc, zero-div, lt-of-le-of-lt}
-use native.Mathlib.Omega.{arith}
-use borrow.Author.Tests.{eq-eqb, ne-eqb, le-leb, eqb-true, leb-true, not-true, not-false}
+use borrow.Author.Tests.{leb-true}
 use lib.Bits.{bitAnd, and-le-r, and-le-l, or-lt}
-use lib.Dec.{eqb}
-use lib.ListN.{length, take, drop, getD, replicate, length-replicate}
+use lib.ListN.{replicate, length-replicate}
 use lib.Seq.{ext-getD}
 use Rattle.words.specs.Tests.{pick, both, among}
 use Rattle.words.specs.Word.{has}

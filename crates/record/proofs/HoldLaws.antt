@@ -1,16 +1,8 @@
 -- Fields put into their slots. The idea: after some turns the slots of the bits reached are filled and the others are as they were (`Holding`, read slot by
 -- slot); the next bit's slot lies apart from every other (`placed-apart`), so a copy into it changes that slot alone.
-use mathlib.Core.Path.{_≡_, refl, sym, ap, _∙_}
-use mathlib.Core.Bool.{Bool, true}
-use mathlib.Core.Logic.{⊎-elim}
-use mathlib.Core.List.{List, [], _∷_}
-use Prim.Native.Nat.{ℕ, _+_, _≤_, _<_, _^_}
+use Rattle.words.proofs.Kit.{_≡_, refl, sym, ap, _∙_, Bool, true, ⊎-elim, List, [], _∷_, ℕ, _+_, _≤_, _<_, _^_, arith, le-leb, lt-leb, leb, length}
 use native.Mathlib.Nat.{le-refl, lt-of-le-of-lt}
-use native.Mathlib.Omega.{arith}
-use borrow.Author.Tests.{le-leb, lt-leb}
 use lib.Bits.{bitAnd, and-le-r}
-use lib.Dec.{leb}
-use lib.ListN.{length}
 use Rattle.words.specs.Tests.{pick, both, among}
 use Rattle.words.specs.Word.{has}
 use Rattle.words.specs.SetBits.{bitsOf}

@@ -1,14 +1,6 @@
 -- A record after an accepted packet, as the crates above use it. The idea: of a packet that is not Context only its type's count changes; a Context packet's
 -- fields are held besides. Each law goes by whether the type is 4.
-use mathlib.Core.Path.{_≡_, ap, _∙_}
-use mathlib.Core.Bool.{Bool, true, false}
-use mathlib.Core.Logic.{⊎-elim}
-use mathlib.Core.List.{List}
-use Prim.Native.Nat.{ℕ, _+_, _≤_, _<_}
-use native.Mathlib.Omega.{arith}
-use borrow.Author.Tests.{eq-eqb, ne-eqb}
-use lib.Dec.{eqb}
-use lib.ListN.{length}
+use Rattle.words.proofs.Kit.{_≡_, ap, _∙_, Bool, true, false, ⊎-elim, List, ℕ, _+_, _≤_, _<_, arith, eq-eqb, ne-eqb, eqb, length}
 use Rattle.words.specs.Tests.{pick}
 use Rattle.words.specs.Outcome.{accepted}
 use Rattle.words.proofs.Cases.{same-or-not}

@@ -1,17 +1,12 @@
 -- The held fields and their slots. The idea: `inOrder` over the set bits of a number lays each bit's words after those of the bits above it; so the
 -- words at a bit's place are its own (`in-order-at`), and words are what stands at the places of their bits (`in-order-parts`). Once over any bits: a
 -- record's slots are the bits of `heldMask`, a page's held words those of a held indicator.
-use mathlib.Core.Path.{_≡_, refl, sym, ap, _∙_}
-use mathlib.Core.Bool.{Bool, true, false, not}
-use mathlib.Core.Logic.{⊎-elim}
-use mathlib.Core.List.{List, [], _∷_, _++_}
-use Prim.Native.Nat.{ℕ, zero, suc, _+_, _^_, _≤_, _<_}
+use Rattle.words.proofs.Kit.{_≡_, refl, sym, ap, _∙_, Bool, true, false, not, ⊎-elim, List, [], _∷_, _++_, ℕ, zero, suc, _+_, _^_, _≤_, _<_, arith}
+use Rattle.words.proofs.Kit.{not-true, le-ltb, ltb, leb, length, drop, getD}
 use native.Mathlib.Nat.{lt-of-lt-of-le}
-use native.Mathlib.Omega.{arith}
-use borrow.Author.Tests.{not-true, le-ltb, leb-true}
-use lib.Dec.{ltb, leb}
+use borrow.Author.Tests.{leb-true}
 use lib.Pow.{pow-mono}
-use lib.ListN.{length, drop, getD, length-append, length-drop, take-append-drop}
+use lib.ListN.{length-append, length-drop, take-append-drop}
 use Rattle.words.specs.Tests.{pick}
 use Rattle.words.specs.Word.{has}
 use Rattle.words.specs.SetBits.{bitsOf, above}

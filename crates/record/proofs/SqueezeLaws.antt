@@ -1,14 +1,8 @@
 -- Slots and their held words. The idea: held words stand in field order as the slots do, so each field is found at its place among them (`in-order-at`); words
 -- put back into zeroed slots give the slots again (`refilled-held`), and slots give the words again (`held-refilled`).
-use mathlib.Core.Path.{_≡_, sym, ap, _∙_}
-use mathlib.Core.Bool.{true, false}
-use mathlib.Core.Logic.{⊎-elim}
-use mathlib.Core.List.{List}
-use Prim.Native.Nat.{ℕ, _+_, _<_}
+use Rattle.words.proofs.Kit.{_≡_, sym, ap, _∙_, true, false, ⊎-elim, List, ℕ, _+_, _<_, arith, length, drop}
 use native.Mathlib.Nat.{zero-add}
-use native.Mathlib.Omega.{arith}
 use lib.Bits.{bitAnd}
-use lib.ListN.{length, drop}
 use Rattle.words.specs.Word.{has}
 use Rattle.words.specs.SetBits.{bitsOf}
 use Rattle.words.specs.Part.{part}

@@ -1,11 +1,6 @@
 -- A record after an accepted packet: its type is counted, and the fields that a Context packet carries are held.
-use mathlib.Core.Path.{_≡_}
-use Prim.Native.Nat.{ℕ, _+_, _≤_}
-use mathlib.Core.Bool.{Bool, true}
-use mathlib.Core.List.{List}
+use Rattle.words.specs.Kit.{_≡_, ℕ, _+_, _≤_, Bool, true, List, eqb, length, set}
 use lib.Bits.{bitAnd, bitOr}
-use lib.Dec.{eqb}
-use lib.ListN.{length, set}
 use Rattle.words.specs.Tests.{pick}
 use Rattle.words.specs.Word.{has}
 use Rattle.words.specs.Part.{part, put}

@@ -1,8 +1,6 @@
 -- Document 01, 'The table and its page': "Types 1, 3, 4 and 5 are counted apart within a stream. Each has seen and missing, both kept modulo 2^32, and
 -- the last count."
-use Prim.Native.Nat.{ℕ, _+_, _-_, _%_, _^_}
-use mathlib.Core.List.{List, [], _∷_}
-use lib.Dec.{eqb}
+use Rattle.words.specs.Kit.{ℕ, _+_, _-_, _%_, _^_, List, [], _∷_, eqb}
 use Rattle.words.specs.Tests.{pick}
 use Rattle.words.specs.Part.{put}
 use Rattle.record.specs.Layout.{countAt, countOf, seenOf, missingOf, lastOf}

@@ -1,13 +1,9 @@
 -- Document 01, 'The table and its page', of a stream's record: "unheld fields .. zero; held fields obey their rules; a count not started has zeros; a last
 -- count is at most 15; no field held unless type 4 has started". Each is a test, and `Good` says the same in facts
 -- (proofs/GoodLaws.antt: `good-of`, `of-good`).
-use mathlib.Core.Path.{_≡_}
-use Prim.Native.Nat.{ℕ, _^_, _≤_, _<_}
-use mathlib.Core.Bool.{Bool, true, false}
-use mathlib.Core.List.{List}
+use Rattle.words.specs.Kit.{_≡_, ℕ, _^_, _≤_, _<_, Bool, true, false, List, eqb, leb, length, getD}
 use lib.Bits.{bitAnd}
-use lib.Dec.{eqb, leb}
-use lib.ListN.{length, getD, replicate}
+use lib.ListN.{replicate}
 use Rattle.words.specs.Tests.{pick, both}
 use Rattle.words.specs.Word.{has}
 use Rattle.words.specs.All.{all}

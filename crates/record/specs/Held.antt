@@ -1,8 +1,6 @@
 -- Document 01, 'The table and its page': "An accepted Context packet replaces each field from bits 30 to 10 that it carries, whole. Bits 31, 9 and 8
 -- are not held." Which fields are held is said here alone; where a slot stands follows from it.
-use Prim.Native.Nat.{ℕ, _-_, _^_}
-use mathlib.Core.Bool.{Bool}
-use mathlib.Core.List.{List, [], _∷_, _++_}
+use Rattle.words.specs.Kit.{ℕ, _-_, _^_, Bool, List, [], _∷_, _++_}
 use Rattle.words.specs.Word.{has}
 use Rattle.words.specs.SetBits.{bitsOf, above}
 use Rattle.fields.specs.Sizes.{sizesOf}

@@ -1,9 +1,6 @@
 -- A stream's record. Its first words are those of its body in a page: identifier, held indicator, "for types 1, 3, 4, 5 three words each (seen,
 -- missing, last plus one or 0 if not started)"; then a slot for each held field, in field order.
-use Prim.Native.Nat.{ℕ, _+_, _*_}
-use mathlib.Core.List.{List}
-use lib.Dec.{eqb}
-use lib.ListN.{getD}
+use Rattle.words.specs.Kit.{ℕ, _+_, _*_, List, eqb, getD}
 use Rattle.words.specs.Tests.{pick}
 use Rattle.words.specs.Part.{part}
 use Rattle.fields.specs.Sizes.{sizeOf}

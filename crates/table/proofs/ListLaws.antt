@@ -1,15 +1,9 @@
 -- Lists of identifiers. The idea: `listGood` says what `GoodList` says in facts (`list-of`, `of-list`), and looks at the identifiers alone, not where they
 -- stand (`list-same`).
-use mathlib.Core.Path.{_≡_, sym, ap, _∙_}
-use mathlib.Core.Bool.{Bool, true, false, not}
-use mathlib.Core.Logic.{⊎-elim}
-use mathlib.Core.List.{List}
-use Prim.Native.Nat.{ℕ, _+_, _*_, _≤_, _<_}
+use Rattle.words.proofs.Kit.{_≡_, sym, ap, _∙_, Bool, true, false, not, ⊎-elim, List, ℕ, _+_, _*_, _≤_, _<_, arith, eq-eqb, ne-eqb, le-leb, not-true}
+use Rattle.words.proofs.Kit.{eqb, leb, length, getD}
 use native.Mathlib.Nat.{mul-le-mul-left, mul-suc, zero-add, one-mul, le-of-lt}
-use native.Mathlib.Omega.{arith}
-use borrow.Author.Tests.{eq-eqb, ne-eqb, le-leb, leb-true, eqb-false, not-true}
-use lib.Dec.{eqb, leb}
-use lib.ListN.{length, getD}
+use borrow.Author.Tests.{leb-true, eqb-false}
 use Rattle.words.specs.Tests.{both}
 use Rattle.words.specs.All.{all}
 use Rattle.words.proofs.Cases.{le-or-lt, both-left, both-right, both-true}

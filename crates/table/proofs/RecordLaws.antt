@@ -1,12 +1,7 @@
 -- Records of a table. The idea: a record is a part of the table and replacing it is a `put`, so these are the laws of parts at the records' places; two
 -- records lie apart, and word 0 and the words past the layout apart from all.
-use mathlib.Core.Path.{_≡_, sym, ap, _∙_}
-use mathlib.Core.Logic.{⊎-elim}
-use mathlib.Core.List.{List}
-use Prim.Native.Nat.{ℕ, _≤_, _<_}
+use Rattle.words.proofs.Kit.{_≡_, sym, ap, _∙_, ⊎-elim, List, ℕ, _≤_, _<_, arith, length, drop, getD}
 use native.Mathlib.Nat.{add-zero}
-use native.Mathlib.Omega.{arith}
-use lib.ListN.{length, drop, getD}
 use Rattle.words.proofs.Cases.{le-or-lt, same-or-not}
 use Rattle.words.proofs.PartLaws.{getD-part, part-length, put-length, part-put, part-put-before, part-put-after, getD-put-before, drop-put-after}
 use Rattle.record.specs.Layout.{recordWords, identifierOf}

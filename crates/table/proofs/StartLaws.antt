@@ -1,14 +1,11 @@
 -- A fresh table. The idea: after s turns the first s records are fresh and the rest is as it was (`Writing`); the whole is well made, since a fresh record is
 -- good and the list is that which was given.
-use mathlib.Core.Path.{_≡_, refl, sym, ap, _∙_}
-use mathlib.Core.List.{List, [], _∷_, _++_, append-assoc, append-nil}
-use mathlib.Core.Bool.{Bool, true, false, not}
-use Prim.Native.Nat.{ℕ, zero, suc, _+_, _-_, _*_, _≤_, _<_}
+use Rattle.words.proofs.Kit.{_≡_, refl, sym, ap, _∙_, List, [], _∷_, _++_, Bool, true, false, not, ℕ, zero, suc, _+_, _-_, _*_, _≤_, _<_, arith}
+use Rattle.words.proofs.Kit.{lt-ltb, le-ltb, ltb-false, not-true, not-false, length, getD, take, drop, set}
+use mathlib.Core.List.{append-assoc, append-nil}
 use native.Mathlib.Nat.{not-suc-le-zero, le-of-suc-le-suc}
 use native.Mathlib.Numerals.{add-one}
-use native.Mathlib.Omega.{arith}
-use borrow.Author.Tests.{lt-ltb, le-ltb, ltb-false, not-true, not-false}
-use lib.ListN.{length, getD, take, drop, set, length-append, length-drop, length-replicate, replicate, take-append-drop}
+use lib.ListN.{length-append, length-drop, length-replicate, replicate, take-append-drop}
 use lib.Seq.{take-suc, take-all, drop-drop, length-take-le, take-suc-set, drop-set-lt, drop-at}
 use Rattle.words.specs.Numbers.{LIST, ROOM}
 use Rattle.words.specs.Part.{part, put}

@@ -1,14 +1,8 @@
 -- A well-made table. The idea: `wellMade` says what `WellMade` says in facts (`well-of`, `of-well`); a record replaced by a good one of the same identifier
 -- keeps each of these facts (`well-with`).
-use mathlib.Core.Path.{_≡_, refl, sym, ap, _∙_}
-use mathlib.Core.Bool.{Bool, true, false, not}
-use mathlib.Core.Logic.{⊎-elim}
-use mathlib.Core.List.{List}
-use Prim.Native.Nat.{ℕ, _+_, _-_, _^_, _≤_, _<_}
-use native.Mathlib.Omega.{arith}
-use borrow.Author.Tests.{le-leb, lt-leb, leb-true, not-true, not-false}
-use lib.Dec.{leb}
-use lib.ListN.{length, take, drop}
+use Rattle.words.proofs.Kit.{_≡_, refl, sym, ap, _∙_, Bool, true, false, not, ⊎-elim, List, ℕ, _+_, _-_, _^_, _≤_, _<_, arith, le-leb, lt-leb}
+use Rattle.words.proofs.Kit.{not-true, not-false, leb, length, take, drop}
+use borrow.Author.Tests.{leb-true}
 use Rattle.words.specs.Part.{part}
 use Rattle.words.specs.Tests.{both}
 use Rattle.words.specs.All.{all}

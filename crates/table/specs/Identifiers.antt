@@ -1,10 +1,6 @@
 -- Document 01, 'Numbers given back', LIST: "0 or over 32 identifiers, or one twice". Identifiers are given as a function from their place in the list, so that
 -- a list that is handed in and the list of a table are judged alike.
-use Prim.Native.Nat.{ℕ, _+_, _*_}
-use mathlib.Core.Bool.{Bool, not}
-use mathlib.Core.List.{List}
-use lib.Dec.{eqb, leb}
-use lib.ListN.{getD}
+use Rattle.words.specs.Kit.{ℕ, _+_, _*_, Bool, not, List, eqb, leb, getD}
 use Rattle.words.specs.Tests.{both}
 use Rattle.words.specs.All.{all, firstOf}
 use Rattle.table.specs.Layout.{streamsOf, base}

@@ -1,8 +1,6 @@
 -- The table's layout: word 0 is S, the number of streams; then S records, in the order of the list. What lies past them is none of the table's: "words past
 -- it are neither read nor changed".
-use Prim.Native.Nat.{ℕ, _+_, _*_, _≤_}
-use mathlib.Core.List.{List}
-use lib.ListN.{length, getD}
+use Rattle.words.specs.Kit.{ℕ, _+_, _*_, _≤_, List, length, getD}
 use Rattle.words.specs.Part.{part, put}
 use Rattle.record.specs.Layout.{recordWords}
 

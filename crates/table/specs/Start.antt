@@ -1,9 +1,6 @@
 -- Document 01: "Start: LIST, ROOM"; a table "starts as zeroed words apart from the list".
-use Prim.Native.Nat.{ℕ, _-_}
-use mathlib.Core.Bool.{not}
-use mathlib.Core.List.{List, [], _∷_, _++_}
-use lib.Dec.{ltb}
-use lib.ListN.{length, drop, replicate}
+use Rattle.words.specs.Kit.{ℕ, _-_, not, List, [], _∷_, _++_, ltb, length, drop}
+use lib.ListN.{replicate}
 use Rattle.words.specs.Numbers.{LIST, ROOM}
 use Rattle.words.specs.Outcome.{Outcome, accepted, Done}
 use Rattle.words.specs.Refusals.{Refusals, firstGiven}

@@ -1,10 +1,5 @@
 -- Document 01, 'The table and its page': "Well made: the whole layout is there; a valid list; .." and every record is good.
-use mathlib.Core.Path.{_≡_}
-use Prim.Native.Nat.{ℕ, _≤_, _<_}
-use mathlib.Core.Bool.{Bool}
-use mathlib.Core.List.{List}
-use lib.Dec.{leb}
-use lib.ListN.{length}
+use Rattle.words.specs.Kit.{_≡_, ℕ, _≤_, _<_, Bool, List, leb, length}
 use Rattle.words.specs.Tests.{both}
 use Rattle.words.specs.All.{all}
 use Rattle.record.specs.Good.{recordGood, Good}

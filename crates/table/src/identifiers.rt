@@ -1,7 +1,5 @@
 // Whether a list of identifiers is valid. The identifiers stand at equal distances: in a list one after the other, in a table a record apart.
-ghost use mathlib.Core.Path.{_≡_};
-ghost use Prim.Native.Nat.{_+_, _*_, _≤_, _<_};
-ghost use lib.ListN.{length};
+ghost use Rattle.words.specs.Kit.{_≡_, _+_, _*_, _≤_, _<_, length};
 ghost use Rattle.words.specs.All.{all};
 ghost use Rattle.table.specs.Identifiers.{spaced, apart, listGood};
 

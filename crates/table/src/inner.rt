@@ -1,7 +1,6 @@
 // What the crates above use of a table.
 pub use crate::identifiers::list_good;
-ghost use mathlib.Core.Path.{_≡_};
-ghost use Prim.Native.Nat.{_^_, _<_};
+ghost use Rattle.words.specs.Kit.{_≡_, _^_, _<_};
 ghost use Rattle.table.specs.Layout.{streamsOf, base, layoutWords};
 
 // S, the number of streams; 0 of no words.

@@ -1,8 +1,5 @@
 // The records of a table: made fresh, and tested.
-ghost use mathlib.Core.Path.{_≡_};
-ghost use mathlib.Core.List.{_++_};
-ghost use Prim.Native.Nat.{_+_, _≤_, _<_};
-ghost use lib.ListN.{length, take, drop};
+ghost use Rattle.words.specs.Kit.{_≡_, _++_, _+_, _≤_, _<_, length, take, drop};
 ghost use Rattle.words.specs.All.{all};
 ghost use Rattle.table.specs.Layout.{base, Has, withRecord};
 ghost use Rattle.table.specs.Well.{recordGoodAt};

@@ -1,11 +1,8 @@
 -- A trailer word taken apart and made again, both ways: the parts lie beside each other and fill the word.
-use mathlib.Core.Path.{_≡_, sym, ap, _∙_}
-use mathlib.Core.List.{List, [], _∷_}
-use Prim.Native.Nat.{ℕ, _/_, _%_, _^_, _<_}
+use Rattle.words.proofs.Kit.{_≡_, sym, ap, _∙_, List, [], _∷_, ℕ, _/_, _%_, _^_, _<_, arith, lt-ltb, not-false, eqb, ltb}
 use native.Mathlib.Nat.{mod-lt, div-one}
-use native.Mathlib.Omega.{arith}
-use borrow.Author.Tests.{lt-ltb, ltb-true, not-false}
-use lib.Dec.{eqb, ltb, lit<}
+use borrow.Author.Tests.{ltb-true}
+use lib.Dec.{lit<}
 use Rattle.words.specs.Word.{bits, join, total}
 use Rattle.words.specs.Outcome.{accepted}
 use Rattle.words.proofs.Cases.{both-left, both-right, accepted-same}

@@ -1,6 +1,5 @@
 -- Two answers that meet the promise of a public call are equal: `trailerPaper` has a left inverse (`once`).
-use mathlib.Core.Path.{_≡_, refl, sym, _∙_}
-use Prim.Native.Nat.{ℕ}
+use Rattle.words.proofs.Kit.{_≡_, refl, sym, _∙_, ℕ}
 use Rattle.words.specs.Outcome.{Outcome, refused, accepted}
 use Rattle.words.proofs.Once.{once}
 use Rattle.trailer.specs.declared.Trailer.{Trailer}

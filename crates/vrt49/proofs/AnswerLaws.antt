@@ -1,13 +1,8 @@
 -- What a call for C gives, by its answer. The idea: there are three ways to return. The buffer for the values is too short (`gives-room`); the call was
 -- refused, and nothing is stored (`gives-refused`); it was accepted, and its values are stored (`gives-values`). Each is one law over plain variables, and one
 -- more for a call that is lent other buffers beside (`beside-..`).
-use mathlib.Core.Path.{_≡_, refl, sym, ap, subst, _∙_}
-use mathlib.Core.List.{List, [], _∷_, _++_}
-use Prim.Native.Nat.{ℕ, _+_, _^_, _≤_, _<_}
+use Rattle.words.proofs.Kit.{_≡_, refl, sym, ap, subst, _∙_, List, [], _∷_, _++_, ℕ, _+_, _^_, _≤_, _<_, arith, lt-ltb, le-ltb, length, drop, set}
 use native.Mathlib.Nat.{zero-add}
-use native.Mathlib.Omega.{arith}
-use borrow.Author.Tests.{lt-ltb, le-ltb}
-use lib.ListN.{length, drop, set}
 use lib.Seq.{sets, sets-eq}
 use Rattle.words.specs.Numbers.{ROOM}
 use Rattle.words.specs.Part.{part, put}

@@ -1,11 +1,5 @@
 -- A refusal's number is not 0, so a call for C gives 0 exactly where it is accepted. The idea: the number is one of the call's list (`number-among`), or ROOM.
-use mathlib.Core.Path.{_≡_, refl}
-use mathlib.Core.List.{List, [], _∷_}
-use Prim.Native.Nat.{ℕ, _<_}
-use native.Mathlib.Omega.{arith}
-use borrow.Author.Needs.{needs}
-use lib.Dec.{ltb}
-use lib.ListN.{length, getD}
+use Rattle.words.proofs.Kit.{_≡_, refl, List, [], _∷_, ℕ, _<_, arith, needs, ltb, length, getD}
 use lib.IntN.{ℤ}
 use Rattle.words.specs.Numbers.{ROOM}
 use Rattle.words.specs.Outcome.{Outcome, refused, accepted, onward, numberOf, Done}

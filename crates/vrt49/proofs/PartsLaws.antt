@@ -1,12 +1,6 @@
 -- The parts of a packet as words: what their checks let through, and what writing answers behind them.
-use mathlib.Core.Path.{_≡_, sym, ap, _∙_}
-use mathlib.Core.List.{List}
-use Prim.Native.Nat.{ℕ, _<_}
+use Rattle.words.proofs.Kit.{_≡_, sym, ap, _∙_, List, ℕ, _<_, arith, eqb-true, ltb-false, not-false, ltb, length, getD}
 use native.Mathlib.Nat.{mod-eq-of-lt}
-use native.Mathlib.Omega.{arith}
-use borrow.Author.Tests.{eqb-true, ltb-false, not-false}
-use lib.Dec.{ltb}
-use lib.ListN.{length, getD}
 use Rattle.words.specs.declared.Check.{Check}
 use Rattle.words.specs.declared.Check.the-variants as Check
 use Rattle.words.specs.declared.Length.{Length}

@@ -1,12 +1,7 @@
 -- What `vrt49_reading` gives, by its answer: a buffer too short, a refusal, or the numbers of the reading.
-use mathlib.Core.Path.{_≡_, refl, sym, ap, subst, _∙_}
-use mathlib.Core.List.{List, [], _∷_}
-use Prim.Native.Nat.{ℕ, _≤_}
-use borrow.Author.Tests.{ltb-false}
-use lib.Dec.{ltb}
+use Rattle.words.proofs.Kit.{_≡_, refl, sym, ap, subst, _∙_, List, [], _∷_, ℕ, _≤_, ltb-false, ltb, length}
 use types.Run.{OneOf, miss}
 use denote.Enum.Declared.{tagOf}
-use lib.ListN.{length}
 use lib.IntN.{ℤ}
 use lib.Ieee.{Float}
 use Rattle.words.specs.Outcome.{refused, accepted}

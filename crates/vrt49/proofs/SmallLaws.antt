@@ -1,12 +1,8 @@
 -- The numbers of an accepted answer fit the words that they are stored in. The idea: each follows from a bound that the call's own definition has.
-use mathlib.Core.Path.{_≡_, ap, subst, _∙_}
-use mathlib.Core.Bool.{Bool, true, false}
-use mathlib.Core.List.{List, []}
-use Prim.Native.Nat.{ℕ, _+_, _-_, _*_, _%_, _^_, _≤_, _<_}
+use Rattle.words.proofs.Kit.{_≡_, ap, subst, _∙_, Bool, true, false, List, [], ℕ, _+_, _-_, _*_, _%_, _^_, _≤_, _<_, arith, ltb-false, not-false}
+use Rattle.words.proofs.Kit.{length, getD}
 use native.Mathlib.Nat.{le-trans, mod-lt, mul-le-mul, div-le-self}
-use native.Mathlib.Omega.{arith}
-use borrow.Author.Tests.{ltb-false, not-false}
-use lib.ListN.{length, getD, length-take, length-drop}
+use lib.ListN.{length-take, length-drop}
 use Rattle.words.specs.Tests.{pick}
 use Rattle.words.specs.Part.{part}
 use Rattle.words.specs.declared.Length.{Length}

@@ -1,7 +1,5 @@
 -- Two numbers that meet the promise of a call are equal, and so are the buffers that they leave: the promise names both. One law, and its name for each call.
-use mathlib.Core.Path.{_≡_, sym, _∙_}
-use mathlib.Core.List.{List}
-use Prim.Native.Nat.{ℕ}
+use Rattle.words.proofs.Kit.{_≡_, sym, _∙_, List, ℕ}
 use lib.IntN.{ℤ}
 use Rattle.words.specs.Tests.{when}
 use Rattle.words.specs.Outcome.{Outcome, numberOf, Done}

@@ -1,10 +1,6 @@
 -- What a call for C gives: one number, 0 where it is accepted and else that of the refusal, and its values in lent buffers. Document 01: "A refusal returns its
 -- number alone and writes nothing"; "Only words needed by an accepted answer change."
-use mathlib.Core.Path.{_≡_}
-use Prim.Native.Nat.{ℕ, _^_, _<_}
-use mathlib.Core.List.{List, [], _∷_, _++_}
-use lib.Dec.{ltb}
-use lib.ListN.{length, drop}
+use Rattle.words.specs.Kit.{_≡_, ℕ, _^_, _<_, List, [], _∷_, _++_, ltb, length, drop}
 use Rattle.words.specs.Numbers.{ROOM}
 use Rattle.words.specs.Tests.{pick}
 use Rattle.words.specs.Outcome.{Outcome, refused, accepted, onward, numberOf, Done, leftOf}

@@ -1,9 +1,5 @@
 -- Packets, trailers and the fields of a body: the values of each answer in the order of include/vrt49.h, and what each call gives.
-use Prim.Native.Nat.{ℕ, _/_, _%_, _^_}
-use mathlib.Core.Bool.{not}
-use mathlib.Core.List.{List, [], _∷_}
-use lib.Dec.{eqb, ltb}
-use lib.ListN.{length, getD}
+use Rattle.words.specs.Kit.{ℕ, _/_, _%_, _^_, not, List, [], _∷_, eqb, ltb, length, getD}
 use Rattle.words.specs.Numbers.{COUNT, TYPE, VALUE}
 use Rattle.words.specs.Tests.{when, either}
 use Rattle.words.specs.Word.{highFirst}

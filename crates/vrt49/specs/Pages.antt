@@ -1,6 +1,5 @@
 -- The page of a table: what each call gives.
-use Prim.Native.Nat.{ℕ}
-use mathlib.Core.List.{List}
+use Rattle.words.specs.Kit.{ℕ, List}
 use Rattle.words.specs.Outcome.{Outcome, Done}
 use Rattle.page.specs.Save.{lengthOf, saveOf}
 use Rattle.page.specs.PutBack.{putBackOf}

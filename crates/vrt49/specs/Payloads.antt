@@ -1,6 +1,5 @@
 -- Packed samples: what each call gives. Unpacking has no values beside its three buffers: it gives what `unpackOf` says.
-use Prim.Native.Nat.{ℕ}
-use mathlib.Core.List.{List}
+use Rattle.words.specs.Kit.{ℕ, List}
 use lib.IntN.{ℤ}
 use Rattle.words.specs.Outcome.{Outcome, Done}
 use Rattle.payload.specs.Pack.{packOf}

@@ -1,9 +1,5 @@
 -- Readings for the panel: the values of each kind in the order of include/vrt49.h, and what each call gives.
-use Prim.Native.Nat.{ℕ}
-use mathlib.Core.Bool.{false}
-use mathlib.Core.List.{List, [], _∷_}
-use lib.Dec.{ltb}
-use lib.ListN.{length}
+use Rattle.words.specs.Kit.{ℕ, false, List, [], _∷_, ltb, length}
 use lib.IntN.{ℤ, pos}
 use lib.Ieee.{Float, fin}
 use Rattle.words.specs.Numbers.{ROOM}

@@ -1,6 +1,5 @@
 -- Tables of streams: the values of each answer in the order of include/vrt49.h, and what each call gives.
-use Prim.Native.Nat.{ℕ}
-use mathlib.Core.List.{List, [], _∷_}
+use Rattle.words.specs.Kit.{ℕ, List, [], _∷_}
 use Rattle.words.specs.Outcome.{Outcome, Done}
 use Rattle.table.specs.Start.{startOf}
 use Rattle.play.specs.declared.Heard.{Heard}

@@ -1,8 +1,5 @@
 // Values, as words in lent buffers.
-ghost use mathlib.Core.Path.{_≡_};
-ghost use mathlib.Core.List.{[], _∷_};
-ghost use Prim.Native.Nat.{_≤_};
-ghost use lib.ListN.{length};
+ghost use Rattle.words.specs.Kit.{_≡_, [], _∷_, _≤_, length};
 ghost use Rattle.words.specs.Tests.{when};
 ghost use Rattle.words.specs.Outcome.{measured};
 ghost use Rattle.vrt49.specs.Answers.{Gives, front, lengthStored, Small};

@@ -1,7 +1,5 @@
 // Packets, trailers and the fields of a body.
-ghost use mathlib.Core.Path.{_≡_};
-ghost use Prim.Native.Nat.{_+_, _≤_};
-ghost use lib.ListN.{length};
+ghost use Rattle.words.specs.Kit.{_≡_, _+_, _≤_, length};
 ghost use Rattle.words.specs.Outcome.{numberOf, checked, measured, Meets};
 ghost use Rattle.fields.specs.Layout.{fieldCount, contextOf};
 ghost use Rattle.vrt49.specs.Answers.{Gives, front};

@@ -1,8 +1,5 @@
 // What the panel shows of a stream's fields, and their held words.
-ghost use mathlib.Core.Path.{_≡_};
-ghost use mathlib.Core.List.{[], _∷_};
-ghost use Prim.Native.Nat.{_≤_};
-ghost use lib.ListN.{length};
+ghost use Rattle.words.specs.Kit.{_≡_, [], _∷_, _≤_, length};
 ghost use Rattle.words.specs.Outcome.{checked};
 ghost use Rattle.panel.specs.Readings.{readingPaper};
 ghost use Rattle.vrt49.specs.Answers.{Gives, front};

@@ -1,7 +1,5 @@
 // Tables of streams: started, tested, and played on.
-ghost use mathlib.Core.Path.{_≡_};
-ghost use Prim.Native.Nat.{_≤_};
-ghost use lib.ListN.{length};
+ghost use Rattle.words.specs.Kit.{_≡_, _≤_, length};
 ghost use Rattle.words.specs.Tests.{when};
 ghost use Rattle.table.specs.Well.{wellMade};
 ghost use Rattle.vrt49.specs.Answers.{Gives, front};

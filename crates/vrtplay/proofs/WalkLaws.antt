@@ -1,13 +1,7 @@
 -- Why a walk ends. The idea: reading refuses with a number of 1 to 10, so a step that goes on behind a refusal goes on behind STREAM, of a packet that was
 -- read; and a packet that was read has at least its header.
-use mathlib.Core.Path.{_≡_, refl, sym, ap, _∙_}
-use mathlib.Core.Bool.{true}
-use mathlib.Core.List.{List}
-use Prim.Native.Nat.{ℕ, _≤_, _<_}
+use Rattle.words.proofs.Kit.{_≡_, refl, sym, ap, _∙_, true, List, ℕ, _≤_, _<_, arith, eqb-true, length, drop, getD}
 use native.Mathlib.Nat.{add-zero}
-use native.Mathlib.Omega.{arith}
-use borrow.Author.Tests.{eqb-true}
-use lib.ListN.{length, drop, getD}
 use lib.Seq.{getD-drop}
 use Rattle.words.specs.Numbers.{STREAM}
 use Rattle.words.specs.Outcome.{Outcome, refused, accepted, measured, saidOf, Meets}

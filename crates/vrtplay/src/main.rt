@@ -1,8 +1,5 @@
 // Plays a recording from standard input, as document 01 says of `vrtplay`: big-endian words, S, S identifiers, packets. It writes a line for each packet.
-ghost use mathlib.Core.Path.{_≡_};
-ghost use mathlib.Core.Bool.{true};
-ghost use Prim.Native.Nat.{_*_, _≤_};
-ghost use lib.ListN.{length};
+ghost use Rattle.words.specs.Kit.{_≡_, true, _*_, _≤_, length};
 ghost use Rattle.table.specs.Well.{wellMade};
 use libc::STDIN_FILENO;
 use play::Played;

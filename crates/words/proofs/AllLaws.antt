@@ -1,15 +1,8 @@
 -- Laws of `all`: the start, a turn and the end of a loop that checks, and the readings at one number; and of `firstOf`, for a loop that looks for something.
-use mathlib.Core.Path.{_≡_, refl, sym, _∙_}
-use mathlib.Core.Bool.{Bool, true, false}
-use mathlib.Core.Logic.{⊎-elim}
-use mathlib.Core.List.{List}
-use Prim.Native.Nat.{ℕ, zero, suc, _+_, _≤_, _<_}
+use Rattle.words.proofs.Kit.{_≡_, refl, sym, _∙_, Bool, true, false, ⊎-elim, List, ℕ, zero, suc, _+_, _≤_, _<_, arith, eqb-true, lt-ltb}
+use Rattle.words.proofs.Kit.{le-ltb, eqb, ltb, getD}
 use native.Mathlib.Nat.{not-suc-le-zero}
 use native.Mathlib.Numerals.{add-one}
-use native.Mathlib.Omega.{arith}
-use borrow.Author.Tests.{eqb-true, lt-ltb, le-ltb}
-use lib.Dec.{eqb, ltb}
-use lib.ListN.{getD}
 use Rattle.words.specs.Tests.{pick}
 use Rattle.words.specs.All.{all, firstOf, tabled}
 use Rattle.words.proofs.Cases.{le-or-lt, true-is-false, both-left, both-right, both-no}

@@ -1,14 +1,10 @@
 -- Words bit by bit. The idea: `&` and `|` go along with shifts and remainders, so a bit of the result is that of the two digits there (`has-and`,
 -- `has-or`); and two words that agree at every bit are equal (`word-same`).
-use mathlib.Core.Path.{_≡_, refl, sym, ap, _∙_}
-use mathlib.Core.Bool.{true}
-use Prim.Native.Nat.{ℕ, zero, suc, _+_, _-_, _/_, _%_, _^_, _<_}
+use Rattle.words.proofs.Kit.{_≡_, refl, sym, ap, _∙_, true, ℕ, zero, suc, _+_, _-_, _/_, _%_, _^_, _<_, arith, eqb}
 use native.Mathlib.Nat.{mod-lt}
 use native.Mathlib.Numerals.{one-add}
-use native.Mathlib.Omega.{arith}
 use lib.Arith.{lt-one}
 use lib.Bits.{bitAnd, bitOr, and-shr, or-shr, and-mod, or-mod}
-use lib.Dec.{eqb}
 use lib.Pow as Pow
 use lib.Pow.{pow-pos, shr-lt, field, mod-mod-pow}
 use Rattle.words.specs.Tests.{pick, both}

@@ -1,14 +1,10 @@
 -- Definitions that go by tests: the rule set for `search`, case splits, tests joined, and what an accepted answer says.
-use mathlib.Core.Path.{_≡_, refl, sym}
-use mathlib.Core.Bool.{Bool, true, false, not}
-use mathlib.Core.List.{List, [], _∷_}
-use mathlib.Core.Logic.{_⊎_, inl, inr, ⊎-elim}
-use Prim.Native.Nat.{ℕ, zero, suc, _≤_, _<_, zero-le, suc-le-suc}
+use Rattle.words.proofs.Kit.{_≡_, refl, sym, Bool, true, false, not, List, [], _∷_, ⊎-elim, ℕ, zero, suc, _≤_, _<_, arith, needs, lt-ltb}
+use Rattle.words.proofs.Kit.{le-ltb, le-leb, lt-leb, eq-eqb, ne-eqb, eqb-true, eqb}
+use mathlib.Core.Logic.{_⊎_, inl, inr}
+use Prim.Native.Nat.{zero-le, suc-le-suc}
 use native.Mathlib.Nat.{le-refl}
-use native.Mathlib.Omega.{arith}
-use borrow.Author.Needs.{needs}
-use borrow.Author.Tests.{lt-ltb, le-ltb, le-leb, lt-leb, eq-eqb, ne-eqb, eqb-true, eqb-false}
-use lib.Dec.{eqb}
+use borrow.Author.Tests.{eqb-false}
 use Rattle.words.specs.Tests.{pick, when, both, sameWords}
 use Rattle.words.specs.Outcome.{Outcome, refused, accepted, onward}
 

@@ -1,12 +1,9 @@
 -- A copy of words. The idea: after i turns the list is the first i words copied, then the old words from i on (`copy-more`); a part is copied by
 -- lending it (`copied-part`).
-use mathlib.Core.Path.{_≡_, refl, _∙_}
-use mathlib.Core.List.{List, _++_, append-assoc, append-nil}
-use Prim.Native.Nat.{ℕ, suc, _+_, _-_, _≤_, _<_}
+use Rattle.words.proofs.Kit.{_≡_, refl, _∙_, List, _++_, ℕ, suc, _+_, _-_, _≤_, _<_, arith, length, take, drop, getD, set}
+use mathlib.Core.List.{append-assoc, append-nil}
 use native.Mathlib.Nat.{le-of-lt}
 use native.Mathlib.Numerals.{add-one}
-use native.Mathlib.Omega.{arith}
-use lib.ListN.{length, take, drop, getD, set}
 use lib.Seq.{length-take-le, drop-cons, set-at, take-suc, drop-length, take-all}
 use Rattle.words.specs.Part.{part, put}
 use Rattle.words.proofs.PartLaws.{seen, lent, part-length}

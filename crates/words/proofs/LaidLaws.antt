@@ -1,12 +1,10 @@
 -- Runs of writes. The idea: a writer's promise is `Laid`, two writers in turn join by `then`, and a writer that was lent the part from a place on
 -- joins by `lend`; so a packet or a page is laid by its pieces, in one line for each. Inside, a run is `sets`, which needs no room; `sets-put`
 -- says it, where there is room, as a part that is replaced.
-use mathlib.Core.Path.{_≡_, sym, ap, _∙_}
-use mathlib.Core.List.{List, [], _∷_, _++_, append-nil, append-assoc}
-use Prim.Native.Nat.{ℕ, suc, _+_, _-_, _≤_}
+use Rattle.words.proofs.Kit.{_≡_, sym, ap, _∙_, List, [], _∷_, _++_, ℕ, suc, _+_, _-_, _≤_, arith, length, take, drop, set}
+use mathlib.Core.List.{append-nil, append-assoc}
 use native.Mathlib.Nat.{add-zero, add-assoc, zero-add, add-suc, suc-add, le-add-right}
-use native.Mathlib.Omega.{arith}
-use lib.ListN.{length, length-append, take, drop, set, length-set, length-drop, take-append-drop, drop-of-length-le}
+use lib.ListN.{length-append, length-set, length-drop, take-append-drop, drop-of-length-le}
 use lib.Seq.{sets, sets-eq, length-sets, drop-set-add, take-set-le, take-all, drop-drop}
 use borrow.Rule.Slice.PartMut.{midOf, putMid}
 use Rattle.words.specs.Part.{put}

@@ -1,5 +1,7 @@
 -- The laws that the crates above cite, each beside its kin.
 
+-- the names of the kit that proofs speak with, passed on
+pub mod Kit
 -- what `search` is handed for a definition that goes by tests; tests joined; accepted answers
 pub mod Cases
 -- lists of refusals

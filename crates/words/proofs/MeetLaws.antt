@@ -1,8 +1,6 @@
 -- The promise of a call that is lent words, `Meets`: how an answer meets it, and what an answer that meets it tells. The idea: what a call says tells what it
 -- does (`said-accepted`, `said-refused`).
-use mathlib.Core.Path.{_≡_, refl, sym, ap, _∙_}
-use Prim.Native.Nat.{ℕ}
-use native.Mathlib.Omega.{arith}
+use Rattle.words.proofs.Kit.{_≡_, refl, sym, ap, _∙_, ℕ, arith}
 use Rattle.words.specs.declared.Length.the-variants.{Accepted, Refused}
 use Rattle.words.specs.Outcome.{Outcome, refused, accepted, measured, Done, saidOf, leftOf, Meets}
 

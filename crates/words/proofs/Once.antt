@@ -1,6 +1,5 @@
 -- Two answers that meet one promise are equal. The idea: `paper` has a left inverse, `back`, so an answer is what `back` makes of the promise.
-use mathlib.Core.Path.{_≡_, refl, sym, ap, _∙_}
-use Prim.Native.Nat.{ℕ}
+use Rattle.words.proofs.Kit.{_≡_, refl, sym, ap, _∙_, ℕ}
 use Rattle.words.specs.declared.Check.{Check}
 use Rattle.words.specs.declared.Check.the-variants.{Fine, Refused}
 use Rattle.words.specs.declared.Length.{Length}

@@ -1,13 +1,11 @@
 -- Parts of lists. The idea: `part` and `put` stay shut, and these laws are all that anyone uses of them: what the borrow checker leaves of a lent
 -- part (`seen`, `lent`, `lent-to`), what is read of a list with a part replaced, and how two replacements meet. The side conditions are always
 -- that the part lies inside, and that what is put is as long as it.
-use mathlib.Core.Path.{_≡_, refl, sym, ap, _∙_}
-use mathlib.Core.List.{List, [], _∷_, _++_}
-use Prim.Native.Nat.{ℕ, zero, suc, _+_, _-_, _≤_, _<_}
-use native.Mathlib.Omega.{arith}
+use Rattle.words.proofs.Kit.{_≡_, refl, sym, ap, _∙_, List, [], _∷_, _++_, ℕ, zero, suc, _+_, _-_, _≤_, _<_, arith, length, take, drop, getD}
+use Rattle.words.proofs.Kit.{set}
 use native.Mathlib.Nat.{zero-add, suc-add}
 use native.Mathlib.Numerals.{add-one}
-use lib.ListN.{length, take, drop, getD, set, length-append, length-drop}
+use lib.ListN.{length-append, length-drop}
 use lib.Seq.{length-take-le, take-nil, take-at, drop-at, drop-drop, take-length, take-take, set-split, drop-set-lt, getD-take, getD-drop}
 use Rattle.words.specs.Part.{part, put}
 

@@ -1,10 +1,6 @@
 -- Lists of refusals. The idea: an accepted answer passed every test of its list (`first-passed`), and where every test is passed the answer is what follows the
 -- list (`none-given`); checks one after the other are lists one after the other (`after-first`, `onward-first`).
-use mathlib.Core.Path.{_≡_, refl, sym, ap, _∙_}
-use mathlib.Core.Bool.{Bool, true, false}
-use mathlib.Core.List.{[], _∷_}
-use Prim.Native.Nat.{ℕ}
-use native.Mathlib.Omega.{arith}
+use Rattle.words.proofs.Kit.{_≡_, refl, sym, ap, _∙_, Bool, true, false, [], _∷_, ℕ, arith}
 use Rattle.words.specs.Tests.{pick, either}
 use Rattle.words.specs.Outcome.{Outcome, refused, accepted, after, onward}
 use Rattle.words.specs.Refusals.{Refusals, firstGiven}

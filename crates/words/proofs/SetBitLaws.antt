@@ -1,20 +1,14 @@
 -- The set bits of a number. The idea: the list begins with the number's highest set bit, which `leading_zeros` names, and goes on as the list of
 -- the number without it; so a loop that takes the highest bit off walks the list. Stated over any width.
-use mathlib.Core.Path.{_≡_, refl, sym, ap, _∙_}
-use mathlib.Core.Bool.{Bool, true, false}
-use mathlib.Core.Logic.{⊎-elim}
-use mathlib.Core.List.{List, [], _∷_, _++_}
-use Prim.Native.Nat.{ℕ, zero, suc, _+_, _-_, _*_, _/_, _%_, _^_, _≤_, _<_, zero-le}
+use Rattle.words.proofs.Kit.{_≡_, refl, sym, ap, _∙_, Bool, true, false, ⊎-elim, List, [], _∷_, _++_, ℕ, zero, suc, _+_, _-_, _*_, _/_, _%_}
+use Rattle.words.proofs.Kit.{_^_, _≤_, _<_, arith, lt-ltb, le-ltb, eqb, ltb, length}
+use Prim.Native.Nat.{zero-le}
 use native.Mathlib.Nat.{pow-suc, le-of-lt, lt-of-lt-of-le, div-eq-of-lt, div-eq-of-lt-le, add-mul-div-right, add-mul-mod-self-right, mul-assoc}
 use native.Mathlib.Nat.{mul-comm, mod-lt, mod-eq-of-lt, mod-one, one-mul, lt-of-le-of-lt, le-of-suc-le-suc, add-comm, zero-add}
 use native.Mathlib.Numerals.{one-add}
 use native.Mathlib.Decide.{le-ind}
-use native.Mathlib.Omega.{arith}
-use borrow.Author.Tests.{lt-ltb, le-ltb}
-use lib.Dec.{eqb, ltb}
 use lib.Pow as Pow
 use lib.Pow.{pow-mono, pow-pos, pow-add, mod-pow-add, shl-shr, shr-shr}
-use lib.ListN.{length}
 use lib.Count.{ones, ones-cat, leadingZeros, leading-top}
 use Rattle.words.specs.Tests.{pick}
 use Rattle.words.specs.Word.{has}

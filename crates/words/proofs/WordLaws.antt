@@ -1,7 +1,5 @@
 -- A word and its fields, once over any widths: joined and split again, split and joined again, and the fields by the numbers of their bits.
-use mathlib.Core.Path.{_≡_, refl, sym, ap, _∙_}
-use mathlib.Core.List.{List, [], _∷_}
-use Prim.Native.Nat.{ℕ, _+_, _*_, _/_, _%_, _^_, _<_}
+use Rattle.words.proofs.Kit.{_≡_, refl, sym, ap, _∙_, List, [], _∷_, ℕ, _+_, _*_, _/_, _%_, _^_, _<_}
 use native.Mathlib.Nat.{mul-comm, add-comm, div-one}
 use lib.Arith.{lt-one}
 use lib.Pow.{shr-lt, shr-shr, high, low}

@@ -1,9 +1,5 @@
 -- A test at every number below a bound: what each loop that checks says, and each that looks for something.
-use Prim.Native.Nat.{ℕ, zero, suc}
-use mathlib.Core.Bool.{Bool, true}
-use mathlib.Core.List.{List}
-use lib.Dec.{eqb, ltb}
-use lib.ListN.{getD}
+use Rattle.words.specs.Kit.{ℕ, zero, suc, Bool, true, List, eqb, ltb, getD}
 use Rattle.words.specs.Tests.{pick, both}
 
 -- f passes at each number below n

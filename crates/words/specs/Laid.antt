@@ -1,8 +1,5 @@
 -- Words laid into a list one after the other: what every writer of words promises.
-use mathlib.Core.Path.{_≡_}
-use mathlib.Core.List.{List}
-use Prim.Native.Nat.{ℕ, _+_}
-use lib.ListN.{length}
+use Rattle.words.specs.Kit.{_≡_, List, ℕ, _+_, length}
 use lib.Seq.{sets}
 
 -- the words ws are stored in the list `before` from the place at: `next` is the place past them, and `after` the list afterwards

@@ -1,6 +1,5 @@
 -- What a call answers, as document 01 has it: "A refusal returns its number alone and writes nothing".
-use mathlib.Core.Path.{_≡_}
-use Prim.Native.Nat.{ℕ}
+use Rattle.words.specs.Kit.{_≡_, ℕ}
 use Rattle.words.specs.declared.Check.{Check}
 use Rattle.words.specs.declared.Check.the-variants.{Fine, Refused}
 use Rattle.words.specs.declared.Length.{Length}

@@ -1,7 +1,5 @@
 -- Document 01, 'Numbers given back': "The first that applies is given, in these orders."
-use Prim.Native.Nat.{ℕ}
-use mathlib.Core.Bool.{Bool}
-use mathlib.Core.List.{List, [], _∷_}
+use Rattle.words.specs.Kit.{ℕ, Bool, List, [], _∷_}
 use Rattle.words.specs.Tests.{pick, both}
 use Rattle.words.specs.Outcome.{Outcome, refused}
 

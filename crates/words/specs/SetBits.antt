@@ -1,8 +1,6 @@
 -- The set bits of a number. Document 01: "Fields follow from bit 30 downwards"; "The number of fields and the next field to read follow
 -- from the indicator's set bits".
-use Prim.Native.Nat.{ℕ, zero, suc}
-use mathlib.Core.List.{List, [], _∷_}
-use lib.Dec.{ltb}
+use Rattle.words.specs.Kit.{ℕ, zero, suc, List, [], _∷_, ltb}
 use Rattle.words.specs.Tests.{pick}
 use Rattle.words.specs.Word.{has}
 

@@ -1,8 +1,5 @@
 -- Tests, and the value that a test picks.
-use Prim.Native.Nat.{ℕ}
-use mathlib.Core.Bool.{Bool, true, false}
-use mathlib.Core.List.{List, [], _∷_}
-use lib.Dec.{eqb}
+use Rattle.words.specs.Kit.{ℕ, Bool, true, false, List, [], _∷_, eqb}
 
 -- the first where the test holds, and else the second
 abbrev pub pick : {A : Type 0} → Bool → A → A → A

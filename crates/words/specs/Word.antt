@@ -1,8 +1,5 @@
 -- A word of 32 bits, in the two ways that document 01 speaks of one: by the numbers of its bits, and as fields beside each other.
-use Prim.Native.Nat.{ℕ, zero, suc, _+_, _-_, _*_, _/_, _%_, _^_, _<_}
-use mathlib.Core.Bool.{Bool}
-use mathlib.Core.List.{List, [], _∷_}
-use lib.Dec.{eqb}
+use Rattle.words.specs.Kit.{ℕ, zero, suc, _+_, _-_, _*_, _/_, _%_, _^_, _<_, Bool, List, [], _∷_, eqb}
 
 -- ---- by the numbers of its bits
 

@@ -1,7 +1,5 @@
 // Helpers for the crates above: reads and copies of words, and tests.
-ghost use mathlib.Core.Path.{_≡_};
-ghost use Prim.Native.Nat.{_+_, _≤_};
-ghost use lib.ListN.{length, take, getD};
+ghost use Rattle.words.specs.Kit.{_≡_, _+_, _≤_, length, take, getD};
 ghost use Rattle.words.specs.Tests.{when, both};
 ghost use Rattle.words.specs.Word.{highFirst};
 ghost use Rattle.words.specs.Part.{part, put};

@@ -1,12 +1,6 @@
 -- What the checks of writing tell once they found nothing: each number fits its bits, and there is room.
-use mathlib.Core.Path.{_≡_, sym, ap, _∙_}
-use mathlib.Core.Bool.{true, false}
-use mathlib.Core.List.{List}
-use Prim.Native.Nat.{ℕ, _+_, _≤_, _<_}
-use native.Mathlib.Omega.{arith}
-use borrow.Author.Tests.{ltb-true, ltb-false, not-false}
-use lib.Dec.{ltb}
-use lib.ListN.{length}
+use Rattle.words.proofs.Kit.{_≡_, sym, ap, _∙_, true, false, List, ℕ, _+_, _≤_, _<_, arith, ltb-false, not-false, ltb, length}
+use borrow.Author.Tests.{ltb-true}
 use Rattle.words.specs.Outcome.{accepted, after}
 use Rattle.words.specs.Refusals.{firstGiven}
 use Rattle.words.proofs.Cases.{both-left, both-right}

@@ -1,15 +1,10 @@
 -- The parts of a packet as fifteen words. The idea: a part is a word of its own, or a flag that is the lowest bit of one, or the fraction, which is two;
 -- so what the
 -- program computes of the words is what the definitions say of the parts.
-use mathlib.Core.Path.{_≡_, refl, sym, ap, _∙_}
-use mathlib.Core.Bool.{Bool, true, false}
-use mathlib.Core.List.{List, [], _∷_, _++_}
-use mathlib.Core.Logic.{⊎-elim}
-use Prim.Native.Nat.{ℕ, _+_, _*_, _/_, _%_, _^_, _≤_, _<_}
+use Rattle.words.proofs.Kit.{_≡_, refl, sym, ap, _∙_, Bool, true, false, List, [], _∷_, _++_, ⊎-elim, ℕ, _+_, _*_, _/_, _%_, _^_, _≤_, _<_, arith}
+use Rattle.words.proofs.Kit.{eqb, length, take, drop, getD}
 use native.Mathlib.Nat.{div-add-mod'}
-use native.Mathlib.Omega.{arith}
-use lib.Dec.{eqb, lit<}
-use lib.ListN.{length, take, drop, getD}
+use lib.Dec.{lit<}
 use lib.Pow.{high, low}
 use Rattle.words.specs.Tests.{when}
 use Rattle.words.specs.Word.{join, highFirst}

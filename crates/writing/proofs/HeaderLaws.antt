@@ -1,13 +1,8 @@
 -- The header of a packet to be written, read again. The idea: the header is the join of its fields, so splitting it gives them back (`split-join`),
 -- and a part by the numbers of its bits is one of these fields (`split-from`). So what is there of a packet does not hang on its size.
-use mathlib.Core.Path.{_≡_, refl, sym, ap, _∙_}
-use mathlib.Core.Bool.{Bool, true, false, not}
-use mathlib.Core.List.{List, [], _∷_}
-use Prim.Native.Nat.{ℕ, zero, suc, _+_, _*_, _/_, _%_, _^_, _<_}
-use native.Mathlib.Omega.{arith}
-use borrow.Author.Tests.{ne-eqb, lt-ltb, le-ltb}
-use lib.Dec.{eqb, ltb, lit<}
-use lib.ListN.{getD}
+use Rattle.words.proofs.Kit.{_≡_, refl, sym, ap, _∙_, Bool, true, false, not, List, [], _∷_, ℕ, zero, suc, _+_, _*_, _/_, _%_, _^_, _<_, arith}
+use Rattle.words.proofs.Kit.{ne-eqb, lt-ltb, le-ltb, eqb, ltb, getD}
+use lib.Dec.{lit<}
 use lib.Pow.{mod-pow-add, shr-shr}
 use Rattle.words.specs.Tests.{pick, when, both}
 use Rattle.words.specs.Word.{has, join, split}

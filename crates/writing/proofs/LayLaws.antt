@@ -1,14 +1,11 @@
 -- The words of a packet by their pieces. The idea: each piece has as many words as the header says, so a packet's words are as many as its size; and
 -- a body that is copied block by block is at each turn its first words and what was there behind them (`Copying`).
-use mathlib.Core.Path.{_≡_, refl, sym, ap, _∙_}
-use mathlib.Core.Bool.{Bool, true, false}
-use mathlib.Core.List.{List, [], _∷_, _++_, append-assoc}
-use Prim.Native.Nat.{ℕ, _+_, _*_, _-_, _/_, _%_, _^_, _≤_, _<_}
+use Rattle.words.proofs.Kit.{_≡_, refl, sym, ap, _∙_, Bool, true, false, List, [], _∷_, _++_, ℕ, _+_, _*_, _-_, _/_, _%_, _^_, _≤_, _<_, arith, ltb}
+use Rattle.words.proofs.Kit.{length, take, drop}
+use mathlib.Core.List.{append-assoc}
 use native.Mathlib.Nat.{mod-eq-of-lt, zero-add}
-use native.Mathlib.Omega.{arith}
 use borrow.Author.Tests.{ltb-true}
-use lib.Dec.{ltb}
-use lib.ListN.{length, take, drop, length-append}
+use lib.ListN.{length-append}
 use lib.Seq.{sets, sets-eq, length-take-le, drop-drop, drop-at, take-add, take-length}
 use Rattle.words.specs.Tests.{when}
 use Rattle.words.specs.Word.{join}

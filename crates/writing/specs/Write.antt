@@ -1,10 +1,6 @@
 -- What writing a packet does. Document 01, 'Numbers given back': "Write: TYPE, VALUE, SHORT, SIZE, TIME, INDICATOR, LAYOUT, FIELD, ROOM";
 -- "A packet, its body given as words, is written into a part of a longer buffer that starts at the caller's chosen word."
-use Prim.Native.Nat.{ℕ, _+_, _/_, _%_, _^_}
-use mathlib.Core.Bool.{Bool, true, false, not}
-use mathlib.Core.List.{List, [], _∷_, _++_}
-use lib.Dec.{ltb}
-use lib.ListN.{length, take, drop}
+use Rattle.words.specs.Kit.{ℕ, _+_, _/_, _%_, _^_, Bool, true, false, not, List, [], _∷_, _++_, ltb, length, take, drop}
 use Rattle.words.specs.Numbers.{TYPE, VALUE, SHORT, SIZE, TIME, ROOM}
 use Rattle.words.specs.Tests.{pick, when, both}
 use Rattle.words.specs.Word.{join}

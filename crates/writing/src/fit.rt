@@ -1,10 +1,7 @@
 // The refusals of writing, of a packet whose parts are fifteen words q. Each number of the list is given in one place, but for those that reading has too, and for
 // SHORT and VALUE.
 use crate::parts;
-ghost use mathlib.Core.Path.{_≡_};
-ghost use Prim.Native.Nat.{_+_, _≤_};
-ghost use lib.Dec.{eqb};
-ghost use lib.ListN.{length};
+ghost use Rattle.words.specs.Kit.{_≡_, _+_, _≤_, eqb, length};
 ghost use Rattle.words.specs.Numbers.{SHORT, TIME};
 ghost use Rattle.words.specs.Tests.{pick, both};
 ghost use Rattle.words.specs.Outcome.{checked};

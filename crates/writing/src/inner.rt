@@ -1,6 +1,5 @@
 // Writing a packet whose parts are words.
-ghost use mathlib.Core.Path.{_≡_};
-ghost use lib.ListN.{length};
+ghost use Rattle.words.specs.Kit.{_≡_, length};
 ghost use Rattle.words.specs.Outcome.{measured, Meets};
 ghost use Rattle.writing.specs.Write.{writeOf};
 ghost use Rattle.writing.specs.inner.Given.{partsIn};

@@ -1,10 +1,6 @@
 // The words of a packet, laid into a buffer: the prologue, the body and the trailer in turn. Its parts are fifteen words q; w is its header word.
 use crate::parts;
-ghost use mathlib.Core.Path.{_≡_};
-ghost use mathlib.Core.Bool.{true};
-ghost use mathlib.Core.List.{[], _∷_, _++_};
-ghost use Prim.Native.Nat.{_+_, _*_, _%_, _^_, _≤_, _<_};
-ghost use lib.ListN.{length, take, drop};
+ghost use Rattle.words.specs.Kit.{_≡_, true, [], _∷_, _++_, _+_, _*_, _%_, _^_, _≤_, _<_, length, take, drop};
 ghost use Rattle.words.specs.Tests.{when};
 ghost use Rattle.words.specs.Outcome.{accepted};
 ghost use Rattle.words.specs.Part.{part, put};

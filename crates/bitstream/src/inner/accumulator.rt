@@ -1,7 +1,5 @@
 // An accumulator of bits: fields taken from words, and words made of fields.
-ghost use mathlib.Core.Path.{_≡_};
-ghost use Prim.Native.Nat.{_+_, _^_, _≤_, _<_};
-ghost use lib.ListN.{length};
+ghost use Rattle.words.specs.Kit.{_≡_, _+_, _^_, _≤_, _<_, length};
 ghost use Rattle.bitstream.specs.Carried.{carried};
 ghost use Rattle.bitstream.specs.Accumulator.{Takeable, Refilled, Took, TookItem, FieldTakeable, Pushable, Pushed, FieldPushable, Finished};
 use crate::inner::low;

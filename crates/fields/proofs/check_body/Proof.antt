@@ -1,8 +1,7 @@
 -- `check_body` meets its promise: each return is a line of the chain of refusals, its tests being what the walk found.
-use borrow.Author.Tests.{eq-eqb, ne-eqb}
+use Rattle.words.proofs.Kit.{eq-eqb, ne-eqb, needs}
 use Rattle.fields.specs.Layout.{contextOf, lowBitsSet, otherLength, ruleBroken}
 use Rattle.fields.proofs.WalkLaws.{walked-words, walked-rules}
-use borrow.Author.Needs.{needs}
 use Rattle.fields.proofs.check_body.Statement.{statement}
 use Rattle.fields.proofs.check_body.Tie as tie
 

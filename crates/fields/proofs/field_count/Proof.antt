@@ -1,6 +1,5 @@
 -- `field_count` meets its promise: the law of counts of ones, at the 23 bits from bit 8 up.
-use mathlib.Core.Path.{sym}
-use Prim.Native.Nat.{_/_}
+use Rattle.words.proofs.Kit.{sym, _/_}
 use Rattle.words.proofs.SetBitLaws.{bits-counted}
 use Rattle.fields.specs.Layout.{fieldCount}
 use Rattle.fields.proofs.field_count.Statement.{statement}

@@ -1,9 +1,6 @@
 -- The field rules as the program asks them: whether a field has a rule, a limit of its first word, and what else the rule says of its first two words.
 -- That these are document 01's rules say the laws `unruled-kept` and `rule-limit` of `proofs/RuleLaws.antt`.
-use Prim.Native.Nat.{ℕ, _^_}
-use mathlib.Core.Bool.{Bool, true}
-use mathlib.Core.List.{[], _∷_}
-use lib.Dec.{eqb, ltb}
+use Rattle.words.specs.Kit.{ℕ, _^_, Bool, true, [], _∷_, eqb, ltb}
 use Rattle.words.specs.Tests.{pick, among}
 use Rattle.words.specs.Word.{bits}
 use Rattle.fields.specs.Format.{formatOk}

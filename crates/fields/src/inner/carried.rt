@@ -1,7 +1,5 @@
 // The fields that an indicator carries, one after the other.
-ghost use mathlib.Core.Path.{_≡_};
-ghost use mathlib.Core.List.{_∷_};
-ghost use Prim.Native.Nat.{_<_};
+ghost use Rattle.words.specs.Kit.{_≡_, _∷_, _<_};
 ghost use Rattle.words.specs.SetBits.{bitsOf};
 
 // A bit, and the bits after it.

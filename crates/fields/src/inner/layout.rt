@@ -1,8 +1,5 @@
 // The walk over the fields of a body: one pass, which finds their end and looks at their rules.
-ghost use mathlib.Core.Path.{_≡_};
-ghost use mathlib.Core.Bool.{true};
-ghost use Prim.Native.Nat.{_^_, _+_, _≤_, _<_};
-ghost use lib.ListN.{drop};
+ghost use Rattle.words.specs.Kit.{_≡_, true, _^_, _+_, _≤_, _<_, drop};
 ghost use Rattle.words.specs.Tests.{both};
 ghost use Rattle.words.specs.SetBits.{bitsOf};
 ghost use Rattle.words.specs.All.{tabled};

@@ -1,8 +1,5 @@
 // The field rules. A rule looks at the first two words of its field at most, which are handed on as numbers: a slice that is lent in a loop is kept in memory.
-ghost use mathlib.Core.Path.{_≡_};
-ghost use mathlib.Core.List.{[], _∷_};
-ghost use Prim.Native.Nat.{_^_, _<_};
-ghost use lib.ListN.{drop};
+ghost use Rattle.words.specs.Kit.{_≡_, [], _∷_, _^_, _<_, drop};
 ghost use Rattle.fields.specs.Rules.{stateRule, listsRule, ruleOf};
 ghost use Rattle.fields.specs.inner.Limits.{ruled, limitOf, firstOk, deviceSecond, moreOk};
 

@@ -1,9 +1,5 @@
 // How many words the field of each indicator bit takes.
-ghost use mathlib.Core.Path.{_≡_};
-ghost use mathlib.Core.Bool.{true};
-ghost use mathlib.Core.List.{[], _∷_};
-ghost use Prim.Native.Nat.{_^_, _≤_, _<_};
-ghost use lib.ListN.{drop};
+ghost use Rattle.words.specs.Kit.{_≡_, true, [], _∷_, _^_, _≤_, _<_, drop};
 ghost use Rattle.words.specs.All.{tabled};
 ghost use Rattle.fields.specs.Sizes.{sizeOf, asciiWords, listWords, wordsOf};
 

@@ -1,10 +1,8 @@
 -- `read` meets its promise: a refusal of the front or of the body is given, and else the packet is what its words say.
-use mathlib.Core.Path.{sym, ap, _∙_}
-use denote.Ref.{now}
+use Rattle.words.proofs.Kit.{sym, ap, _∙_, now, needs}
 use Rattle.words.specs.Outcome.{checked, accepted}
 use Rattle.packet.specs.declared.Packet.{Packet}
 use Rattle.packet.proofs.FrontLaws.{front-refuses, front-some, front-sized, front-reserved, body-refuses, body-accepted}
-use borrow.Author.Needs.{needs}
 use Rattle.packet.proofs.read.Statement.{statement}
 use Rattle.packet.proofs.read.Tie as tie
 

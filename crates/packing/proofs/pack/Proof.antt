@@ -2,9 +2,7 @@
 use Rattle.words.specs.Outcome.{checked}
 use Rattle.payload_format.proofs.FormatLaws.{legal, count-few, words-for}
 use Rattle.packing.proofs.PackLaws.{PackPassed, pack-passed, packable, pack-refused, pack-accepted}
-use lib.ListN.{length}
-use mathlib.Core.Path.{sym, ap, _∙_}
-use borrow.Author.Needs.{needs}
+use Rattle.words.proofs.Kit.{length, sym, ap, _∙_, needs}
 use Rattle.packing.proofs.pack.Statement.{statement}
 use Rattle.packing.proofs.pack.Tie as tie
 

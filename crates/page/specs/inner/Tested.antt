@@ -1,11 +1,6 @@
 -- The tests that a program makes of a page: its contents, its list, and each body's record. That they pass exactly the well-made pages is `page-tested`
 -- (proofs/Exact.antt); no promise of a public call speaks of them.
-use mathlib.Core.Path.{_≡_}
-use Prim.Native.Nat.{ℕ, _+_, _≤_, _<_}
-use mathlib.Core.Bool.{Bool}
-use mathlib.Core.List.{List}
-use lib.Dec.{eqb, leb}
-use lib.ListN.{length, getD}
+use Rattle.words.specs.Kit.{_≡_, ℕ, _+_, _≤_, _<_, Bool, List, eqb, leb, length, getD}
 use Rattle.words.specs.Tests.{both}
 use Rattle.words.specs.All.{all}
 use Rattle.record.specs.Good.{recordGood}

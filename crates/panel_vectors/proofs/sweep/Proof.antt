@@ -1,6 +1,5 @@
 -- `sweep` is safe and ends: h goes up to 65,536, and a store keeps the table's length.
-use Prim.Native.Nat.{_-_, _≤_}
-use borrow.Author.Needs.{needs}
+use Rattle.words.proofs.Kit.{_-_, _≤_, needs}
 use Rattle.panel_vectors.proofs.sweep.Statement.{statement}
 use Rattle.panel_vectors.proofs.sweep.Tie as tie
 

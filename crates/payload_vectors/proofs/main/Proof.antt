@@ -1,6 +1,5 @@
 -- `main` is safe and ends: k counts the cases.
-use Prim.Native.Nat.{_-_, _^_, _≤_}
-use borrow.Author.Needs.{needs}
+use Rattle.words.proofs.Kit.{_-_, _^_, _≤_, needs}
 use Rattle.payload_vectors.proofs.main.Statement.{statement}
 use Rattle.payload_vectors.proofs.main.Tie as tie
 

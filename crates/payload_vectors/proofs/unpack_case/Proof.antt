@@ -1,8 +1,6 @@
 -- `unpack_case` is safe: each part that is lent is as long as asked (`length-take-le`).
-use native.Mathlib.Omega.{arith}
-use mathlib.Core.Path.{sym}
+use Rattle.words.proofs.Kit.{arith, sym, needs}
 use lib.Seq.{length-take-le}
-use borrow.Author.Needs.{needs}
 use Rattle.payload_vectors.proofs.unpack_case.Statement.{statement}
 use Rattle.payload_vectors.proofs.unpack_case.Tie as tie
 

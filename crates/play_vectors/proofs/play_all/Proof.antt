@@ -1,8 +1,5 @@
 -- `play_all` is safe and ends: the buffers keep their lengths, and j goes up.
-use mathlib.Core.Path.{_≡_}
-use Prim.Native.Nat.{_-_, _≤_}
-use lib.ListN.{length}
-use borrow.Author.Needs.{needs}
+use Rattle.words.proofs.Kit.{_≡_, _-_, _≤_, length, needs}
 use Rattle.play_vectors.proofs.play_all.Statement.{statement}
 use Rattle.play_vectors.proofs.play_all.Tie as tie
 

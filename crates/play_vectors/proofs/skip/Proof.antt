@@ -1,6 +1,5 @@
 -- `skip` is safe and ends: i goes up to n.
-use Prim.Native.Nat.{_-_, _≤_}
-use borrow.Author.Needs.{needs}
+use Rattle.words.proofs.Kit.{_-_, _≤_, needs}
 use Rattle.play_vectors.proofs.skip.Statement.{statement}
 use Rattle.play_vectors.proofs.skip.Tie as tie
 

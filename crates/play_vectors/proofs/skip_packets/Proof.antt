@@ -1,6 +1,5 @@
 -- `skip_packets` is safe and ends: j goes up.
-use Prim.Native.Nat.{_-_, _≤_}
-use borrow.Author.Needs.{needs}
+use Rattle.words.proofs.Kit.{_-_, _≤_, needs}
 use Rattle.play_vectors.proofs.skip_packets.Statement.{statement}
 use Rattle.play_vectors.proofs.skip_packets.Tie as tie
 

@@ -1,8 +1,5 @@
 -- `store` is safe and ends: a store keeps the table's length, and i goes up.
-use mathlib.Core.Path.{_≡_}
-use Prim.Native.Nat.{_-_, _≤_}
-use lib.ListN.{length}
-use borrow.Author.Needs.{needs}
+use Rattle.words.proofs.Kit.{_≡_, _-_, _≤_, length, needs}
 use Rattle.play_vectors.proofs.store.Statement.{statement}
 use Rattle.play_vectors.proofs.store.Tie as tie
 

@@ -1,6 +1,5 @@
 -- `main` is safe and ends: the cases are counted up to a bound that no input reaches.
-use Prim.Native.Nat.{_-_, _≤_}
-use borrow.Author.Needs.{needs}
+use Rattle.words.proofs.Kit.{_-_, _≤_, needs}
 use Rattle.read_vectors.proofs.main.Statement.{statement}
 use Rattle.read_vectors.proofs.main.Tie as tie
 

@@ -1,11 +1,8 @@
 -- `show` is safe: the body of an accepted packet lies inside the words that were read.
-use mathlib.Core.Path.{_≡_, sym, ap, _∙_}
-use native.Mathlib.Omega.{arith}
-use denote.Ref.{now}
+use Rattle.words.proofs.Kit.{_≡_, sym, ap, _∙_, arith, now, needs}
 use Rattle.words.specs.Outcome.{accepted}
 use Rattle.packet.specs.Read.{paper, readOf}
 use Rattle.packet.proofs.ReadLaws.{body-inside, read-inside}
-use borrow.Author.Needs.{needs}
 use Rattle.read_vectors.proofs.show.Statement.{statement}
 use Rattle.read_vectors.proofs.show.Tie as tie
 

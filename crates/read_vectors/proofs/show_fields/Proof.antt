@@ -1,6 +1,5 @@
 -- `show_fields` is safe and ends: the bit goes down.
-use Prim.Native.Nat.{_≤_}
-use borrow.Author.Needs.{needs}
+use Rattle.words.proofs.Kit.{_≤_, needs}
 use Rattle.read_vectors.proofs.show_fields.Statement.{statement}
 use Rattle.read_vectors.proofs.show_fields.Tie as tie
 

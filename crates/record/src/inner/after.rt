@@ -1,9 +1,5 @@
 // A record after an accepted packet.
-ghost use mathlib.Core.Path.{_≡_};
-ghost use mathlib.Core.Bool.{true};
-ghost use mathlib.Core.List.{[], _∷_};
-ghost use Prim.Native.Nat.{_<_};
-ghost use lib.ListN.{length};
+ghost use Rattle.words.specs.Kit.{_≡_, true, [], _∷_, _<_, length};
 ghost use Rattle.words.specs.Tests.{among};
 ghost use Rattle.words.specs.Outcome.{accepted};
 ghost use Rattle.fields.specs.Layout.{contextOf};

@@ -1,9 +1,5 @@
 // The words of a field, copied into its slot. A field has 1, 2, 11 or 13 words, so that no copy needs a loop.
-ghost use mathlib.Core.Path.{_≡_};
-ghost use mathlib.Core.Bool.{true};
-ghost use mathlib.Core.List.{[], _∷_};
-ghost use Prim.Native.Nat.{_+_, _≤_};
-ghost use lib.ListN.{length};
+ghost use Rattle.words.specs.Kit.{_≡_, true, [], _∷_, _+_, _≤_, length};
 ghost use Rattle.words.specs.Tests.{among};
 ghost use Rattle.words.specs.Part.{part, put};
 

@@ -1,9 +1,5 @@
 // The counts of a record, one for each of types 1, 3, 4 and 5.
-ghost use mathlib.Core.Path.{_≡_};
-ghost use mathlib.Core.Bool.{true};
-ghost use mathlib.Core.List.{[], _∷_};
-ghost use Prim.Native.Nat.{_+_, _*_, _≤_, _<_};
-ghost use lib.ListN.{length};
+ghost use Rattle.words.specs.Kit.{_≡_, true, [], _∷_, _+_, _*_, _≤_, _<_, length};
 ghost use Rattle.words.specs.Tests.{among};
 ghost use Rattle.record.specs.Layout.{recordWords, orderOf, countAt, countOf, lastOf};
 ghost use Rattle.record.specs.Counts.{addedOf, countedOf, countRecord, addedTo};

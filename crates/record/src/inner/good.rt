@@ -1,9 +1,5 @@
 // Whether a record is good: a function for each rule, with one loop at most.
-ghost use mathlib.Core.Path.{_≡_};
-ghost use mathlib.Core.Bool.{true};
-ghost use mathlib.Core.List.{[], _∷_};
-ghost use Prim.Native.Nat.{_+_, _≤_, _<_};
-ghost use lib.ListN.{length};
+ghost use Rattle.words.specs.Kit.{_≡_, true, [], _∷_, _+_, _≤_, _<_, length};
 ghost use Rattle.words.specs.Tests.{both, among};
 ghost use Rattle.words.specs.Part.{part};
 ghost use Rattle.words.specs.All.{all, tabled};

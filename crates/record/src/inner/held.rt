@@ -1,9 +1,6 @@
 // The fields that a record holds, each in its slot.
-ghost use mathlib.Core.Path.{_≡_};
-ghost use mathlib.Core.Bool.{true};
-ghost use Prim.Native.Nat.{_≤_, _<_};
+ghost use Rattle.words.specs.Kit.{_≡_, true, _≤_, _<_, length};
 ghost use lib.Bits.{bitAnd};
-ghost use lib.ListN.{length};
 ghost use Rattle.words.specs.Outcome.{accepted};
 ghost use Rattle.words.specs.All.{tabled};
 ghost use Rattle.fields.specs.Layout.{contextOf};

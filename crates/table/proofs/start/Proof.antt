@@ -1,9 +1,8 @@
 -- `start` meets its promise: a bad list and a short table are refused, and else the records are written behind word 0.
-use mathlib.Core.Path.{_∙_}
+use Rattle.words.proofs.Kit.{_∙_, needs}
 use lib.ListN.{length-set}
 use Rattle.table.proofs.WellLaws.{listed-few, listed-small, layout-there}
 use Rattle.table.proofs.StartLaws.{start-list, start-room, start-made}
-use borrow.Author.Needs.{needs}
 use Rattle.table.proofs.start.Statement.{statement}
 use Rattle.table.proofs.start.Tie as tie
 

@@ -1,14 +1,9 @@
 -- `trailer_word` meets its promise: each return is the one test, taken apart, or the join of the parts.
-use mathlib.Core.Path.{_≡_, ap}
-use mathlib.Core.List.{[], _∷_}
-use Prim.Native.Nat.{_+_, _*_}
-use native.Mathlib.Omega.{arith}
-use borrow.Author.Tests.{lt-ltb}
+use Rattle.words.proofs.Kit.{_≡_, ap, [], _∷_, _+_, _*_, arith, lt-ltb, needs}
 use Rattle.words.proofs.Cases.{cases}
 use Rattle.words.specs.Word.{join}
 use Rattle.words.specs.Outcome.{accepted}
 use Rattle.trailer.specs.Trailer.{trailerWordOf}
-use borrow.Author.Needs.{needs}
 use Rattle.trailer.proofs.trailer_word.Statement.{statement}
 use Rattle.trailer.proofs.trailer_word.Tie as tie
 

@@ -1,13 +1,7 @@
 -- `walk` is safe and ends: the table stays well made, and a step that goes on passes at least a word (`next-on`).
-use mathlib.Core.Path.{_≡_, _∙_}
-use mathlib.Core.Bool.{true}
-use Prim.Native.Nat.{_-_}
-use borrow.Author.Tests.{not-false}
-use lib.ListN.{length}
+use Rattle.words.proofs.Kit.{_≡_, _∙_, true, _-_, not-false, length, arith, needs}
 use Rattle.table.specs.Well.{wellMade}
 use Rattle.vrtplay.proofs.WalkLaws.{turn-kept, turn-on}
-use native.Mathlib.Omega.{arith}
-use borrow.Author.Needs.{needs}
 use Rattle.vrtplay.proofs.walk.Statement.{statement}
 use Rattle.vrtplay.proofs.walk.Tie as tie
 

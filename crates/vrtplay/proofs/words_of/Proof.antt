@@ -1,8 +1,5 @@
 -- `words_of` is safe and ends: there are four bytes for each word, and i goes up to the words' number.
-use mathlib.Core.Path.{_≡_}
-use Prim.Native.Nat.{_-_, _*_, _≤_}
-use lib.ListN.{length}
-use borrow.Author.Needs.{needs}
+use Rattle.words.proofs.Kit.{_≡_, _-_, _*_, _≤_, length, needs}
 use Rattle.vrtplay.proofs.words_of.Statement.{statement}
 use Rattle.vrtplay.proofs.words_of.Tie as tie
 

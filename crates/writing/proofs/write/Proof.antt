@@ -1,14 +1,11 @@
 -- `write` meets its promise: the words that it hands on give its parts.
-use mathlib.Core.Path.{_≡_}
-use mathlib.Core.List.{List, [], _∷_}
-use Prim.Native.Nat.{ℕ, _/_, _%_, _^_}
+use Rattle.words.proofs.Kit.{_≡_, List, [], _∷_, ℕ, _/_, _%_, _^_, needs}
 use Rattle.words.specs.declared.Length.{Length}
 use Rattle.words.specs.Outcome.{measured, Meets}
 use Rattle.packet.specs.declared.Parts.{Parts}
 use Rattle.writing.specs.Write.{bit, writeOf}
 use Rattle.writing.specs.inner.Given.{partsIn}
 use Rattle.writing.proofs.GivenLaws.{parts-again}
-use borrow.Author.Needs.{needs}
 use Rattle.writing.proofs.write.Statement.{statement}
 use Rattle.writing.proofs.write.Tie as tie
 

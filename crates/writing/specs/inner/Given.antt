@@ -1,12 +1,7 @@
 -- The parts of a packet as fifteen words: what the functions inside are given. `parts-again` of `proofs/GivenLaws.antt` says that the parts that `write`
 -- lays out as
 -- words are those that it was given.
-use Prim.Native.Nat.{ℕ, _%_}
-use mathlib.Core.Path.{_≡_}
-use mathlib.Core.Bool.{true}
-use mathlib.Core.List.{List, _++_}
-use lib.Dec.{eqb}
-use lib.ListN.{length, getD}
+use Rattle.words.specs.Kit.{ℕ, _%_, _≡_, true, List, _++_, eqb, length, getD}
 use Rattle.words.specs.Word.{highFirst}
 use Rattle.words.specs.Outcome.{Outcome, accepted}
 use Rattle.words.specs.Refusals.{Refusals, firstGiven}

@@ -1,6 +1,5 @@
 -- `low` meets its promise: a remainder by a power of two.
-use borrow.Author.Needs.{needs}
-use mathlib.Core.Path.{refl}
+use Rattle.words.proofs.Kit.{needs, refl}
 use native.Mathlib.Nat.{mod-lt}
 use lib.Pow.{pow-pos}
 use Rattle.bitstream.proofs.inner.low.Statement.{statement}

@@ -1,6 +1,5 @@
 -- `ones` meets its promise: 2 ^ n is twice 2 ^ (n - 1) (`halves`).
-use borrow.Author.Needs.{needs}
-use native.Mathlib.Omega.{arith}
+use Rattle.words.proofs.Kit.{needs, arith}
 use Rattle.bitstream.proofs.SpanLaws.{halves}
 use Rattle.bitstream.proofs.inner.ones.Statement.{statement}
 use Rattle.bitstream.proofs.inner.ones.Tie as tie

@@ -1,7 +1,5 @@
 -- `power` meets its promise: a shift of 1 stays below 2 ^ 64.
-use borrow.Author.Needs.{needs}
-use mathlib.Core.Path.{_≡_, refl, ap, _∙_}
-use Prim.Native.Nat.{ℕ, _*_, _%_, _^_}
+use Rattle.words.proofs.Kit.{needs, _≡_, refl, ap, _∙_, ℕ, _*_, _%_, _^_}
 use native.Mathlib.Nat.{one-mul, mod-eq-of-lt, le-of-suc-le-suc}
 use lib.Pow.{pow-pos, pow-lt, pow-mono}
 use Rattle.bitstream.proofs.inner.power.Statement.{statement}

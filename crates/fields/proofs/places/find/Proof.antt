@@ -1,10 +1,8 @@
 -- `find` meets its promise: each return is a line of the definition; the walk over the bits above gives the place.
-use mathlib.Core.Path.{_≡_}
-use denote.Ref.{now}
+use Rattle.words.proofs.Kit.{_≡_, now, needs}
 use Rattle.words.proofs.Cases.{cases}
 use Rattle.fields.specs.Layout.{placeOf, foundOf}
 use Rattle.fields.proofs.PlaceLaws.{place-above}
-use borrow.Author.Needs.{needs}
 use Rattle.fields.proofs.places.find.Statement.{statement}
 use Rattle.fields.proofs.places.find.Tie as tie
 

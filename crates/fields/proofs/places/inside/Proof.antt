@@ -1,7 +1,6 @@
 -- `inside` meets its promise: the words that stand in the part from the place on are those of the field there.
-use mathlib.Core.Path.{sym}
+use Rattle.words.proofs.Kit.{sym, needs}
 use Rattle.fields.proofs.PlaceLaws.{inside-past, inside-cut, inside-whole}
-use borrow.Author.Needs.{needs}
 use Rattle.fields.proofs.places.inside.Statement.{statement}
 use Rattle.fields.proofs.places.inside.Tie as tie
 

@@ -1,14 +1,11 @@
 -- `check_context` meets its promise: the body of a type 4 packet lies inside (`room`), and is what is lent.
-use native.Mathlib.Omega.{arith}
-use denote.Ref.{now}
-use borrow.Author.Tests.{eq-eqb}
+use Rattle.words.proofs.Kit.{arith, now, eq-eqb, needs}
 use Rattle.words.proofs.Cases.{cases}
 use Rattle.words.proofs.PartLaws.{seen}
 use Rattle.packet.specs.Parts.{bodyLength, bodyOf}
 use Rattle.fields.specs.Layout.{contextOf}
 use Rattle.packet.specs.Read.{bodyChecks}
 use Rattle.packet.proofs.RoomLaws.{room}
-use borrow.Author.Needs.{needs}
 use Rattle.packet.proofs.checks.check_context.Statement.{statement}
 use Rattle.packet.proofs.checks.check_context.Tie as tie
 

@@ -1,9 +1,8 @@
 -- `check_headed` meets its promise: a refusal found ends the chain there, and else the chain goes on.
-use mathlib.Core.Path.{sym, ap, _∙_}
+use Rattle.words.proofs.Kit.{sym, ap, _∙_, needs}
 use Rattle.words.specs.Outcome.{checked}
 use Rattle.packet.proofs.FrontLaws.{headed-checks}
 use Rattle.packet.proofs.ReadLaws.{sized}
-use borrow.Author.Needs.{needs}
 use Rattle.packet.proofs.checks.check_headed.Statement.{statement}
 use Rattle.packet.proofs.checks.check_headed.Tie as tie
 

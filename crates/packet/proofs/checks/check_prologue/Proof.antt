@@ -1,11 +1,5 @@
 -- `check_prologue` meets its promise: each return is a line of the chain.
-use mathlib.Core.Path.{_≡_}
-use mathlib.Core.Bool.{Bool, true, false}
-use mathlib.Core.List.{List}
-use Prim.Native.Nat.{ℕ, _+_, _/_, _%_, _^_}
-use borrow.Author.Tests.{ne-eqb}
-use lib.Dec.{leb}
-use lib.ListN.{getD}
+use Rattle.words.proofs.Kit.{_≡_, Bool, true, false, List, ℕ, _+_, _/_, _%_, _^_, ne-eqb, leb, getD, needs}
 use Rattle.words.specs.Numbers.{CLASS, TIME}
 use Rattle.words.specs.Word.{highFirst}
 use Rattle.words.specs.Outcome.{refused, accepted}
@@ -13,7 +7,6 @@ use Rattle.packet.specs.Header.{tsfOf}
 use Rattle.packet.specs.Parts.{fractionAt, classHigh}
 use Rattle.packet.specs.Read.{timeOver, prologueChecks}
 use Rattle.packet.proofs.RoomLaws.{high-inside, low-inside, fraction-words}
-use borrow.Author.Needs.{needs}
 use Rattle.packet.proofs.checks.check_prologue.Statement.{statement}
 use Rattle.packet.proofs.checks.check_prologue.Tie as tie
 

@@ -1,11 +1,5 @@
 -- `fraction_over` meets its promise: the high words decide, unless they are equal.
-use mathlib.Core.Path.{_≡_, sym, _∙_}
-use mathlib.Core.Bool.{true, false}
-use mathlib.Core.Logic.{⊎-elim}
-use Prim.Native.Nat.{ℕ, _^_, _≤_, _<_}
-use native.Mathlib.Omega.{arith}
-use borrow.Author.Tests.{le-leb, lt-leb}
-use lib.Dec.{leb}
+use Rattle.words.proofs.Kit.{_≡_, sym, _∙_, true, false, ⊎-elim, ℕ, _^_, _≤_, _<_, arith, le-leb, lt-leb, leb}
 use Rattle.words.specs.Word.{highFirst}
 use Rattle.words.proofs.Cases.{le-or-lt}
 use Rattle.packet.proofs.checks.fraction_over.Statement.{statement}

@@ -1,10 +1,9 @@
 -- `has_stream` meets its promise: the bits of the constant are the list of types, by a test that computes once over all types.
+use Rattle.words.proofs.Kit.{arith, needs}
 use native.Mathlib.Nat.{mod-lt}
-use native.Mathlib.Omega.{arith}
 use Rattle.packet.specs.Header.{typeOf}
 use Rattle.packet.specs.Parts.{streamed}
 use Rattle.packet.proofs.RoomLaws.{streamed-bit}
-use borrow.Author.Needs.{needs}
 use Rattle.packet.proofs.header.has_stream.Statement.{statement}
 use Rattle.packet.proofs.header.has_stream.Tie as tie
 

@@ -1,9 +1,8 @@
 -- `body_end` meets its promise: the prologue and the trailer lie inside the size (`room`).
+use Rattle.words.proofs.Kit.{arith, needs}
 use native.Mathlib.Nat.{le-refl}
-use native.Mathlib.Omega.{arith}
 use Rattle.packet.specs.Parts.{bodyLength}
 use Rattle.packet.proofs.RoomLaws.{room}
-use borrow.Author.Needs.{needs}
 use Rattle.packet.proofs.prologue.body_end.Statement.{statement}
 use Rattle.packet.proofs.prologue.body_end.Tie as tie
 

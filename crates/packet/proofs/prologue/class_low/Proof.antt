@@ -1,8 +1,7 @@
 -- `class_low` meets its promise: the word lies inside (`room`).
-use native.Mathlib.Omega.{arith}
+use Rattle.words.proofs.Kit.{arith, needs}
 use Rattle.packet.specs.Parts.{classLow}
 use Rattle.packet.proofs.RoomLaws.{room, when-inside}
-use borrow.Author.Needs.{needs}
 use Rattle.packet.proofs.prologue.class_low.Statement.{statement}
 use Rattle.packet.proofs.prologue.class_low.Tie as tie
 

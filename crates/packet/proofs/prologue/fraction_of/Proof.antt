@@ -1,13 +1,7 @@
 -- `fraction_of` meets its promise: the two words lie inside (`room`).
-use mathlib.Core.Path.{_≡_}
-use mathlib.Core.Bool.{true}
-use Prim.Native.Nat.{_+_, _≤_}
-use denote.Ref.{now}
-use native.Mathlib.Omega.{arith}
-use lib.ListN.{length}
+use Rattle.words.proofs.Kit.{_≡_, true, _+_, _≤_, now, arith, length, needs}
 use Rattle.packet.specs.Parts.{hasFraction, fractionAt, fractionOf}
 use Rattle.packet.proofs.RoomLaws.{room, when-inside}
-use borrow.Author.Needs.{needs}
 use Rattle.packet.proofs.prologue.fraction_of.Statement.{statement}
 use Rattle.packet.proofs.prologue.fraction_of.Tie as tie
 

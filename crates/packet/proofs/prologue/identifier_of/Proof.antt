@@ -1,7 +1,6 @@
 -- `identifier_of` meets its promise: the identifier lies inside (`room`).
-use native.Mathlib.Omega.{arith}
+use Rattle.words.proofs.Kit.{arith, needs}
 use Rattle.packet.proofs.RoomLaws.{room, when-inside}
-use borrow.Author.Needs.{needs}
 use Rattle.packet.proofs.prologue.identifier_of.Statement.{statement}
 use Rattle.packet.proofs.prologue.identifier_of.Tie as tie
 

@@ -1,9 +1,6 @@
 -- `packet_of` meets its promise: the parts, the size, and the body's place and length.
-use mathlib.Core.Path.{_≡_}
-use Prim.Native.Nat.{_-_}
-use native.Mathlib.Omega.{arith}
+use Rattle.words.proofs.Kit.{_≡_, _-_, arith, needs}
 use Rattle.packet.specs.Parts.{bodyLength, packetOf}
-use borrow.Author.Needs.{needs}
 use Rattle.packet.proofs.prologue.packet_of.Statement.{statement}
 use Rattle.packet.proofs.prologue.packet_of.Tie as tie
 

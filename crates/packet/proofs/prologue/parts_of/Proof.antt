@@ -1,12 +1,8 @@
 -- `parts_of` meets its promise: each part is what its function answers, and lies inside (`room`).
-use mathlib.Core.Path.{_≡_}
-use mathlib.Core.Bool.{Bool, true}
-use Prim.Native.Nat.{ℕ, _-_, _≤_, _<_}
-use native.Mathlib.Omega.{arith}
+use Rattle.words.proofs.Kit.{_≡_, Bool, true, ℕ, _-_, _≤_, _<_, arith, needs}
 use Rattle.packet.specs.Header.{trailed, sizeOf}
 use Rattle.packet.specs.Parts.{hasSeconds, secondsAt, requiredOf, partsOf}
 use Rattle.packet.proofs.RoomLaws.{room, when-inside}
-use borrow.Author.Needs.{needs}
 use Rattle.packet.proofs.prologue.parts_of.Statement.{statement}
 use Rattle.packet.proofs.prologue.parts_of.Tie as tie
 

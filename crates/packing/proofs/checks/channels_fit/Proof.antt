@@ -1,8 +1,6 @@
 -- `channels_fit` meets its promise: all fit where the bits that any of them has do (`fitting-joined`).
 use Rattle.payload_format.proofs.FieldLaws.{fitting-joined}
-use lib.ListN.{length}
-use mathlib.Core.Path.{sym}
-use borrow.Author.Needs.{needs}
+use Rattle.words.proofs.Kit.{length, sym, needs}
 use Rattle.packing.proofs.checks.channels_fit.Statement.{statement}
 use Rattle.packing.proofs.checks.channels_fit.Tie as tie
 

@@ -1,10 +1,7 @@
 -- `items_fit` meets its promise: all items fit where the bits that any of them has do (`fitting-joined`).
 use Rattle.payload_format.specs.Field.{joined}
 use Rattle.payload_format.proofs.FieldLaws.{fitting-joined, leb-ltb}
-use lib.ListN.{length}
-use mathlib.Core.Path.{sym, _∙_}
-use Prim.Native.Nat.{_^_}
-use borrow.Author.Needs.{needs}
+use Rattle.words.proofs.Kit.{length, sym, _∙_, _^_, needs}
 use Rattle.packing.proofs.checks.items_fit.Statement.{statement}
 use Rattle.packing.proofs.checks.items_fit.Tie as tie
 

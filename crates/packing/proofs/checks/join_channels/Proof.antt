@@ -1,11 +1,7 @@
 -- `join_channels` meets its promise. The invariant: the bits that any of the first k has; `joined-more` carries the turn.
 use Rattle.payload_format.specs.Field.{joined}
 use Rattle.payload_format.proofs.FieldLaws.{joined-none, joined-more}
-use lib.ListN.{length}
-use mathlib.Core.Path.{_≡_}
-use Prim.Native.Nat.{_-_, _≤_}
-use native.Mathlib.Omega.{arith}
-use borrow.Author.Needs.{needs}
+use Rattle.words.proofs.Kit.{length, _≡_, _-_, _≤_, arith, needs}
 use Rattle.packing.proofs.checks.join_channels.Statement.{statement}
 use Rattle.packing.proofs.checks.join_channels.Tie as tie
 

@@ -1,19 +1,14 @@
 -- `pack_check` meets its promise: each return is a line of the definition. `counted-here` says what is known once FORMAT and COUNT are passed; the lines
 -- that are left then go by the tests' own answers (`pack-counted`).
 use Rattle.payload_format.specs.Format.{Legal}
-use borrow.Author.Needs.{needs}
+use Rattle.words.proofs.Kit.{needs, arith, length, ltb, refl, sym, _≡_, _∙_, eq-eqb, ne-eqb}
 use Rattle.packing.specs.Pack.{packCheck}
 use Rattle.payload_format.proofs.FormatLaws.{legal, count-few}
 use Rattle.packing.proofs.PackLaws.{PackCounted, pack-counted}
 use Rattle.words.proofs.Cases.{cases}
-use native.Mathlib.Omega.{arith}
-use lib.ListN.{length}
-use lib.Dec.{ltb}
 use Rattle.words.specs.Tests.{pick}
 use Rattle.words.specs.Outcome.{refused, accepted}
 use Rattle.words.specs.Numbers.{ROOM}
-use mathlib.Core.Path.{refl, sym, _≡_, _∙_}
-use borrow.Author.Tests.{eq-eqb, ne-eqb}
 use Rattle.packing.proofs.checks.pack_check.Statement.{statement}
 use Rattle.packing.proofs.checks.pack_check.Tie as tie
 

@@ -1,10 +1,8 @@
 -- `make` meets its promise: no shift loses a bit (`made-exact`), and the field fits (`made-below`).
-use Prim.Native.Nat.{ℕ, _+_, _-_, _*_, _%_, _^_, _<_}
-use native.Mathlib.Omega.{arith}
+use Rattle.words.proofs.Kit.{ℕ, _+_, _-_, _*_, _%_, _^_, _<_, arith, needs}
 use Rattle.payload_format.specs.declared.inner.Packing.{Packing}
 use Rattle.payload_format.specs.Format.{Legal}
 use Rattle.payload_format.proofs.FieldLaws.{made-below, made-exact, made-fits, tags-fit}
-use borrow.Author.Needs.{needs}
 use Rattle.packing.proofs.making.make.Statement.{statement}
 use Rattle.packing.proofs.making.make.Tie as tie
 

@@ -1,7 +1,6 @@
 -- `pack_fields` meets its promise: where both tags have size zero, `untagged` says that the fields hold items alone.
 use Rattle.packing.proofs.PackLaws.{untagged}
-use mathlib.Core.Path.{_∙_}
-use borrow.Author.Needs.{needs}
+use Rattle.words.proofs.Kit.{_∙_, needs}
 use Rattle.packing.proofs.making.pack_fields.Statement.{statement}
 use Rattle.packing.proofs.making.pack_fields.Tie as tie
 

@@ -1,11 +1,7 @@
 -- `pack_items` meets its promise. The invariant: k fields are put (`Writing`); `writing-next` carries the turn, `writing-done` the end.
 use Rattle.packing.proofs.WritingLaws.{Writing, writing-start, writing-length, writing-can, writing-last, writing-done, writing-next}
 use Rattle.payload_format.proofs.FieldLaws.{item-alone, item-below, items-blank}
-use lib.ListN.{getD}
-use mathlib.Core.Path.{_∙_}
-use Prim.Native.Nat.{_-_, _*_, _^_, _≤_}
-use native.Mathlib.Omega.{arith}
-use borrow.Author.Needs.{needs}
+use Rattle.words.proofs.Kit.{getD, _∙_, _-_, _*_, _^_, _≤_, arith, needs}
 use Rattle.packing.proofs.making.pack_items.Statement.{statement}
 use Rattle.packing.proofs.making.pack_items.Tie as tie
 

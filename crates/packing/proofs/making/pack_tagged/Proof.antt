@@ -1,11 +1,8 @@
 -- `pack_tagged` meets its promise. The invariant: k fields are put (`Writing`); `writing-next` carries the turn, `writing-done` the end.
 use Rattle.payload_format.proofs.FieldLaws.{fields-blank}
-use native.Mathlib.Omega.{arith}
-use mathlib.Core.Path.{subst, _∙_}
+use Rattle.words.proofs.Kit.{arith, subst, _∙_, _-_, _≤_, ℕ, _^_, _<_, needs}
 use Rattle.payload_format.specs.Field.{fieldsOf}
 use Rattle.packing.proofs.WritingLaws.{Writing, writing-start, writing-length, writing-can, writing-last, writing-done, writing-next}
-use Prim.Native.Nat.{_-_, _≤_, ℕ, _^_, _<_}
-use borrow.Author.Needs.{needs}
 use Rattle.packing.proofs.making.pack_tagged.Statement.{statement}
 use Rattle.packing.proofs.making.pack_tagged.Tie as tie
 

@@ -1,10 +1,8 @@
 -- `page_words` meets its promise. After s streams the length is the offset of body s (`Summing`); its laws carry the turn.
-use Prim.Native.Nat.{_-_}
-use mathlib.Core.Path.{refl}
+use Rattle.words.proofs.Kit.{_-_, refl, needs}
 use Rattle.words.specs.All.{all}
 use Rattle.fields.specs.Sizes.{sizeOf}
 use Rattle.page.proofs.SaveLaws.{Summing, held-inside, summing-start, summing-turn, summing-small, summing-end, summing-within}
-use borrow.Author.Needs.{needs}
 use Rattle.page.proofs.bodies.page_words.Statement.{statement}
 use Rattle.page.proofs.bodies.page_words.Tie as tie
 

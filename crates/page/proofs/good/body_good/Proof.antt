@@ -1,11 +1,8 @@
 -- `body_good` meets its promise: first words that are not good end it, and else the walk over the held words answers (`body-rules`).
-use Prim.Native.Nat.{_≤_}
-use native.Mathlib.Omega.{arith}
-use lib.ListN.{length}
+use Rattle.words.proofs.Kit.{_≤_, arith, length, needs}
 use Rattle.record.specs.Layout.{headWords}
 use Rattle.page.proofs.BodyLaws.{body-some}
 use Rattle.page.proofs.GoodLaws.{body-ill, body-held, body-rules}
-use borrow.Author.Needs.{needs}
 use Rattle.page.proofs.good.body_good.Statement.{statement}
 use Rattle.page.proofs.good.body_good.Tie as tie
 

@@ -1,7 +1,6 @@
 -- `gather` meets its promise. The identifiers of the bodies passed stand in the list (`Gathering`); its laws carry the turn.
-use Prim.Native.Nat.{_-_}
+use Rattle.words.proofs.Kit.{_-_, needs}
 use Rattle.page.proofs.GoodLaws.{Gathering, gathering-start, gathering-turn, gathering-end}
-use borrow.Author.Needs.{needs}
 use Rattle.page.proofs.good.gather.Statement.{statement}
 use Rattle.page.proofs.good.gather.Tie as tie
 

@@ -1,10 +1,8 @@
 -- `pairs_good` meets its promise. While the pairs passed are right, the next body begins where the lengths say (`Paired`); its laws carry the turn.
-use Prim.Native.Nat.{_-_}
-use mathlib.Core.Path.{refl}
+use Rattle.words.proofs.Kit.{_-_, refl, needs}
 use Rattle.words.specs.All.{all}
 use Rattle.fields.specs.Sizes.{sizeOf}
 use Rattle.page.proofs.GoodLaws.{Paired, paired-start, paired-fails, paired-turn, paired-end}
-use borrow.Author.Needs.{needs}
 use Rattle.page.proofs.good.pairs_good.Statement.{statement}
 use Rattle.page.proofs.good.pairs_good.Tie as tie
 

@@ -1,12 +1,9 @@
 -- `records_good` meets its promise: the records passed are good.
-use Prim.Native.Nat.{_≤_, _-_}
-use mathlib.Core.Path.{_≡_}
-use mathlib.Core.Bool.{true}
+use Rattle.words.proofs.Kit.{_≤_, _-_, _≡_, true, needs}
 use Rattle.words.specs.All.{all}
 use Rattle.words.proofs.AllLaws.{all-none}
 use Rattle.table.proofs.TestLaws.{test-passed, test-failed, test-ended}
 use Rattle.page.specs.inner.Tested.{recordGoodIn}
-use borrow.Author.Needs.{needs}
 use Rattle.page.proofs.good.records_good.Statement.{statement}
 use Rattle.page.proofs.good.records_good.Tie as tie
 

@@ -1,10 +1,9 @@
 -- `fill_record` meets its promise: the first words are copied, the slots are lent to `refill`, and `filled-record` says what that leaves.
-use native.Mathlib.Omega.{arith}
+use Rattle.words.proofs.Kit.{arith, needs}
 use Rattle.record.specs.Held.{heldMask}
 use Rattle.record.proofs.AfterLaws.{masked-within}
 use Rattle.page.proofs.BodyLaws.{body-some}
 use Rattle.page.proofs.PutLaws.{zeroed-length, fields-inside, refill-slots, filled-record}
-use borrow.Author.Needs.{needs}
 use Rattle.page.proofs.putting.fill_record.Statement.{statement}
 use Rattle.page.proofs.putting.fill_record.Tie as tie
 

@@ -1,7 +1,6 @@
 -- `write_table` meets its promise. The records written so far are laid behind S (`Putting`); its laws carry the turn.
-use Prim.Native.Nat.{_-_}
+use Rattle.words.proofs.Kit.{_-_, needs}
 use Rattle.page.proofs.PutLaws.{Putting, putting-start, putting-contents, putting-body, putting-has, putting-turn, putting-kept, table-laid}
-use borrow.Author.Needs.{needs}
 use Rattle.page.proofs.putting.write_table.Statement.{statement}
 use Rattle.page.proofs.putting.write_table.Tie as tie
 

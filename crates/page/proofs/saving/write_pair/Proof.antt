@@ -1,8 +1,7 @@
 -- `write_pair` meets its promise: two words are written, one behind the other.
-use native.Mathlib.Omega.{arith}
+use Rattle.words.proofs.Kit.{arith, needs}
 use lib.ListN.{length-set}
 use Rattle.page.proofs.SaveLaws.{pair-written}
-use borrow.Author.Needs.{needs}
 use Rattle.page.proofs.saving.write_pair.Statement.{statement}
 use Rattle.page.proofs.saving.write_pair.Tie as tie
 

@@ -1,13 +1,11 @@
 -- `write_streams` meets its promise. The pairs and the bodies written so far are laid one behind the other (`Saving`); its laws carry the turn.
-use Prim.Native.Nat.{_-_}
-use native.Mathlib.Omega.{arith}
+use Rattle.words.proofs.Kit.{_-_, arith, needs}
 use Rattle.words.specs.All.{all}
 use Rattle.fields.specs.Sizes.{sizeOf}
 use Rattle.record.proofs.SlotLaws.{places-tabled}
 use Rattle.table.proofs.WellLaws.{well-whole}
 use Rattle.page.proofs.SaveLaws.{Saving, saving-start, saving-turn, saving-length, saving-end}
 use Rattle.page.proofs.SaveLaws.{record-long, record-held, body-placed, pair-asks}
-use borrow.Author.Needs.{needs}
 use Rattle.page.proofs.saving.write_streams.Statement.{statement}
 use Rattle.page.proofs.saving.write_streams.Tie as tie
 

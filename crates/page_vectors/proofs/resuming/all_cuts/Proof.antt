@@ -1,8 +1,5 @@
 -- `all_cuts` is safe and ends: the buffers keep their lengths, and c goes up.
-use mathlib.Core.Path.{_≡_}
-use Prim.Native.Nat.{_-_, _≤_}
-use lib.ListN.{length}
-use borrow.Author.Needs.{needs}
+use Rattle.words.proofs.Kit.{_≡_, _-_, _≤_, length, needs}
 use Rattle.page_vectors.proofs.resuming.all_cuts.Statement.{statement}
 use Rattle.page_vectors.proofs.resuming.all_cuts.Tie as tie
 

@@ -1,8 +1,5 @@
 -- `play_part` is safe and ends: the table keeps its length, and j goes up.
-use mathlib.Core.Path.{_≡_}
-use Prim.Native.Nat.{_-_, _≤_}
-use lib.ListN.{length}
-use borrow.Author.Needs.{needs}
+use Rattle.words.proofs.Kit.{_≡_, _-_, _≤_, length, needs}
 use Rattle.page_vectors.proofs.resuming.play_part.Statement.{statement}
 use Rattle.page_vectors.proofs.resuming.play_part.Tie as tie
 

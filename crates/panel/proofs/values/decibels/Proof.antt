@@ -1,11 +1,9 @@
 -- `decibels` meets its promise: 128 is 2 ^ 7, and the quotient is exact.
-use mathlib.Core.Path.{_∙_}
-use native.Mathlib.Omega.{arith}
+use Rattle.words.proofs.Kit.{_∙_, arith, needs}
 use lib.Dec.{lit≤}
 use lib.Ieee.{ofBits}
 use Rattle.panel.proofs.ValueLaws.{value-mag}
 use Rattle.panel.proofs.Quotient.{quotient}
-use borrow.Author.Needs.{needs}
 use Rattle.panel.proofs.values.decibels.Statement.{statement}
 use Rattle.panel.proofs.values.decibels.Tie as tie
 

@@ -1,9 +1,7 @@
 -- `print` is safe: only a NaN differs from itself, and no other float lacks a pattern.
-use mathlib.Core.Path.{_≡_, subst}
-use mathlib.Core.Bool.{false, not}
+use Rattle.words.proofs.Kit.{_≡_, subst, false, not, needs}
 use lib.Dec.{T}
 use lib.Ieee.{Float, nan, inf, fin, ne, eq, isNan}
-use borrow.Author.Needs.{needs}
 use Rattle.panel_vectors.proofs.decimal.print.Statement.{statement}
 use Rattle.panel_vectors.proofs.decimal.print.Tie as tie
 

@@ -1,6 +1,5 @@
 -- `clear_channels` meets its promise, as `clear_events` does.
-use Prim.Native.Nat.{_-_}
-use borrow.Author.Needs.{needs}
+use Rattle.words.proofs.Kit.{_-_, needs}
 use Rattle.bitstream.proofs.FilledLaws.{Fills, fills-none, fills-turn, fills-all}
 use Rattle.payload.proofs.plain.clear_channels.Statement.{statement}
 use Rattle.payload.proofs.plain.clear_channels.Tie as tie

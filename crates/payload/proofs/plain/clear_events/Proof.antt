@@ -1,6 +1,5 @@
 -- `clear_events` meets its promise. The invariant: the first k places are filled.
-use Prim.Native.Nat.{_-_}
-use borrow.Author.Needs.{needs}
+use Rattle.words.proofs.Kit.{_-_, needs}
 use Rattle.bitstream.proofs.FilledLaws.{Fills, fills-none, fills-turn, fills-all}
 use Rattle.payload.proofs.plain.clear_events.Statement.{statement}
 use Rattle.payload.proofs.plain.clear_events.Tie as tie

@@ -1,6 +1,5 @@
 -- `unpack_items` meets its promise. The invariant: k items are taken (`ReadingItems`), and stand in the first k places.
-use Prim.Native.Nat.{_-_, _/_, _^_}
-use borrow.Author.Needs.{needs}
+use Rattle.words.proofs.Kit.{_-_, _/_, _^_, needs}
 use Rattle.bitstream.specs.Carried.{fieldOf}
 use Rattle.bitstream.proofs.FilledLaws.{Fills, fills-none, fills-turn, fills-all}
 use Rattle.payload.proofs.ReadingLaws.{ReadingItems, items-start, item-some, items-can, items-value, items-next}

@@ -1,10 +1,6 @@
 -- `unpack_last` meets its promise. The invariant: the places from `from` up to k hold what the last word has there; `items-last` says that it is the
 -- items.
-use Prim.Native.Nat.{ℕ, _-_, _*_, _/_, _%_, _^_, _<_}
-use native.Mathlib.Omega.{arith}
-use lib.ListN.{getD}
-use denote.Ref.{now}
-use borrow.Author.Needs.{needs}
+use Rattle.words.proofs.Kit.{ℕ, _-_, _*_, _/_, _%_, _^_, _<_, arith, getD, now, needs}
 use Rattle.bitstream.proofs.FilledLaws.{Fills, fills-start, fills-turn}
 use Rattle.payload.proofs.WindowLaws.{place-small, words-few, words-some, shifted, shifted-small, items-last}
 use Rattle.payload.proofs.plain.unpack_last.Statement.{statement}

@@ -1,7 +1,5 @@
 -- `unpack_narrow` meets its promise. The invariant: the first k places are filled; `unpack_last` fills the others.
-use Prim.Native.Nat.{_-_, _*_, _^_, _<_}
-use native.Mathlib.Omega.{arith}
-use borrow.Author.Needs.{needs}
+use Rattle.words.proofs.Kit.{_-_, _*_, _^_, _<_, arith, needs}
 use Rattle.bitstream.proofs.FilledLaws.{Fills, fills-none, fills-turn, fills-on}
 use Rattle.payload_format.specs.Field.{itemIn, fieldIn}
 use Rattle.payload.proofs.WindowLaws.{place-small, words-few, words-some, before-end, word-behind, item-here, shifted-small, placed-still}

@@ -1,7 +1,5 @@
 -- `unpack_pairs` meets its promise. The invariant: the first k places are filled.
-use Prim.Native.Nat.{_+_, _-_, _*_}
-use lib.ListN.{getD}
-use borrow.Author.Needs.{needs}
+use Rattle.words.proofs.Kit.{_+_, _-_, _*_, getD, needs}
 use Rattle.words.specs.Word.{highFirst}
 use Rattle.bitstream.proofs.FilledLaws.{Fills, fills-none, fills-turn, fills-all}
 use Rattle.payload.proofs.plain.unpack_pairs.Statement.{statement}

@@ -1,9 +1,5 @@
 -- `unpack_plain` meets its promise: `plain-words` and `plain-pairs` say what items of 32 and 64 bits without tags are.
-use Prim.Native.Nat.{ℕ, _<_, _^_}
-use native.Mathlib.Omega.{arith}
-use lib.ListN.{getD}
-use denote.Ref.{now}
-use borrow.Author.Needs.{needs}
+use Rattle.words.proofs.Kit.{ℕ, _<_, _^_, arith, getD, now, needs}
 use Rattle.payload.proofs.UnpackLaws.{words-there, plain-words, pairs-there, plain-pairs}
 use Rattle.payload.proofs.plain.unpack_plain.Statement.{statement}
 use Rattle.payload.proofs.plain.unpack_plain.Tie as tie

@@ -1,8 +1,7 @@
 -- `unpack_wide` meets its promise. The invariant: the first k places are filled, of those before the last; `items-wide` says what the last store then
 -- leaves.
-use Prim.Native.Nat.{_-_, _*_, _/_, _^_}
+use Rattle.words.proofs.Kit.{_-_, _*_, _/_, _^_, needs}
 use native.Mathlib.Nat.{le-refl}
-use borrow.Author.Needs.{needs}
 use Rattle.bitstream.specs.Stream.{span}
 use Rattle.bitstream.specs.Carried.{carried}
 use Rattle.bitstream.proofs.FilledLaws.{Fills, fills-none, fills-turn}

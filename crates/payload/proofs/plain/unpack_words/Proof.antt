@@ -1,8 +1,5 @@
 -- `unpack_words` meets its promise. The invariant: the first k places are filled.
-use Prim.Native.Nat.{_-_}
-use native.Mathlib.Omega.{arith}
-use lib.ListN.{getD}
-use borrow.Author.Needs.{needs}
+use Rattle.words.proofs.Kit.{_-_, arith, getD, needs}
 use Rattle.bitstream.proofs.FilledLaws.{Fills, fills-none, fills-turn, fills-all}
 use Rattle.payload.proofs.plain.unpack_words.Statement.{statement}
 use Rattle.payload.proofs.plain.unpack_words.Tie as tie

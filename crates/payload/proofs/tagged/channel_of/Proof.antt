@@ -1,7 +1,6 @@
 -- `channel_of` meets its promise: at most 15 bits fit the cast.
-use native.Mathlib.Omega.{arith}
+use Rattle.words.proofs.Kit.{arith, needs}
 use lib.Pow.{pow-mono}
-use borrow.Author.Needs.{needs}
 use Rattle.payload.proofs.tagged.channel_of.Statement.{statement}
 use Rattle.payload.proofs.tagged.channel_of.Tie as tie
 

@@ -1,6 +1,5 @@
 -- `unpack_parts` meets its promise. The invariant: k fields are taken (`Reading`), and their parts stand in their places (`Parts`).
-use Prim.Native.Nat.{_-_}
-use borrow.Author.Needs.{needs}
+use Rattle.words.proofs.Kit.{_-_, needs}
 use Rattle.payload.proofs.ReadingLaws.{Reading, reading-start, reading-can, reading-field, reading-next}
 use Rattle.payload.proofs.BuffersLaws.{Parts, parts-none, parts-turn, parts-all}
 use Rattle.payload.proofs.tagged.unpack_parts.Statement.{statement}

@@ -1,9 +1,5 @@
 -- `unpack_parts_last` meets its promise. The invariant: the parts of the fields from `from` up to k stand in their places.
-use Prim.Native.Nat.{ℕ, _-_, _*_, _^_, _<_}
-use native.Mathlib.Omega.{arith}
-use lib.ListN.{getD}
-use denote.Ref.{now}
-use borrow.Author.Needs.{needs}
+use Rattle.words.proofs.Kit.{ℕ, _-_, _*_, _^_, _<_, arith, getD, now, needs}
 use Rattle.payload.proofs.WindowLaws.{place-small, words-few, words-some, shifted-small, field-last}
 use Rattle.payload.proofs.BuffersLaws.{Parts, parts-start, parts-turn, parts-end}
 use Rattle.payload.proofs.tagged.unpack_parts_last.Statement.{statement}

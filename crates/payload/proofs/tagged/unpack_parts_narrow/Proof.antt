@@ -1,7 +1,5 @@
 -- `unpack_parts_narrow` meets its promise. The invariant: the parts of the first k fields stand in their places; `unpack_parts_last` does the others.
-use Prim.Native.Nat.{_-_, _*_, _^_, _<_}
-use native.Mathlib.Omega.{arith}
-use borrow.Author.Needs.{needs}
+use Rattle.words.proofs.Kit.{_-_, _*_, _^_, _<_, arith, needs}
 use Rattle.payload.proofs.WindowLaws.{place-small, words-few, words-some, before-end, word-behind, field-here, shifted-small, placed-still}
 use Rattle.payload.proofs.BuffersLaws.{Parts, parts-none, parts-turn, parts-on}
 use Rattle.payload.proofs.tagged.unpack_parts_narrow.Statement.{statement}

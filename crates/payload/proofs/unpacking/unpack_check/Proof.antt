@@ -1,9 +1,5 @@
 -- `unpack_check` meets its promise: a refusal of `words_needed` is its own (`needed-refused`), and else each return is a line that is left (`counted`).
-use mathlib.Core.Path.{_≡_}
-use mathlib.Core.Bool.{not}
-use mathlib.Core.List.{[], _∷_}
-use lib.Dec.{eqb, ltb}
-use borrow.Author.Needs.{needs}
+use Rattle.words.proofs.Kit.{_≡_, not, [], _∷_, eqb, ltb, needs}
 use Rattle.words.specs.Tests.{either}
 use Rattle.words.specs.Outcome.{accepted}
 use Rattle.words.specs.Refusals.{firstGiven}

@@ -1,6 +1,5 @@
 -- `unpack_fields` meets its promise: no field leaves all as it is (`unpacked-none`), and tags of size zero read as 0 (`unpacked-plain`).
-use denote.Ref.{now}
-use borrow.Author.Needs.{needs}
+use Rattle.words.proofs.Kit.{now, needs}
 use Rattle.payload.proofs.UnpackLaws.{unpacked-none, unpacked-plain}
 use Rattle.payload.proofs.unpacking.unpack_fields.Statement.{statement}
 use Rattle.payload.proofs.unpacking.unpack_fields.Tie as tie

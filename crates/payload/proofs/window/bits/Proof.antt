@@ -1,9 +1,5 @@
 -- `bits` meets its promise: `bits-are` says what a word and the next hold.
-use Prim.Native.Nat.{ℕ, _^_, _<_}
-use native.Mathlib.Omega.{arith}
-use lib.ListN.{getD}
-use denote.Ref.{now}
-use borrow.Author.Needs.{needs}
+use Rattle.words.proofs.Kit.{ℕ, _^_, _<_, arith, getD, now, needs}
 use Rattle.payload.proofs.WindowLaws.{bits-are}
 use Rattle.payload.proofs.window.bits.Statement.{statement}
 use Rattle.payload.proofs.window.bits.Tie as tie

@@ -1,9 +1,5 @@
 -- `bits_wide_last` meets its promise, as `bits_wide` does: a word past the last reads as 0.
-use Prim.Native.Nat.{ℕ, _^_, _<_}
-use native.Mathlib.Omega.{arith}
-use lib.ListN.{getD}
-use denote.Ref.{now}
-use borrow.Author.Needs.{needs}
+use Rattle.words.proofs.Kit.{ℕ, _^_, _<_, arith, getD, now, needs}
 use Rattle.payload.proofs.WindowLaws.{bits-wide-are}
 use Rattle.payload.proofs.window.bits_wide_last.Statement.{statement}
 use Rattle.payload.proofs.window.bits_wide_last.Tie as tie

@@ -1,10 +1,8 @@
 -- `carry` meets its promise: each return is a line of the definition.
 use Rattle.payload_format.specs.Format.{carriedBits}
-use native.Mathlib.Omega.{arith}
+use Rattle.words.proofs.Kit.{arith, _+_, _/_, _%_, _≤_, needs}
 use native.Mathlib.Nat.{div-mul-le-self}
-use Prim.Native.Nat.{_+_, _/_, _%_, _≤_}
 use Rattle.words.proofs.Cases.{cases}
-use borrow.Author.Needs.{needs}
 use Rattle.payload_format.proofs.inner.carry.Statement.{statement}
 use Rattle.payload_format.proofs.inner.carry.Tie as tie
 

@@ -1,11 +1,6 @@
 -- `format_bad` meets its promise: each return is a line of the definition.
-use mathlib.Core.Bool.{not}
-use native.Mathlib.Omega.{arith}
-use mathlib.Core.Path.{sym, _∙_, ap}
-use Prim.Native.Nat.{_+_, _/_, _%_}
-use borrow.Author.Tests.{eq-eqb, ne-eqb}
+use Rattle.words.proofs.Kit.{not, arith, sym, _∙_, ap, _+_, _/_, _%_, eq-eqb, ne-eqb, needs}
 use Rattle.payload_format.specs.Format.{formatBad}
-use borrow.Author.Needs.{needs}
 use Rattle.payload_format.proofs.inner.format_bad.Statement.{statement}
 use Rattle.payload_format.proofs.inner.format_bad.Tie as tie
 

@@ -1,9 +1,6 @@
 -- `unit` meets its promise: each return is a line of the definition.
-use native.Mathlib.Omega.{arith}
-use Prim.Native.Nat.{_/_, _%_}
-use borrow.Author.Tests.{eq-eqb, ne-eqb}
+use Rattle.words.proofs.Kit.{arith, _/_, _%_, eq-eqb, ne-eqb, needs}
 use Rattle.payload_format.specs.Count.{unitOf}
-use borrow.Author.Needs.{needs}
 use Rattle.payload_format.proofs.inner.unit.Statement.{statement}
 use Rattle.payload_format.proofs.inner.unit.Tie as tie
 

@@ -1,9 +1,7 @@
 -- `words_of` meets its promise: the product stays small.
 use Rattle.bitstream.specs.Carried.{needed}
-use native.Mathlib.Omega.{arith}
+use Rattle.words.proofs.Kit.{arith, refl, needs}
 use native.Mathlib.Nat.{mul-le-mul-right}
-use mathlib.Core.Path.{refl}
-use borrow.Author.Needs.{needs}
 use Rattle.payload_format.proofs.inner.words_of.Statement.{statement}
 use Rattle.payload_format.proofs.inner.words_of.Tie as tie
 

@@ -2,8 +2,7 @@
 use Rattle.words.specs.Outcome.{accepted}
 use Rattle.payload_format.specs.Count.{neededOf}
 use Rattle.payload_format.proofs.FormatLaws.{legal, count-few, words-for}
-use mathlib.Core.Path.{sym, _∙_, ap}
-use borrow.Author.Needs.{needs}
+use Rattle.words.proofs.Kit.{sym, _∙_, ap, needs}
 use Rattle.payload_format.proofs.needed.words_needed.Statement.{statement}
 use Rattle.payload_format.proofs.needed.words_needed.Tie as tie
 

@@ -2,10 +2,8 @@
 use Rattle.payload_format.proofs.SignLaws.{sign-zero, sign-one}
 use Rattle.payload_format.specs.Signs.{signedOf}
 use Rattle.bitstream.proofs.SpanLaws.{halves}
-use native.Mathlib.Omega.{arith}
-use Prim.Native.Nat.{_+_, _-_, _^_, _≤_}
+use Rattle.words.proofs.Kit.{arith, _+_, _-_, _^_, _≤_, needs}
 use Rattle.words.proofs.Cases.{cases}
-use borrow.Author.Needs.{needs}
 use Rattle.payload_format.proofs.signs.signed.Statement.{statement}
 use Rattle.payload_format.proofs.signs.signed.Tie as tie
 

@@ -1,8 +1,5 @@
 -- `read_channels` is safe: k stays below 4,096, and stores keep the length.
-use lib.ListN.{length}
-use mathlib.Core.Path.{_≡_}
-use Prim.Native.Nat.{_-_, _≤_}
-use borrow.Author.Needs.{needs}
+use Rattle.words.proofs.Kit.{length, _≡_, _-_, _≤_, needs}
 use Rattle.payload_vectors.proofs.input.read_channels.Statement.{statement}
 use Rattle.payload_vectors.proofs.input.read_channels.Tie as tie
 

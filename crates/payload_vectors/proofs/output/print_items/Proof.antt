@@ -1,6 +1,5 @@
 -- `print_items` is safe: k stays below 4,096.
-use Prim.Native.Nat.{_-_, _≤_}
-use borrow.Author.Needs.{needs}
+use Rattle.words.proofs.Kit.{_-_, _≤_, needs}
 use Rattle.payload_vectors.proofs.output.print_items.Statement.{statement}
 use Rattle.payload_vectors.proofs.output.print_items.Tie as tie
 

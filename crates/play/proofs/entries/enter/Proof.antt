@@ -1,9 +1,7 @@
 -- `enter` meets its promise: a refusal of the front or of a body is given, and else the packet is entered.
-use mathlib.Core.Path.{_≡_, sym, _∙_}
-use Prim.Native.Nat.{ℕ}
+use Rattle.words.proofs.Kit.{_≡_, sym, _∙_, ℕ, needs}
 use Rattle.play.proofs.CheckedLaws.{unread-front, has-header, has-body, is-whole, headed-data, unread-body, headed}
 use Rattle.play.proofs.EntryLaws.{entered-unread}
-use borrow.Author.Needs.{needs}
 use Rattle.play.proofs.entries.enter.Statement.{statement}
 use Rattle.play.proofs.entries.enter.Tie as tie
 

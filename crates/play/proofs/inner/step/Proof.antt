@@ -1,7 +1,6 @@
 -- `step` meets its promise: the packet is played, and its entry says the rest.
-use native.Mathlib.Omega.{arith}
+use Rattle.words.proofs.Kit.{arith, needs}
 use Rattle.play.proofs.EntryLaws.{entered-small, entered-stepped}
-use borrow.Author.Needs.{needs}
 use Rattle.play.proofs.inner.step.Statement.{statement}
 use Rattle.play.proofs.inner.step.Tie as tie
 

@@ -1,13 +1,9 @@
 -- `load` meets its promise: the words of five reads are the five words.
-use mathlib.Core.Path.{_≡_}
-use mathlib.Core.List.{List, [], _∷_}
-use Prim.Native.Nat.{ℕ, suc, _<_}
-use native.Mathlib.Omega.{arith}
-use lib.ListN.{length, drop, getD, length-drop}
+use Rattle.words.proofs.Kit.{_≡_, List, [], _∷_, ℕ, suc, _<_, arith, length, drop, getD, needs}
+use lib.ListN.{length-drop}
 use lib.Seq.{drop-cons}
 use Rattle.fields.proofs.WalkLaws.{none-left}
 use Rattle.play.specs.Run.{entryWords}
-use borrow.Author.Needs.{needs}
 use Rattle.play.proofs.run.load.Statement.{statement}
 use Rattle.play.proofs.run.load.Tie as tie
 

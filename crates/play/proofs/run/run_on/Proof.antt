@@ -1,12 +1,8 @@
 -- `run_on` meets its promise. The invariant `Running` says that the entries so far and the walk that is left are the whole walk; its laws carry the turn.
-use mathlib.Core.Path.{_≡_}
-use Prim.Native.Nat.{_-_, _/_}
-use native.Mathlib.Omega.{arith}
-use lib.ListN.{length}
+use Rattle.words.proofs.Kit.{_≡_, _-_, _/_, arith, length, needs}
 use Rattle.play.specs.Run.{entryWords, walkOf}
 use Rattle.play.proofs.EntryLaws.{entered-small}
 use Rattle.play.proofs.RunLaws.{Running, running-start, running-over, running-full, running-end, turned, stopped, stopped-same, stopped-long}
-use borrow.Author.Needs.{needs}
 use Rattle.play.proofs.run.run_on.Statement.{statement}
 use Rattle.play.proofs.run.run_on.Tie as tie
 

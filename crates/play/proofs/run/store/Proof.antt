@@ -1,8 +1,7 @@
 -- `store` meets its promise: five stores make the five words.
-use native.Mathlib.Omega.{arith}
+use Rattle.words.proofs.Kit.{arith, needs}
 use lib.ListN.{length-set}
 use Rattle.play.proofs.RunLaws.{entry-stored}
-use borrow.Author.Needs.{needs}
 use Rattle.play.proofs.run.store.Statement.{statement}
 use Rattle.play.proofs.run.store.Tie as tie
 

@@ -1,9 +1,8 @@
 -- `hear_context` meets its promise: the stream's record and the packet's body are lent, and the packet is counted and its fields are held there.
-use native.Mathlib.Omega.{arith}
+use Rattle.words.proofs.Kit.{arith, needs}
 use Rattle.table.proofs.WellLaws.{well-few}
 use Rattle.play.proofs.StreamLaws.{headed-sized}
 use Rattle.play.proofs.PlayLaws.{lent-inside, lent-length, lent-good, body-starts, body-ends, body-good, heard-context}
-use borrow.Author.Needs.{needs}
 use Rattle.play.proofs.streams.hear_context.Statement.{statement}
 use Rattle.play.proofs.streams.hear_context.Tie as tie
 

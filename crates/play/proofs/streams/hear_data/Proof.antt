@@ -1,13 +1,8 @@
 -- `hear_data` meets its promise: the stream's record is lent, and the packet is counted there.
-use mathlib.Core.Path.{_≡_}
-use mathlib.Core.Bool.{true}
-use mathlib.Core.List.{[], _∷_}
-use Prim.Native.Nat.{ℕ}
-use native.Mathlib.Omega.{arith}
+use Rattle.words.proofs.Kit.{_≡_, true, [], _∷_, ℕ, arith, needs}
 use Rattle.words.specs.Tests.{among}
 use Rattle.table.proofs.WellLaws.{well-few}
 use Rattle.play.proofs.PlayLaws.{lent-inside, lent-length, lent-good, lent-adds, lent-leaves}
-use borrow.Author.Needs.{needs}
 use Rattle.play.proofs.streams.hear_data.Statement.{statement}
 use Rattle.play.proofs.streams.hear_data.Tie as tie
 

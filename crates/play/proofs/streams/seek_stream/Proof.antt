@@ -1,7 +1,6 @@
 -- `seek_stream` meets its promise. The invariant `Seeking` says that none of the identifiers passed is the one looked for; its laws carry the turn.
-use Prim.Native.Nat.{_-_}
+use Rattle.words.proofs.Kit.{_-_, needs}
 use Rattle.play.proofs.StreamLaws.{Seeking, seeking-start, seeking-inside, seeking-found, seeking-turn, seeking-none}
-use borrow.Author.Needs.{needs}
 use Rattle.play.proofs.streams.seek_stream.Statement.{statement}
 use Rattle.play.proofs.streams.seek_stream.Tie as tie
 

@@ -1,13 +1,10 @@
 -- `all_apart` meets its promise: the identifiers passed stand once.
-use Prim.Native.Nat.{_≤_, _-_}
-use mathlib.Core.Path.{_≡_}
-use mathlib.Core.Bool.{true}
+use Rattle.words.proofs.Kit.{_≤_, _-_, _≡_, true, needs}
 use Rattle.words.specs.All.{all}
 use Rattle.words.proofs.AllLaws.{all-none}
 use Rattle.table.specs.Identifiers.{spaced, apart}
 use Rattle.table.proofs.TestLaws.{test-passed, test-failed, test-ended}
 use Rattle.table.proofs.ListLaws.{spaced-inside}
-use borrow.Author.Needs.{needs}
 use Rattle.table.proofs.identifiers.all_apart.Statement.{statement}
 use Rattle.table.proofs.identifiers.all_apart.Tie as tie
 

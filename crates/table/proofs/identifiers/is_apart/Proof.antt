@@ -1,14 +1,9 @@
 -- `is_apart` meets its promise: the identifiers passed are others.
-use Prim.Native.Nat.{_+_, _*_, _≤_, _<_, _-_}
-use mathlib.Core.Path.{_≡_}
-use mathlib.Core.Bool.{true}
-use native.Mathlib.Omega.{arith}
-use lib.ListN.{length}
+use Rattle.words.proofs.Kit.{_+_, _*_, _≤_, _<_, _-_, _≡_, true, arith, length, needs}
 use Rattle.words.specs.All.{all}
 use Rattle.words.proofs.AllLaws.{all-none}
 use Rattle.table.specs.Identifiers.{spaced}
 use Rattle.table.proofs.ListLaws.{spaced-before, others, apart-more, apart-twice, apart-ended}
-use borrow.Author.Needs.{needs}
 use Rattle.table.proofs.identifiers.is_apart.Statement.{statement}
 use Rattle.table.proofs.identifiers.is_apart.Tie as tie
 

@@ -1,12 +1,9 @@
 -- `records_good` meets its promise: the records passed are good.
-use Prim.Native.Nat.{_≤_, _-_}
-use mathlib.Core.Path.{_≡_}
-use mathlib.Core.Bool.{true}
+use Rattle.words.proofs.Kit.{_≤_, _-_, _≡_, true, needs}
 use Rattle.words.specs.All.{all}
 use Rattle.words.proofs.AllLaws.{all-none}
 use Rattle.table.specs.Well.{recordGoodAt}
 use Rattle.table.proofs.TestLaws.{test-passed, test-failed, test-ended}
-use borrow.Author.Needs.{needs}
 use Rattle.table.proofs.records.records_good.Statement.{statement}
 use Rattle.table.proofs.records.records_good.Tie as tie
 

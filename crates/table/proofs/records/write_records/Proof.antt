@@ -1,8 +1,6 @@
 -- `write_records` meets its promise. The invariant `Writing` says that the records passed are fresh and the rest is as it was.
-use Prim.Native.Nat.{_-_}
-use lib.ListN.{length}
+use Rattle.words.proofs.Kit.{_-_, length, needs}
 use Rattle.table.proofs.StartLaws.{Writing, writing-start, writing-turn, writing-end}
-use borrow.Author.Needs.{needs}
 use Rattle.table.proofs.records.write_records.Statement.{statement}
 use Rattle.table.proofs.records.write_records.Tie as tie
 

@@ -1,7 +1,6 @@
 -- `give_length` meets its promise: a refusal's number, or 0 and the length stored.
-use native.Mathlib.Omega.{arith}
+use Rattle.words.proofs.Kit.{arith, needs}
 use Rattle.vrt49.proofs.AnswerLaws.{small-told, stores-refused, stores-length}
-use borrow.Author.Needs.{needs}
 use Rattle.vrt49.proofs.answers.give_length.Statement.{statement}
 use Rattle.vrt49.proofs.answers.give_length.Tie as tie
 

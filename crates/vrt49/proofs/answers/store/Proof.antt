@@ -1,7 +1,6 @@
 -- `store` meets its promise: all values are copied to the front.
-use mathlib.Core.Path.{_∙_}
+use Rattle.words.proofs.Kit.{_∙_, needs}
 use Rattle.vrt49.proofs.AnswerLaws.{copied-front}
-use borrow.Author.Needs.{needs}
 use Rattle.vrt49.proofs.answers.store.Statement.{statement}
 use Rattle.vrt49.proofs.answers.store.Tie as tie
 

@@ -1,11 +1,9 @@
 -- `store_signed` meets its promise: one store, of a value that is read back as it is.
-use mathlib.Core.Path.{ap, _∙_}
-use mathlib.Core.List.{[], _∷_}
+use Rattle.words.proofs.Kit.{ap, _∙_, [], _∷_, needs}
 use lib.IntN.{ℤ}
 use mir.Facts.{toZ-ofZ}
 use Rattle.vrt49.specs.Answers.{front}
 use Rattle.vrt49.proofs.AnswerLaws.{stored-front}
-use borrow.Author.Needs.{needs}
 use Rattle.vrt49.proofs.answers.store_signed.Statement.{statement}
 use Rattle.vrt49.proofs.answers.store_signed.Tie as tie
 

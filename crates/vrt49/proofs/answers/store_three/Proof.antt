@@ -1,9 +1,7 @@
 -- `store_three` meets its promise: three stores from the front.
-use native.Mathlib.Omega.{arith}
-use mathlib.Core.List.{[], _∷_}
+use Rattle.words.proofs.Kit.{arith, [], _∷_, needs}
 use lib.ListN.{length-set}
 use Rattle.vrt49.proofs.AnswerLaws.{stored-front}
-use borrow.Author.Needs.{needs}
 use Rattle.vrt49.proofs.answers.store_three.Statement.{statement}
 use Rattle.vrt49.proofs.answers.store_three.Tie as tie
 

@@ -1,7 +1,6 @@
 -- `vrt49_check_body` meets its promise: 0 where nothing is refused, and else the number.
-use mathlib.Core.Path.{sym, ap, _∙_}
+use Rattle.words.proofs.Kit.{sym, ap, _∙_, needs}
 use Rattle.words.specs.Outcome.{checked, numberOf}
-use borrow.Author.Needs.{needs}
 use Rattle.vrt49.proofs.packets.vrt49_check_body.Statement.{statement}
 use Rattle.vrt49.proofs.packets.vrt49_check_body.Tie as tie
 

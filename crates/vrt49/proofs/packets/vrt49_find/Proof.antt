@@ -1,10 +1,9 @@
 -- `vrt49_find` meets its promise: ROOM, else the place or three zeros.
-use mathlib.Core.Path.{sym, ap, _∙_}
+use Rattle.words.proofs.Kit.{sym, ap, _∙_, needs}
 use Rattle.words.specs.Outcome.{accepted}
 use Rattle.fields.specs.Answers.{foundPaper}
 use Rattle.vrt49.specs.Packets.{findGives}
 use Rattle.vrt49.proofs.AnswerLaws.{gives-room, gives-values}
-use borrow.Author.Needs.{needs}
 use Rattle.vrt49.proofs.packets.vrt49_find.Statement.{statement}
 use Rattle.vrt49.proofs.packets.vrt49_find.Tie as tie
 

@@ -1,12 +1,10 @@
 -- `vrt49_read` meets its promise: ROOM, else what reading answers.
-use mathlib.Core.Path.{sym, ap, _∙_}
-use native.Mathlib.Omega.{arith}
+use Rattle.words.proofs.Kit.{sym, ap, _∙_, arith, needs}
 use Rattle.packet.specs.Read.{paper}
 use Rattle.vrt49.proofs.SmallLaws.{size-small}
 use Rattle.packet.proofs.ReadLaws.{body-inside}
 use Rattle.vrt49.specs.Packets.{readGives}
 use Rattle.vrt49.proofs.AnswerLaws.{gives-room, gives-refused, gives-values}
-use borrow.Author.Needs.{needs}
 use Rattle.vrt49.proofs.packets.vrt49_read.Statement.{statement}
 use Rattle.vrt49.proofs.packets.vrt49_read.Tie as tie
 

@@ -1,9 +1,8 @@
 -- `vrt49_trailer_parts` meets its promise: ROOM, else the parts.
-use mathlib.Core.Path.{sym, ap}
+use Rattle.words.proofs.Kit.{sym, ap, needs}
 use Rattle.words.specs.Outcome.{accepted}
 use Rattle.vrt49.specs.Packets.{trailerGives}
 use Rattle.vrt49.proofs.AnswerLaws.{gives-room, gives-values}
-use borrow.Author.Needs.{needs}
 use Rattle.vrt49.proofs.packets.vrt49_trailer_parts.Statement.{statement}
 use Rattle.vrt49.proofs.packets.vrt49_trailer_parts.Tie as tie
 

@@ -1,10 +1,8 @@
 -- `vrt49_trailer_word` meets its promise: ROOM, else the word or VALUE.
-use mathlib.Core.Path.{sym, ap, _∙_}
-use mathlib.Core.List.{[], _∷_}
+use Rattle.words.proofs.Kit.{sym, ap, _∙_, [], _∷_, needs}
 use Rattle.trailer.specs.Trailer.{trailerPaper}
 use Rattle.vrt49.specs.Packets.{trailerWordGives}
 use Rattle.vrt49.proofs.AnswerLaws.{gives-room, gives-refused, gives-values, stored-front}
-use borrow.Author.Needs.{needs}
 use Rattle.vrt49.proofs.packets.vrt49_trailer_word.Statement.{statement}
 use Rattle.vrt49.proofs.packets.vrt49_trailer_word.Tie as tie
 

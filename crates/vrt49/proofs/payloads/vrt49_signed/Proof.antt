@@ -1,13 +1,12 @@
 -- `vrt49_signed` meets its promise: ROOM, else the value, or the number of the refusal.
-use mathlib.Core.Path.{sym, ap, _∙_}
-use mathlib.Core.List.{[], _∷_}
+use Rattle.words.proofs.Kit.{sym, ap, _∙_, [], _∷_, needs}
 use lib.IntN.{ℤ}
 use mir.Facts.{toZ-ofZ}
 use Rattle.payload.specs.Answers.{shownPaper}
 use Rattle.vrt49.specs.Answers.{front}
 use Rattle.vrt49.specs.Payloads.{signedGives}
 use Rattle.vrt49.proofs.AnswerLaws.{gives-room, gives-refused, gives-values}
-use borrow.Author.Needs.{needs, sfits-of}
+use borrow.Author.Needs.{sfits-of}
 use Rattle.vrt49.proofs.payloads.vrt49_signed.Statement.{statement}
 use Rattle.vrt49.proofs.payloads.vrt49_signed.Tie as tie
 

@@ -1,9 +1,8 @@
 -- `vrt49_unpack` meets its promise: the number of the answer, and the buffers that `unpack` leaves.
-use mathlib.Core.Path.{ap}
+use Rattle.words.proofs.Kit.{ap, needs}
 use Rattle.words.specs.Outcome.{numberOf, measured}
 use Rattle.words.specs.declared.Length.{Length}
 use Rattle.vrt49.proofs.AnswerLaws.{gives-number}
-use borrow.Author.Needs.{needs}
 use Rattle.vrt49.proofs.payloads.vrt49_unpack.Statement.{statement}
 use Rattle.vrt49.proofs.payloads.vrt49_unpack.Tie as tie
 

@@ -1,7 +1,6 @@
 -- `store_levels` meets its promise: two stores from the front.
-use mathlib.Core.List.{[], _∷_}
+use Rattle.words.proofs.Kit.{[], _∷_, needs}
 use Rattle.vrt49.proofs.AnswerLaws.{stored-front}
-use borrow.Author.Needs.{needs}
 use Rattle.vrt49.proofs.readings.store_levels.Statement.{statement}
 use Rattle.vrt49.proofs.readings.store_levels.Tie as tie
 

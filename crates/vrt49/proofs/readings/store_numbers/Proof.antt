@@ -1,11 +1,10 @@
 -- `store_numbers` meets its promise: three buffers, each stored from the front.
-use mathlib.Core.Path.{ap, _∙_}
-use mathlib.Core.List.{[], _∷_}
+use Rattle.words.proofs.Kit.{ap, _∙_, [], _∷_, needs}
 use lib.IntN.{ℤ}
 use mir.Facts.{toZ-ofZ}
 use Rattle.vrt49.specs.Answers.{front}
 use Rattle.vrt49.proofs.ReadingLaws.{numbers-stored}
-use borrow.Author.Needs.{needs, sfits-of}
+use borrow.Author.Needs.{sfits-of}
 use Rattle.vrt49.proofs.readings.store_numbers.Statement.{statement}
 use Rattle.vrt49.proofs.readings.store_numbers.Tie as tie
 

@@ -1,9 +1,8 @@
 -- `vrt49_reading` meets its promise: ROOM, else the numbers of the reading, or the number of the refusal.
-use mathlib.Core.Path.{sym, ap, _∙_}
+use Rattle.words.proofs.Kit.{sym, ap, _∙_, needs}
 use Rattle.words.specs.Outcome.{checked}
 use Rattle.panel.specs.Readings.{readingPaper}
 use Rattle.vrt49.proofs.ReadingLaws.{panel-room, no-refusal, reading-room, reading-refused, reading-numbers}
-use borrow.Author.Needs.{needs}
 use Rattle.vrt49.proofs.readings.vrt49_reading.Statement.{statement}
 use Rattle.vrt49.proofs.readings.vrt49_reading.Tie as tie
 

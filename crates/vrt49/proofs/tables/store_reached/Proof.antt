@@ -1,7 +1,6 @@
 -- `store_reached` meets its promise: two stores from the front.
-use mathlib.Core.List.{[], _∷_}
+use Rattle.words.proofs.Kit.{[], _∷_, needs}
 use Rattle.vrt49.proofs.AnswerLaws.{stored-front}
-use borrow.Author.Needs.{needs}
 use Rattle.vrt49.proofs.tables.store_reached.Statement.{statement}
 use Rattle.vrt49.proofs.tables.store_reached.Tie as tie
 

@@ -1,10 +1,9 @@
 -- `vrt49_play` meets its promise: ROOM, else what play answers and leaves.
-use mathlib.Core.Path.{ap}
+use Rattle.words.proofs.Kit.{ap, needs}
 use Rattle.play.specs.Play.{paper}
 use Rattle.vrt49.specs.Tables.{playGives}
 use Rattle.vrt49.proofs.AnswerLaws.{beside-room, beside-refused, beside-values}
 use Rattle.vrt49.proofs.SmallLaws.{heard-small}
-use borrow.Author.Needs.{needs}
 use Rattle.vrt49.proofs.tables.vrt49_play.Statement.{statement}
 use Rattle.vrt49.proofs.tables.vrt49_play.Tie as tie
 

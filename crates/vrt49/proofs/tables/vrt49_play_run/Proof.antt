@@ -1,9 +1,8 @@
 -- `vrt49_play_run` meets its promise: ROOM, else what the run answers and leaves.
-use mathlib.Core.Path.{ap}
+use Rattle.words.proofs.Kit.{ap, needs}
 use Rattle.play.specs.Run.{runOf, runPaper}
 use Rattle.vrt49.specs.Tables.{runGives}
 use Rattle.vrt49.proofs.AnswerLaws.{beside-room, beside-refused, beside-values}
-use borrow.Author.Needs.{needs}
 use Rattle.vrt49.proofs.tables.vrt49_play_run.Statement.{statement}
 use Rattle.vrt49.proofs.tables.vrt49_play_run.Tie as tie
 

@@ -1,8 +1,6 @@
 -- `vrt49_well_made` meets its promise: the test as a word.
-use mathlib.Core.Path.{ap, _∙_}
+use Rattle.words.proofs.Kit.{ap, _∙_, Bool, needs}
 use Rattle.words.specs.Tests.{when}
-use mathlib.Core.Bool.{Bool}
-use borrow.Author.Needs.{needs}
 use Rattle.vrt49.proofs.tables.vrt49_well_made.Statement.{statement}
 use Rattle.vrt49.proofs.tables.vrt49_well_made.Tie as tie
 

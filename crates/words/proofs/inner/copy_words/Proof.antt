@@ -1,11 +1,7 @@
 -- `copy_words` meets its promise. The invariant: the first i words are copied, the rest are as they were; `copy-more` carries the turn.
-use Prim.Native.Nat.{_≤_, _<_, _-_}
-use mathlib.Core.Path.{_≡_}
-use mathlib.Core.List.{_++_}
-use lib.ListN.{length, take, drop, length-set}
+use Rattle.words.proofs.Kit.{_≤_, _<_, _-_, _≡_, _++_, length, take, drop, arith, needs}
+use lib.ListN.{length-set}
 use Rattle.words.proofs.CopyLaws.{copy-more, copied-all}
-use native.Mathlib.Omega.{arith}
-use borrow.Author.Needs.{needs}
 use Rattle.words.proofs.inner.copy_words.Statement.{statement}
 use Rattle.words.proofs.inner.copy_words.Tie as tie
 

@@ -1,8 +1,6 @@
 -- `word_at` meets its promise. Past the end `getD` gives its default, 0.
-use mathlib.Core.Path.{sym}
-use denote.Ref.{now}
+use Rattle.words.proofs.Kit.{sym, now, needs}
 use lib.ListN.{List·getD-eq-default}
-use borrow.Author.Needs.{needs}
 use Rattle.words.proofs.inner.word_at.Statement.{statement}
 use Rattle.words.proofs.inner.word_at.Tie as tie
 

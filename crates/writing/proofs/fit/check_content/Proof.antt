@@ -1,12 +1,5 @@
 -- `check_content` meets its promise: each return is a line of the chain. A packet that is SHORT has no body, and is not SIZE.
-use mathlib.Core.Path.{_≡_, refl}
-use mathlib.Core.Bool.{Bool, true, false}
-use mathlib.Core.List.{List}
-use Prim.Native.Nat.{ℕ, _+_, _≤_, _<_}
-use native.Mathlib.Omega.{arith}
-use borrow.Author.Tests.{eq-eqb, ne-eqb, lt-ltb, le-ltb}
-use lib.Dec.{eqb, ltb}
-use lib.ListN.{length}
+use Rattle.words.proofs.Kit.{_≡_, refl, Bool, true, false, List, ℕ, _+_, _≤_, _<_, arith, eq-eqb, ne-eqb, lt-ltb, le-ltb, eqb, ltb, length, needs}
 use Rattle.words.specs.declared.Check.{Check}
 use Rattle.words.specs.Numbers.{SHORT, SIZE, TIME}
 use Rattle.words.specs.Tests.{pick, both}
@@ -20,7 +13,6 @@ use Rattle.packet.specs.declared.Parts.{Parts}
 use Rattle.writing.specs.Write.{headerWord, sizeFor}
 use Rattle.writing.specs.inner.Given.{partsIn, contentChecks}
 use Rattle.writing.proofs.HeaderLaws.{short-is}
-use borrow.Author.Needs.{needs}
 use Rattle.writing.proofs.fit.check_content.Statement.{statement}
 use Rattle.writing.proofs.fit.check_content.Tie as tie
 

@@ -1,8 +1,5 @@
 -- `check_parts` meets its promise: each return is a line of the chain.
-use mathlib.Core.Path.{_≡_}
-use mathlib.Core.Bool.{Bool, true, false, not}
-use Prim.Native.Nat.{_≤_, _<_}
-use borrow.Author.Tests.{lt-ltb, le-ltb, not-true, not-false}
+use Rattle.words.proofs.Kit.{_≡_, Bool, true, false, not, _≤_, _<_, lt-ltb, le-ltb, not-true, not-false, needs}
 use Rattle.words.specs.Numbers.{TYPE, VALUE}
 use Rattle.words.specs.Tests.{both}
 use Rattle.words.specs.Outcome.{refused, accepted}
@@ -10,7 +7,6 @@ use Rattle.words.proofs.Cases.{both-assoc}
 use Rattle.packet.specs.declared.Parts.{Parts}
 use Rattle.writing.specs.Write.{codesFit, flagsFit, classFits, partsFit, partsChecks}
 use Rattle.writing.specs.inner.Given.{partsIn}
-use borrow.Author.Needs.{needs}
 use Rattle.writing.proofs.fit.check_parts.Statement.{statement}
 use Rattle.writing.proofs.fit.check_parts.Tie as tie
 

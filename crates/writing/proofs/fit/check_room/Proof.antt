@@ -1,7 +1,5 @@
 -- `check_room` meets its promise: each return is the one test, taken apart so that no sum wraps.
-use Prim.Native.Nat.{_+_}
-use borrow.Author.Tests.{lt-ltb, le-ltb}
-use native.Mathlib.Omega.{arith}
+use Rattle.words.proofs.Kit.{_+_, lt-ltb, le-ltb, arith}
 use Rattle.writing.specs.Write.{roomChecks}
 use Rattle.writing.proofs.fit.check_room.Statement.{statement}
 use Rattle.writing.proofs.fit.check_room.Tie as tie

@@ -1,11 +1,7 @@
 -- `write_parts` meets its promise: a refusal found ends the chain there and leaves the buffer as it was; else the packet is laid. Each law says one way to
 -- return.
-use mathlib.Core.Path.{_≡_, refl, sym, ap, _∙_}
-use mathlib.Core.List.{List, _++_}
-use Prim.Native.Nat.{ℕ, _+_}
-use denote.Ref.{now}
+use Rattle.words.proofs.Kit.{_≡_, refl, sym, ap, _∙_, List, _++_, ℕ, _+_, now, length, take, drop, needs}
 use lib.Dec.{lit<}
-use lib.ListN.{length, take, drop}
 use Rattle.words.specs.declared.Check.{Check}
 use Rattle.words.specs.declared.Check.the-variants as Check
 use Rattle.words.specs.declared.Length.the-variants.{Accepted, Refused}
@@ -18,7 +14,6 @@ use Rattle.writing.specs.Write.{headerWord, sizeFor, packetWords, partsC
 use Rattle.writing.specs.inner.Given.{partsIn, contentChecks}
 use Rattle.writing.proofs.FitLaws.{parts-fit, parts-passed, write-groups, nothing-found}
 use Rattle.writing.proofs.HeaderLaws.{type-is}
-use borrow.Author.Needs.{needs}
 use Rattle.writing.proofs.inner.write_parts.Statement.{statement}
 use Rattle.writing.proofs.inner.write_parts.Tie as tie
 

@@ -1,7 +1,6 @@
 -- `header_word` meets its promise: the fields, shifted by the widths of those after them, are the join of the header (`header-given`).
-use native.Mathlib.Omega.{arith}
+use Rattle.words.proofs.Kit.{arith, needs}
 use Rattle.writing.proofs.GivenLaws.{Small, small, header-given}
-use borrow.Author.Needs.{needs}
 use Rattle.writing.proofs.laying.header_word.Statement.{statement}
 use Rattle.writing.proofs.laying.header_word.Tie as tie
 

@@ -1,8 +1,6 @@
 -- `lay` meets its promise: parts that passed the checks fit and have room, and what is laid is the packet.
-use Prim.Native.Nat.{_+_, _^_, _<_}
-use native.Mathlib.Omega.{arith}
+use Rattle.words.proofs.Kit.{_+_, _^_, _<_, arith, needs}
 use Rattle.writing.proofs.GivenLaws.{sum-small, headed, packet-room, packet-laid}
-use borrow.Author.Needs.{needs}
 use Rattle.writing.proofs.laying.lay.Statement.{statement}
 use Rattle.writing.proofs.laying.lay.Tie as tie
 

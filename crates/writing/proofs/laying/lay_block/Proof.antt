@@ -1,12 +1,8 @@
 -- `lay_block` meets its promise: what is copied into the array, and out of it again, is the part of the body.
-use mathlib.Core.Path.{_≡_, _∙_}
-use mathlib.Core.List.{List}
-use Prim.Native.Nat.{ℕ, _+_, _≤_}
-use native.Mathlib.Omega.{arith}
-use lib.ListN.{length, replicate, length-replicate}
+use Rattle.words.proofs.Kit.{_≡_, _∙_, List, ℕ, _+_, _≤_, arith, length, needs}
+use lib.ListN.{replicate, length-replicate}
 use Rattle.words.specs.Part.{part, put}
 use Rattle.words.proofs.PartLaws.{part-length, part-put}
-use borrow.Author.Needs.{needs}
 use Rattle.writing.proofs.laying.lay_block.Statement.{statement}
 use Rattle.writing.proofs.laying.lay_block.Tie as tie
 

@@ -1,9 +1,6 @@
 -- `lay_body` meets its promise. The invariant `Copying` says that the words up to the place are copied and whole blocks are left; its laws carry the turn.
-use Prim.Native.Nat.{_-_}
-use lib.ListN.{length}
+use Rattle.words.proofs.Kit.{_-_, length, arith, needs}
 use Rattle.writing.proofs.LayLaws.{Copying, copying-start, block-inside, copying-turn, copying-end}
-use native.Mathlib.Omega.{arith}
-use borrow.Author.Needs.{needs}
 use Rattle.writing.proofs.laying.lay_body.Statement.{statement}
 use Rattle.writing.proofs.laying.lay_body.Tie as tie
 

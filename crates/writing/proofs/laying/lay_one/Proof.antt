@@ -1,8 +1,6 @@
 -- `lay_one` meets its promise: a word that is there has its place.
-use mathlib.Core.Path.{refl, sym}
+use Rattle.words.proofs.Kit.{refl, sym, arith, needs}
 use native.Mathlib.Nat.{add-zero}
-use native.Mathlib.Omega.{arith}
-use borrow.Author.Needs.{needs}
 use Rattle.writing.proofs.laying.lay_one.Statement.{statement}
 use Rattle.writing.proofs.laying.lay_one.Tie as tie
 

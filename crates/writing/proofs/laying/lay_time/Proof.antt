@@ -1,11 +1,8 @@
 -- `lay_time` meets its promise: the seconds, and then the fraction where the first call ended.
-use Prim.Native.Nat.{_^_, _<_}
-use native.Mathlib.Omega.{arith}
-use lib.ListN.{getD}
+use Rattle.words.proofs.Kit.{_^_, _<_, arith, getD, needs}
 use Rattle.writing.specs.inner.Given.{partsIn}
 use Rattle.writing.proofs.GivenLaws.{high-given, low-given}
 use Rattle.writing.proofs.LayLaws.{seconds-room, fraction-room, time-laid}
-use borrow.Author.Needs.{needs}
 use Rattle.writing.proofs.laying.lay_time.Statement.{statement}
 use Rattle.writing.proofs.laying.lay_time.Tie as tie
 

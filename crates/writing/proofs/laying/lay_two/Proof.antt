@@ -1,10 +1,8 @@
 -- `lay_two` meets its promise: words that are there have their places.
-use mathlib.Core.Path.{refl, sym}
+use Rattle.words.proofs.Kit.{refl, sym, arith, needs}
 use native.Mathlib.Nat.{add-zero}
 use native.Mathlib.Numerals.{add-one}
-use native.Mathlib.Omega.{arith}
 use lib.ListN.{length-set}
-use borrow.Author.Needs.{needs}
 use Rattle.writing.proofs.laying.lay_two.Statement.{statement}
 use Rattle.writing.proofs.laying.lay_two.Tie as tie
 

@@ -1,8 +1,7 @@
 -- `size_for` meets its promise: the sum, part by part.
-use native.Mathlib.Omega.{arith}
+use Rattle.words.proofs.Kit.{arith, needs}
 use Rattle.packet.proofs.RoomLaws.{body-past}
 use Rattle.writing.proofs.GivenLaws.{size-given}
-use borrow.Author.Needs.{needs}
 use Rattle.writing.proofs.laying.size_for.Statement.{statement}
 use Rattle.writing.proofs.laying.size_for.Tie as tie
 

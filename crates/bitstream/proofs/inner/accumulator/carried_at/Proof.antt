@@ -1,12 +1,7 @@
 -- `carried_at` meets its promise: a word is below 2 ^ 32, so the bits that it carries are below 2 ^ c (`carried-below`).
-use Prim.Native.Nat.{_^_, _<_}
-use mathlib.Core.Path.{refl}
-use native.Mathlib.Omega.{arith}
-use lib.ListN.{getD}
-use denote.Ref.{now}
+use Rattle.words.proofs.Kit.{_^_, _<_, refl, arith, getD, now, needs}
 use Rattle.bitstream.specs.Carried.{carried}
 use Rattle.bitstream.proofs.CarriedLaws.{carried-below}
-use borrow.Author.Needs.{needs}
 use Rattle.bitstream.proofs.inner.accumulator.carried_at.Statement.{statement}
 use Rattle.bitstream.proofs.inner.accumulator.carried_at.Tie as tie
 

@@ -1,11 +1,7 @@
 -- `finish` meets its promise: `word-left` puts the bits that are held at the left of a word.
 use Rattle.bitstream.proofs.SpanLaws.{none}
 use Rattle.bitstream.proofs.AccumulatorLaws.{word-left}
-use native.Mathlib.Omega.{arith}
-use mathlib.Core.Path.{refl, ap}
-use Prim.Native.Nat.{ℕ}
-use lib.ListN.{set}
-use borrow.Author.Needs.{needs}
+use Rattle.words.proofs.Kit.{arith, refl, ap, ℕ, set, needs}
 use Rattle.bitstream.proofs.inner.accumulator.finish.Statement.{statement}
 use Rattle.bitstream.proofs.inner.accumulator.finish.Tie as tie
 

@@ -1,10 +1,6 @@
 -- `push` meets its promise: `pushed-more` where no word is filled, and else `pushed-word`.
-use Prim.Native.Nat.{_<_}
-use native.Mathlib.Omega.{arith}
-use lib.ListN.{length}
-use denote.Ref.{now}
+use Rattle.words.proofs.Kit.{_<_, arith, length, now, needs}
 use Rattle.bitstream.proofs.WriteLaws.{joint-below, place-there, pushed-more, pushed-word}
-use borrow.Author.Needs.{needs}
 use Rattle.bitstream.proofs.inner.accumulator.push.Statement.{statement}
 use Rattle.bitstream.proofs.inner.accumulator.push.Tie as tie
 

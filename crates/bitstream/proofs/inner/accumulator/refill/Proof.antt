@@ -1,10 +1,6 @@
 -- `refill` meets its promise: what is counted serves (`refilled-same`), or `refilled` says what a word more gives.
-use Prim.Native.Nat.{_<_}
-use native.Mathlib.Omega.{arith}
-use lib.ListN.{length}
-use denote.Ref.{now}
+use Rattle.words.proofs.Kit.{_<_, arith, length, now, needs}
 use Rattle.bitstream.proofs.ReadLaws.{next-there, refill-below, refilled, refilled-same}
-use borrow.Author.Needs.{needs}
 use Rattle.bitstream.proofs.inner.accumulator.refill.Statement.{statement}
 use Rattle.bitstream.proofs.inner.accumulator.refill.Tie as tie
 

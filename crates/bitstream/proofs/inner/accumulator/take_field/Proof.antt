@@ -1,8 +1,6 @@
 -- `take_field` meets its promise: one `take`, or two that `took-wide` joins.
-use Prim.Native.Nat.{_^_, _<_}
-use native.Mathlib.Omega.{arith}
+use Rattle.words.proofs.Kit.{_^_, _<_, arith, needs}
 use Rattle.bitstream.proofs.ReadLaws.{narrow-takeable, front-takeable, back-takeable, front-small, took-wide}
-use borrow.Author.Needs.{needs}
 use Rattle.bitstream.proofs.inner.accumulator.take_field.Statement.{statement}
 use Rattle.bitstream.proofs.inner.accumulator.take_field.Tie as tie
 

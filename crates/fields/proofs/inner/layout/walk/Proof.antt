@@ -1,11 +1,9 @@
 -- `walk` meets its promise. The invariant `Walking` says what is left: the fields of the bits that are left, from the place reached on, complete
 -- the span and the rules; its laws carry the turn.
-use mathlib.Core.Path.{refl}
+use Rattle.words.proofs.Kit.{refl, arith, needs}
 use Rattle.words.specs.All.{all}
 use Rattle.fields.specs.Sizes.{sizeOf}
 use Rattle.fields.proofs.WalkLaws.{Walking, walking-start, walking-turn, walking-end, walking-near}
-use native.Mathlib.Omega.{arith}
-use borrow.Author.Needs.{needs}
 use Rattle.fields.proofs.inner.layout.walk.Statement.{statement}
 use Rattle.fields.proofs.inner.layout.walk.Tie as tie
 

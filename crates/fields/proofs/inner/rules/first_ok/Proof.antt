@@ -1,8 +1,7 @@
 -- `first_ok` meets its promise: it compares the word with the least limit, and then with its own.
-use mathlib.Core.Path.{sym}
+use Rattle.words.proofs.Kit.{sym, needs}
 use Rattle.fields.proofs.RuleLaws.{first-small}
 use Rattle.fields.specs.inner.Limits.{firstOk}
-use borrow.Author.Needs.{needs}
 use Rattle.fields.proofs.inner.rules.first_ok.Statement.{statement}
 use Rattle.fields.proofs.inner.rules.first_ok.Tie as tie
 

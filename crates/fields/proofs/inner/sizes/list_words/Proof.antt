@@ -1,10 +1,7 @@
 -- `list_words` meets its promise: the sum is the definition's, and the last product is at most twice the list.
-use mathlib.Core.Path.{refl}
-use Prim.Native.Nat.{_/_, _%_, _^_}
-use native.Mathlib.Omega.{arith}
+use Rattle.words.proofs.Kit.{refl, _/_, _%_, _^_, arith, needs}
 use Rattle.fields.specs.Sizes.{listWords}
 use Rattle.fields.proofs.SizeLaws.{twice-at-most}
-use borrow.Author.Needs.{needs}
 use Rattle.fields.proofs.inner.sizes.list_words.Statement.{statement}
 use Rattle.fields.proofs.inner.sizes.list_words.Tie as tie
 

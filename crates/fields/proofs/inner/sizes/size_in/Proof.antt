@@ -1,13 +1,8 @@
 -- `size_in` meets its promise: the table has the rows of document 01 at each bit.
-use mathlib.Core.Path.{_≡_}
-use Prim.Native.Nat.{_≤_}
-use native.Mathlib.Omega.{arith}
-use lib.ListN.{getD}
+use Rattle.words.proofs.Kit.{_≡_, _≤_, arith, getD, now, needs}
 use Rattle.words.proofs.AllLaws.{tabled-at}
 use Rattle.fields.specs.Sizes.{sizeOf}
 use Rattle.fields.proofs.SizeLaws.{size-small}
-use denote.Ref.{now}
-use borrow.Author.Needs.{needs}
 use Rattle.fields.proofs.inner.sizes.size_in.Statement.{statement}
 use Rattle.fields.proofs.inner.sizes.size_in.Tie as tie
 

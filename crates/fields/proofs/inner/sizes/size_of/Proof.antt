@@ -1,8 +1,7 @@
 -- `size_of` meets its promise: the table has the rows of document 01, by a test that computes once over the whole table.
-use mathlib.Core.Path.{refl}
+use Rattle.words.proofs.Kit.{refl, needs}
 use Rattle.words.specs.All.{all}
 use Rattle.fields.specs.Sizes.{sizeOf}
-use borrow.Author.Needs.{needs}
 use Rattle.fields.proofs.inner.sizes.size_of.Statement.{statement}
 use Rattle.fields.proofs.inner.sizes.size_of.Tie as tie
 

@@ -1,8 +1,7 @@
 -- `words_at` meets its promise: it lends the table, which has the rows of document 01.
-use mathlib.Core.Path.{refl}
+use Rattle.words.proofs.Kit.{refl, needs}
 use Rattle.words.specs.All.{all}
 use Rattle.fields.specs.Sizes.{sizeOf}
-use borrow.Author.Needs.{needs}
 use Rattle.fields.proofs.inner.sizes.words_at.Statement.{statement}
 use Rattle.fields.proofs.inner.sizes.words_at.Tie as tie
 

@@ -1,12 +1,9 @@
 -- `words_in` meets its promise: each return is a row of the definition, answered by that row's function.
-use mathlib.Core.Path.{_≡_, sym, _∙_}
-use denote.Ref.{now}
-use lib.ListN.{drop}
+use Rattle.words.proofs.Kit.{_≡_, sym, _∙_, now, drop, needs}
 use Rattle.words.proofs.Cases.{cases}
 use Rattle.fields.specs.Sizes.{listWords, wordsOf}
 use Rattle.fields.proofs.PlaceLaws.{first-word, second-word}
 use Rattle.fields.proofs.SizeLaws.{list-words-two, words-fixed}
-use borrow.Author.Needs.{needs}
 use Rattle.fields.proofs.inner.sizes.words_in.Statement.{statement}
 use Rattle.fields.proofs.inner.sizes.words_in.Tie as tie
 

@@ -1,8 +1,7 @@
 -- `counts_good` meets its promise: the counts passed are good.
-use Prim.Native.Nat.{_-_}
+use Rattle.words.proofs.Kit.{_-_, needs}
 use Rattle.record.specs.Good.{countGoodAt}
 use Rattle.record.proofs.GoodLaws.{Passing, passing-start, passing-end, counts-fail, counts-turn}
-use borrow.Author.Needs.{needs}
 use Rattle.record.proofs.inner.good.counts_good.Statement.{statement}
 use Rattle.record.proofs.inner.good.counts_good.Tie as tie
 

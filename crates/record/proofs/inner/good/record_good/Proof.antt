@@ -1,7 +1,6 @@
 -- `record_good` meets its promise: first words that are not good end it, and else the slots answer.
-use borrow.Author.Tests.{not-true, not-false}
+use Rattle.words.proofs.Kit.{not-true, not-false, needs}
 use Rattle.record.proofs.GoodLaws.{good-head-ill, good-slots}
-use borrow.Author.Needs.{needs}
 use Rattle.record.proofs.inner.good.record_good.Statement.{statement}
 use Rattle.record.proofs.inner.good.record_good.Tie as tie
 

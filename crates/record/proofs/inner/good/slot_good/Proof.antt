@@ -1,8 +1,7 @@
 -- `slot_good` meets its promise: the slot is lent to the test that its held bit asks for.
-use native.Mathlib.Omega.{arith}
+use Rattle.words.proofs.Kit.{arith, needs}
 use Rattle.record.proofs.SlotLaws.{held-high}
 use Rattle.record.proofs.GoodLaws.{slot-end, slot-there, slot-few, slot-ruled, slot-zeroed}
-use borrow.Author.Needs.{needs}
 use Rattle.record.proofs.inner.good.slot_good.Statement.{statement}
 use Rattle.record.proofs.inner.good.slot_good.Tie as tie
 

@@ -1,12 +1,10 @@
 -- `slots_good` meets its promise: the slots of the bits passed are good, and those of bits below 10 are not looked at.
-use mathlib.Core.Path.{refl}
-use Prim.Native.Nat.{_≤_, _-_}
+use Rattle.words.proofs.Kit.{refl, _≤_, _-_, needs}
 use Rattle.words.specs.All.{all}
 use Rattle.fields.specs.Sizes.{sizeOf}
 use Rattle.record.specs.Good.{slotGood}
 use Rattle.record.proofs.SlotLaws.{held-all, places-tabled}
 use Rattle.record.proofs.GoodLaws.{Passing, passing-fails, passing-turn, passing-end, slots-start}
-use borrow.Author.Needs.{needs}
 use Rattle.record.proofs.inner.good.slots_good.Statement.{statement}
 use Rattle.record.proofs.inner.good.slots_good.Tie as tie
 

@@ -1,12 +1,10 @@
 -- `refill` meets its promise. The invariant `Holding` says of each slot whether it is filled; its laws carry the turn.
-use mathlib.Core.Path.{refl}
+use Rattle.words.proofs.Kit.{refl, arith, needs}
 use native.Mathlib.Nat.{pos-of-ne-zero}
-use native.Mathlib.Omega.{arith}
 use Rattle.words.specs.All.{all}
 use Rattle.fields.specs.Sizes.{sizeOf}
 use Rattle.record.proofs.SlotLaws.{places-tabled}
 use Rattle.record.proofs.HoldLaws.{Holding, holding-start, copy-slot, copy-source, copy-few, holding-turn, holding-end}
-use borrow.Author.Needs.{needs}
 use Rattle.record.proofs.inner.held.refill.Statement.{statement}
 use Rattle.record.proofs.inner.held.refill.Tie as tie
 
