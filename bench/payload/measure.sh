@@ -36,8 +36,8 @@ row() { # CALL MODE FORMAT N
     awk -v k="$1" -v f="$3" -v n="$4" -v c="$c" -v t="$t" -v r="$r" -v s=$same \
         'BEGIN { printf "%-7s %-17s %7d %10.2f %10.2f %8.2f  %.3f  %.3f  %s\n", k, f, n, c / n, t / n, r / n, r / c, r / t, s }'
 }
-echo 'call    link field item         n  C by hand  tighter C   proved  ratio  ratio  results'
-echo '        event channel                                             by hand  tighter'
+echo 'call    format (below)          n  C by hand  tighter C   proved  to C  to tighter  results'
+echo 'a format: link-efficient or not, bits of a field, of an item, of event tags, of the channel tag'
 for f in '1 12 12 0 0' '1 16 16 0 0' '1 24 24 0 0' '0 12 12 0 0' '0 16 12 0 0' '1 8 8 0 0' '1 32 32 0 0' '1 33 33 0 0' '1 64 64 0 0' '1 16 12 1 2'; do
     for n in 12 360 1440 100000; do
         row unpack 1 "$f" $n
