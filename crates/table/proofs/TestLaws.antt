@@ -1,6 +1,5 @@
 -- A loop that tests one number after the other. The idea: b is what the test of number s answered; the laws take it as the program has it, so that a proof
--- of such
--- a loop only cites them.
+-- of such a loop only cites them.
 use Rattle.words.proofs.Kit.{_≡_, sym, _∙_, Bool, true, false, not, ℕ, _+_, _≤_, _<_, arith, not-true, not-false}
 use Rattle.words.specs.All.{all}
 use Rattle.words.proofs.AllLaws.{all-more, all-fails, all-end}

@@ -1,6 +1,5 @@
 -- The parts of a packet as fifteen words. The idea: a part is a word of its own, or a flag that is the lowest bit of one, or the fraction, which is two;
--- so what the
--- program computes of the words is what the definitions say of the parts.
+-- so what the program computes of the words is what the definitions say of the parts.
 use Rattle.words.proofs.Kit.{_≡_, refl, sym, ap, _∙_, Bool, true, false, List, [], _∷_, _++_, ⊎-elim, ℕ, _+_, _*_, _/_, _%_, _^_, _≤_, _<_, arith}
 use Rattle.words.proofs.Kit.{eqb, length, take, drop, getD}
 use native.Mathlib.Nat.{div-add-mod'}

@@ -1,6 +1,5 @@
 -- The parts of a packet as fifteen words: what the functions inside are given. `parts-again` of `proofs/GivenLaws.antt` says that the parts that `write`
--- lays out as
--- words are those that it was given.
+-- lays out as words are those that it was given.
 use Rattle.words.specs.Kit.{ℕ, _%_, _≡_, true, List, _++_, eqb, length, getD}
 use Rattle.words.specs.Word.{highFirst}
 use Rattle.words.specs.Outcome.{Outcome, accepted}
