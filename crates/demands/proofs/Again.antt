@@ -21,12 +21,12 @@ use Rattle.packet.specs.Header.{typeOf, classed, trailed, tsmOf, reservedOf, ts
 use Rattle.packet.specs.Parts.{streamed, hasSeconds, hasFraction, classAt, secondsAt, fractionAt, bodyAt, requiredOf, bodyLength, wordIf, classHigh, classLow}
 use Rattle.packet.specs.Parts.{fractionOf, partsOf, bodyOf, packetOf}
 use Rattle.packet.specs.Read.{headerList, prologueList, headerChecks, timeOver, prologueChecks, bodyChecks, readOf}
-use Rattle.writing.specs.Write.{bit, headerWidths, headerWord, sizeFor, given, classWord, headWords, classWords, timeWords, prologueWords, trailerWords}
-use Rattle.writing.specs.Write.{packetWords, codesFit, flagsFit, classFits, partsFit, writeList, partsChecks, measureChecks, roomChecks, writeChecks, writeOf}
+use Rattle.packet_write.specs.Write.{bit, headerWidths, headerWord, sizeFor, given, classWord, headWords, classWords, timeWords, prologueWords, trailerWords}
+use Rattle.packet_write.specs.Write.{packetWords, codesFit, flagsFit, classFits, partsFit, writeList, partsChecks, measureChecks, roomChecks, writeChecks, writeOf}
 use Rattle.packet.proofs.RoomLaws.{Room, room}
 use Rattle.packet.proofs.ReadLaws.{Passed, sized, read-accepts}
-use Rattle.writing.proofs.FitLaws.{parts-fit, nothing-refused}
-use Rattle.writing.proofs.HeaderLaws.{two-bits, size-for-is, required-is}
+use Rattle.packet_write.proofs.FitLaws.{parts-fit, nothing-refused}
+use Rattle.packet_write.proofs.HeaderLaws.{two-bits, size-for-is, required-is}
 
 -- ---- the header
 

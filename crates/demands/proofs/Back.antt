@@ -17,13 +17,13 @@ use Rattle.packet.specs.Header.{classed, trailed, sizeOf}
 use Rattle.packet.specs.Parts.{streamed, hasSeconds, hasFraction, classAt, secondsAt, fractionAt, bodyAt, requiredOf, bodyLength, wordIf, classHigh, classLow}
 use Rattle.packet.specs.Parts.{fractionOf, partsOf, bodyOf, packetOf}
 use Rattle.packet.specs.Read.{headerChecks, sizeChecks, timeOver, prologueChecks, readOf}
-use Rattle.writing.specs.Write.{headerWord, sizeFor, given, classWord, headWords, classWords, timeWords, prologueWords, trailerWords, packetWords, plainParts}
-use Rattle.writing.specs.Write.{classFits, writeList, writeChecks, writeOf}
-use Rattle.writing.proofs.FitLaws.{Fits, parts-fit, Writable, writable}
+use Rattle.packet_write.specs.Write.{headerWord, sizeFor, given, classWord, headWords, classWords, timeWords, prologueWords, trailerWords, packetWords, plainParts}
+use Rattle.packet_write.specs.Write.{classFits, writeList, writeChecks, writeOf}
+use Rattle.packet_write.proofs.FitLaws.{Fits, parts-fit, Writable, writable}
 use Rattle.packet.proofs.RoomLaws.{body-past}
 use Rattle.packet.proofs.ReadLaws.{Passed, accepts-read}
-use Rattle.writing.proofs.HeaderLaws.{type-is, classed-is, trailed-is, tsm-is, tsi-is, tsf-is, count-is, size-is, reserved-is, size-for-is, required-is}
-use Rattle.writing.proofs.LayLaws.{length-given, head-length, class-length, prologue-length, packet-length}
+use Rattle.packet_write.proofs.HeaderLaws.{type-is, classed-is, trailed-is, tsm-is, tsi-is, tsf-is, count-is, size-is, reserved-is, size-for-is, required-is}
+use Rattle.packet_write.proofs.LayLaws.{length-given, head-length, class-length, prologue-length, packet-length}
 
 -- ---- an optional part, found where it was laid
 

@@ -4,9 +4,9 @@ use Rattle.words.proofs.Kit.{sym, _∙_, List, [], _∷_}
 use Rattle.words.proofs.MeetLaws.{said-refused}
 use Rattle.words.proofs.Once.{measured-once, lent-once}
 use Rattle.fields.proofs.Uniqueness.{field-count-once, check-body-once, find-once}
-use Rattle.trailer.proofs.Uniqueness.{trailer-parts-once, trailer-word-once}
+use Rattle.packet_trailer.proofs.Uniqueness.{trailer-parts-once, trailer-word-once}
 use Rattle.packet.proofs.Uniqueness.{read-once}
-use Rattle.payload.proofs.Uniqueness.{signed-once}
+use Rattle.payload_format.proofs.Uniqueness.{signed-once}
 use Rattle.play.proofs.Uniqueness.{play-once, play-run-once}
 use Rattle.panel.proofs.Uniqueness.{reading-once}
 use Rattle.demands.specs.Calls.{Call, answers, lends, OneOutcome, RefusalLeaves, Each, calls}

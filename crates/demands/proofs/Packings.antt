@@ -10,10 +10,10 @@ use Rattle.bitstream.specs.Stream.{span}
 use Rattle.bitstream.specs.Carried.{carried, fieldOf, needed}
 use Rattle.bitstream.proofs.CarriedLaws.{carried-one, carried-all, field-words}
 use Rattle.bitstream.proofs.BigNumber.{value, by-value}
-use Rattle.payload.specs.Format.{linkEfficient, carriedBits, packingOf}
-use Rattle.payload.specs.Count.{wordsFor}
-use Rattle.payload.specs.Field.{fieldIn}
-use Rattle.payload.proofs.FormatLaws.{field-some}
+use Rattle.payload_format.specs.Format.{linkEfficient, carriedBits, packingOf}
+use Rattle.payload_format.specs.Count.{wordsFor}
+use Rattle.payload_format.specs.Field.{fieldIn}
+use Rattle.payload_format.proofs.FormatLaws.{field-some}
 
 -- ---- link-efficient
 module _ (first : ℕ) (link : linkEfficient first ≡ true) where

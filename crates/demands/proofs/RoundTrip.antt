@@ -18,16 +18,16 @@ use Rattle.bitstream.proofs.SpanLaws.{below}
 use Rattle.bitstream.proofs.CarriedLaws.{field-back, word-back, enough}
 use Rattle.bitstream.proofs.FilledLaws.{filled-front, filled-at, filled-length}
 use Rattle.payload_format.specs.declared.inner.Packing.{Packing}
-use Rattle.payload.specs.Format.{formatBad, carriedBits, packingOf, Legal}
-use Rattle.payload.specs.Count.{countBad, wordsFor}
-use Rattle.payload.specs.Field.{fieldIn, itemIn, eventIn, channelIn, fieldsOf, fitting}
-use Rattle.payload.specs.Unpack.{Buffers, unpacked, unpackList, unpackCheck, unpackOf}
-use Rattle.payload.specs.Pack.{packed, packList, packCheck, packOf}
+use Rattle.payload_format.specs.Format.{formatBad, carriedBits, packingOf, Legal}
+use Rattle.payload_format.specs.Count.{countBad, wordsFor}
+use Rattle.payload_format.specs.Field.{fieldIn, itemIn, eventIn, channelIn, fieldsOf, fitting}
+use Rattle.payload_unpack.specs.Unpack.{Buffers, unpacked, unpackList, unpackCheck, unpackOf}
+use Rattle.payload_pack.specs.Pack.{packed, packList, packCheck, packOf}
 use Rattle.demands.specs.Clean.{Clean}
-use Rattle.payload.proofs.FormatLaws.{legal, carry-some, carry-most, field-some}
-use Rattle.payload.proofs.FieldLaws.{item-back, event-back, channel-back, made-below, made-back, fields-blank}
-use Rattle.payload.proofs.UnpackLaws.{UnpackPassed, unpack-passed}
-use Rattle.payload.proofs.PackLaws.{PackPassed, pack-passed, packable}
+use Rattle.payload_format.proofs.FormatLaws.{legal, carry-some, carry-most, field-some}
+use Rattle.payload_format.proofs.FieldLaws.{item-back, event-back, channel-back, made-below, made-back, fields-blank}
+use Rattle.payload_unpack.proofs.UnpackLaws.{UnpackPassed, unpack-passed}
+use Rattle.payload_pack.proofs.PackLaws.{PackPassed, pack-passed, packable}
 
 -- ---- the checks of each call, passed
 unpack-passes : (first second n m a b c : ℕ) → UnpackPassed first second n m a b c → unpackCheck first second n m a b c ≡ accepted tt

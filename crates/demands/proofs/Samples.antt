@@ -15,12 +15,12 @@ use Rattle.packet.specs.Read.{timeOver, readOf}
 use Rattle.bitstream.specs.Stream.{bit, span}
 use Rattle.bitstream.specs.Carried.{carried, fieldOf, wordOf, needed}
 use Rattle.bitstream.specs.Filled.{filled}
-use Rattle.payload.specs.Format.{wideProcessing, formatBad, carriedBits, packingOf}
-use Rattle.payload.specs.Count.{unitOf, countBad, wordsFor}
-use Rattle.payload.specs.Field.{fitting}
-use Rattle.payload.specs.Pack.{packOf}
-use Rattle.payload.specs.Unpack.{unpackOf}
-use Rattle.payload.specs.Signs.{twosComplement, signedOf}
+use Rattle.payload_format.specs.Format.{wideProcessing, formatBad, carriedBits, packingOf}
+use Rattle.payload_format.specs.Count.{unitOf, countBad, wordsFor}
+use Rattle.payload_format.specs.Field.{fitting}
+use Rattle.payload_pack.specs.Pack.{packOf}
+use Rattle.payload_unpack.specs.Unpack.{unpackOf}
+use Rattle.payload_format.specs.Signs.{twosComplement, signedOf}
 use Rattle.record.specs.Counts.{missedOf}
 use Rattle.panel.specs.Values.{unitsOf, share, over, lowerHalf}
 use Rattle.panel.specs.Readings.{isFrequency, shownOf}

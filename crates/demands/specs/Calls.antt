@@ -7,13 +7,13 @@ use Rattle.fields.specs.Answers.{foundPaper}
 use Rattle.fields.specs.Layout.{fieldCount, foundOf, contextOf}
 use Rattle.packet.specs.declared.Parts.{Parts}
 use Rattle.packet.specs.Read as Read
-use Rattle.trailer.specs.Trailer.{trailerOf, trailerWordOf, trailerPaper}
-use Rattle.writing.specs.Write.{writeOf}
-use Rattle.payload.specs.Answers.{shownPaper}
-use Rattle.payload.specs.Count.{neededOf}
-use Rattle.payload.specs.Pack.{packOf}
-use Rattle.payload.specs.Signs.{signedOf}
-use Rattle.payload.specs.Unpack.{Buffers, unpackOf}
+use Rattle.packet_trailer.specs.Trailer.{trailerOf, trailerWordOf, trailerPaper}
+use Rattle.packet_write.specs.Write.{writeOf}
+use Rattle.payload_format.specs.Answers.{shownPaper}
+use Rattle.payload_format.specs.Count.{neededOf}
+use Rattle.payload_pack.specs.Pack.{packOf}
+use Rattle.payload_format.specs.Signs.{signedOf}
+use Rattle.payload_unpack.specs.Unpack.{Buffers, unpackOf}
 use Rattle.table.specs.Start.{startOf}
 use Rattle.table.specs.Well.{wellMade}
 use Rattle.play.specs.Play as Play
@@ -55,12 +55,12 @@ calls =
     answers plain fieldCount
     ∷ answers checked contextOf
     ∷ answers foundPaper (λ (h : ℕ × List ℕ). foundOf (h .0) (h .1))
-    -- packet::read, writing::write, trailer::trailer_parts, trailer_word
+    -- packet::read, packet_write::write, packet_trailer::trailer_parts, trailer_word
     ∷ answers Read.paper Read.readOf
     ∷ lends measured (λ (h : Parts × List ℕ × List ℕ × ℕ). writeOf (h .0) (h .1) (h .2) (h .3)) (λ h. h .2)
     ∷ answers plain trailerOf
     ∷ answers trailerPaper (λ (h : ℕ × ℕ × ℕ × ℕ). trailerWordOf (h .0) (h .1) (h .2) (h .3))
-    -- payload::words_needed, unpack, pack, signed
+    -- payload_format::words_needed, unpack, pack, signed
     ∷ answers measured (λ (h : ℕ × ℕ × ℕ). neededOf (h .0) (h .1) (h .2))
     ∷ lends measured (λ (h : ℕ × ℕ × ℕ × List ℕ × Buffers). unpackOf (h .0) (h .1) (h .2) (h .3) (h .4)) (λ h. h .4)
     ∷ lends measured (λ (h : ℕ × ℕ × List ℕ × List ℕ × List ℕ × List ℕ). packOf (h .0) (h .1) (h .2) (h .3) (h .4) (h .5)) (λ h. h .5)

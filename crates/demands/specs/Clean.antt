@@ -3,8 +3,8 @@ use Rattle.words.specs.Kit.{_≡_, ℕ, _-_, _*_, _%_, _^_, _≤_, _<_, List, g
 use Rattle.fields.specs.Format.{packingSize}
 use Rattle.bitstream.specs.Stream.{bit}
 use Rattle.bitstream.specs.Carried.{carried}
-use Rattle.payload.specs.Format.{carriedBits, packingOf}
-use Rattle.payload.specs.Field.{fieldIn, unusedIn}
+use Rattle.payload_format.specs.Format.{carriedBits, packingOf}
+use Rattle.payload_format.specs.Field.{fieldIn, unusedIn}
 
 -- the words have zero where no item and no tag stands: in each field's unused bits, in each word's bits that carry no field, and past the last field
 pub record Clean (first n : ℕ) (ws : List ℕ) : Type 0 where

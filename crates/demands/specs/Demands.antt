@@ -12,9 +12,9 @@ use Rattle.packet.specs.declared.Packet.{Packet}
 use Rattle.packet.specs.declared.Parts.{Parts}
 use Rattle.packet.specs.Parts.{bodyAt}
 use Rattle.packet.specs.Read.{readOf}
-use Rattle.writing.specs.Write.{headerWord, sizeFor, plainParts, writeOf}
-use Rattle.payload.specs.Unpack.{Buffers, unpackOf}
-use Rattle.payload.specs.Pack.{packOf}
+use Rattle.packet_write.specs.Write.{headerWord, sizeFor, plainParts, writeOf}
+use Rattle.payload_unpack.specs.Unpack.{Buffers, unpackOf}
+use Rattle.payload_pack.specs.Pack.{packOf}
 use Rattle.record.specs.Layout.{heldOf, orderOf, countOf, slotOf}
 use Rattle.table.specs.Layout.{streamsOf, base, recordAt}
 use Rattle.table.specs.Identifiers.{listed, declared, listGood}

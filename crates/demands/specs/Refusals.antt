@@ -10,13 +10,13 @@ use Rattle.fields.specs.Layout.{contextList, contextOf}
 use Rattle.packet.specs.declared.Parts.{Parts}
 use Rattle.packet.specs.Parts.{packetOf}
 use Rattle.packet.specs.Read.{readList, readOf}
-use Rattle.trailer.specs.Trailer.{trailerList, trailerWordOf}
-use Rattle.writing.specs.Write.{writeList, writtenDone, writeOf}
-use Rattle.payload.specs.Count.{wordsFor, neededList, neededOf}
-use Rattle.payload.specs.Format.{packingOf}
-use Rattle.payload.specs.Pack.{packed, packList, packOf}
-use Rattle.payload.specs.Signs.{twosComplement, signedList, signedOf}
-use Rattle.payload.specs.Unpack.{Buffers, unpacked, unpackList, unpackOf}
+use Rattle.packet_trailer.specs.Trailer.{trailerList, trailerWordOf}
+use Rattle.packet_write.specs.Write.{writeList, writtenDone, writeOf}
+use Rattle.payload_format.specs.Count.{wordsFor, neededList, neededOf}
+use Rattle.payload_format.specs.Format.{packingOf}
+use Rattle.payload_pack.specs.Pack.{packed, packList, packOf}
+use Rattle.payload_format.specs.Signs.{twosComplement, signedList, signedOf}
+use Rattle.payload_unpack.specs.Unpack.{Buffers, unpacked, unpackList, unpackOf}
 use Rattle.table.specs.Layout.{base, recordAt}
 use Rattle.table.specs.Identifiers.{streamOf}
 use Rattle.table.specs.Start.{freshTable, startList, startOf}

@@ -9,11 +9,11 @@ use Rattle.fields.specs.Format.{realComplex, itemCode, packingSize, itemSize}
 use Rattle.fields.specs.Layout.{carried, spanOf}
 use Rattle.packet.specs.declared.Packet.{Packet}
 use Rattle.packet.specs.Read.{readOf}
-use Rattle.writing.specs.Write.{bit}
-use Rattle.payload.specs.Format.{linkEfficient}
-use Rattle.payload.specs.Pack.{packOf}
-use Rattle.payload.specs.Unpack.{Buffers, buffers, unpackOf}
-use Rattle.payload.specs.Signs.{signedOf}
+use Rattle.packet_write.specs.Write.{bit}
+use Rattle.payload_format.specs.Format.{linkEfficient}
+use Rattle.payload_pack.specs.Pack.{packOf}
+use Rattle.payload_unpack.specs.Unpack.{Buffers, buffers, unpackOf}
+use Rattle.payload_format.specs.Signs.{signedOf}
 use Rattle.panel.specs.Readings.{frequency, level, temperature, shownOf}
 use Rattle.demands.specs.Trace.{missed}
 

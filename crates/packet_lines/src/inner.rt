@@ -32,7 +32,7 @@ fn show_prologue(p: Parts, body: usize, length: usize) {
 
 // The line of a trailer's parts.
 fn show_trailer(word: u32) {
-    let t = trailer::trailer_parts(word);
+    let t = packet_trailer::trailer_parts(word);
     wordio::inner::text(b"  trailer");
     wordio::inner::named(b"enables", t.enables as u64);
     wordio::inner::named(b"indicators", t.indicators as u64);

@@ -18,7 +18,7 @@ use output::print_items;
 use output::print_refused;
 use output::print_signed;
 use output::print_words;
-use payload::Shown;
+use payload_format::Shown;
 use words::Length;
 
 // Op 1: first, second, n, the room of each buffer, m, then m words.
@@ -34,7 +34,7 @@ fn unpack_case(k: u64) {
     let mut items = blank_items();
     let mut events = blank_events();
     let mut channels = blank_channels();
-    let r = payload::unpack(
+    let r = payload_unpack::unpack(
         first,
         second,
         n,
@@ -64,7 +64,7 @@ fn pack_case(k: u64) {
     let events = read_events(ne);
     let channels = read_channels(nc);
     let mut out = blank_words();
-    let r = payload::pack(
+    let r = payload_pack::pack(
         first,
         second,
         &items[..ni],
@@ -84,7 +84,7 @@ fn signed_case(k: u64) {
     let width = wordio::inner::word();
     let high = wordio::inner::word();
     let low = wordio::inner::word();
-    let r = payload::signed(width, words::inner::high_first(high, low));
+    let r = payload_format::signed(width, words::inner::high_first(high, low));
     match r {
         Shown::Value(v) => print_signed(k, v),
         Shown::Refused(e) => print_refused(k, e),
@@ -96,7 +96,7 @@ fn needed_case(k: u64) {
     let first = wordio::inner::word();
     let second = wordio::inner::word();
     let n = wordio::inner::word() as usize;
-    let r = payload::words_needed(first, second, n);
+    let r = payload_format::words_needed(first, second, n);
     match r {
         Length::Accepted(w) => print_accepted(k, b" words ", w as u64),
         Length::Refused(e) => print_refused(k, e),

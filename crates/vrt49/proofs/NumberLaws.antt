@@ -7,12 +7,12 @@ use Rattle.words.specs.Refusals.{Refusals, firstGiven}
 use Rattle.words.proofs.RefusalLaws.{Numbers, Numbered, number-among}
 use Rattle.fields.specs.Layout.{contextList, contextOf}
 use Rattle.packet.specs.Read.{readList, readOf}
-use Rattle.writing.specs.Write.{writeList, writeOf}
-use Rattle.trailer.specs.Trailer.{trailerList, trailerWordOf}
-use Rattle.payload.specs.Unpack.{Buffers, unpackList, unpackOf}
-use Rattle.payload.specs.Pack.{packList, packOf}
-use Rattle.payload.specs.Count.{neededList, neededOf}
-use Rattle.payload.specs.Signs.{signedList, signedOf}
+use Rattle.packet_write.specs.Write.{writeList, writeOf}
+use Rattle.packet_trailer.specs.Trailer.{trailerList, trailerWordOf}
+use Rattle.payload_unpack.specs.Unpack.{Buffers, unpackList, unpackOf}
+use Rattle.payload_pack.specs.Pack.{packList, packOf}
+use Rattle.payload_format.specs.Count.{neededList, neededOf}
+use Rattle.payload_format.specs.Signs.{signedList, signedOf}
 use Rattle.table.specs.Start.{startList, startOf}
 use Rattle.play.specs.Play.{tableList, playList, playOf}
 use Rattle.play.specs.Run.{runOf}

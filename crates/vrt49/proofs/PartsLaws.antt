@@ -8,8 +8,8 @@ use Rattle.words.specs.declared.Length.the-variants.{Refused}
 use Rattle.words.specs.Outcome.{accepted, checked, measured, Meets}
 use Rattle.words.proofs.RefusalLaws.{first-passed, either-passed, first-refused, first-fine}
 use Rattle.words.proofs.MeetLaws.{meets-refused}
-use Rattle.writing.specs.Write.{writeOf}
-use Rattle.writing.specs.inner.Given.{partsIn}
+use Rattle.packet_write.specs.Write.{writeOf}
+use Rattle.packet_write.specs.inner.Given.{partsIn}
 use Rattle.vrt49.specs.Packets.{partsOf, wordsList, wordsChecks, writeWordsOf}
 
 -- the three flags among words that pass are 0 or 1

@@ -15,12 +15,12 @@ use Rattle.bitstream.specs.Carried.{needed}
 use Rattle.packet.specs.declared.Packet.{Packet}
 use Rattle.packet.specs.Parts.{packetOf}
 use Rattle.packet.specs.Read.{readOf}
-use Rattle.writing.specs.Write.{sizeFor, writeList, writeOf}
+use Rattle.packet_write.specs.Write.{sizeFor, writeList, writeOf}
 use Rattle.packet.proofs.ReadLaws.{read-accepts}
-use Rattle.payload.specs.Format.{carriedBits}
-use Rattle.payload.specs.Count.{countBad, wordsFor, neededList, neededOf}
-use Rattle.payload.specs.Pack.{packList, packOf}
-use Rattle.payload.proofs.FormatLaws.{field-most, carry-most, count-few}
+use Rattle.payload_format.specs.Format.{carriedBits}
+use Rattle.payload_format.specs.Count.{countBad, wordsFor, neededList, neededOf}
+use Rattle.payload_pack.specs.Pack.{packList, packOf}
+use Rattle.payload_format.proofs.FormatLaws.{field-most, carry-most, count-few}
 use Rattle.fields.specs.Sizes.{sizeOf}
 use Rattle.record.specs.Held.{slotAt}
 use Rattle.record.specs.Layout.{headWords, slotWords, slotIn, slotsOf, slotOf}

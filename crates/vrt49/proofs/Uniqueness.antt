@@ -4,7 +4,7 @@ use lib.IntN.{ℤ}
 use Rattle.words.specs.Tests.{when}
 use Rattle.words.specs.Outcome.{Outcome, numberOf, Done}
 use Rattle.fields.specs.Layout.{fieldCount, contextOf}
-use Rattle.payload.specs.Unpack.{Buffers, unpackOf}
+use Rattle.payload_unpack.specs.Unpack.{Buffers, unpackOf}
 use Rattle.table.specs.Well.{wellMade}
 use Rattle.vrt49.specs.Answers.{Gives}
 use Rattle.vrt49.specs.Packets.{readGives, writeGives, trailerGives, trailerWordGives, findGives}

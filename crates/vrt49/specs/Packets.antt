@@ -8,10 +8,10 @@ use Rattle.words.specs.Refusals.{Refusals, firstGiven}
 use Rattle.fields.specs.Layout.{foundOf}
 use Rattle.packet.specs.declared.Parts.{Parts}
 use Rattle.packet.specs.declared.Packet.{Packet}
-use Rattle.trailer.specs.declared.Trailer.{Trailer}
+use Rattle.packet_trailer.specs.declared.Trailer.{Trailer}
 use Rattle.packet.specs.Read.{readOf}
-use Rattle.writing.specs.Write.{writeOf}
-use Rattle.trailer.specs.Trailer.{trailerOf, trailerWordOf}
+use Rattle.packet_write.specs.Write.{writeOf}
+use Rattle.packet_trailer.specs.Trailer.{trailerOf, trailerWordOf}
 use Rattle.vrt49.specs.Answers.{oneValue, answering, answeringBeside}
 
 -- ---- the values

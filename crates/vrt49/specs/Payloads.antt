@@ -2,9 +2,9 @@
 use Rattle.words.specs.Kit.{ℕ, List}
 use lib.IntN.{ℤ}
 use Rattle.words.specs.Outcome.{Outcome, Done}
-use Rattle.payload.specs.Pack.{packOf}
-use Rattle.payload.specs.Count.{neededOf}
-use Rattle.payload.specs.Signs.{signedOf}
+use Rattle.payload_pack.specs.Pack.{packOf}
+use Rattle.payload_format.specs.Count.{neededOf}
+use Rattle.payload_format.specs.Signs.{signedOf}
 use Rattle.vrt49.specs.Answers.{oneValue, answering, answeringBeside}
 
 unfoldable pub packGives : (first second : ℕ) (is es cs out answer : List ℕ) → Outcome (Done Unit (List ℕ × List ℕ))

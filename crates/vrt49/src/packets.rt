@@ -81,7 +81,7 @@ fn write_words(parts: &[u32], body: &[u32], out: &mut [u32], at: usize) -> words
     if let words::Check::Refused(n) = checked {
         return words::Length::Refused(n);
     }
-    writing::inner::write_parts(parts, body, out, at)
+    packet_write::inner::write_parts(parts, body, out, at)
 }
 
 // Writes a packet from a word of a buffer on; answers ROOM for a short answer, COUNT for other than fifteen parts, or what writing refuses. One value, the words
@@ -110,7 +110,7 @@ pub extern "C" fn vrt49_trailer_parts(word: u32, answer: &mut [u32]) -> u32
     if answer.len() < 4 {
         return words::ROOM;
     }
-    let t = trailer::trailer_parts(word);
+    let t = packet_trailer::trailer_parts(word);
     let values = [
         t.enables,
         t.indicators,
@@ -135,9 +135,9 @@ pub extern "C" fn vrt49_trailer_word(
     if answer.len() < 1 {
         return words::ROOM;
     }
-    match trailer::trailer_word(enables, indicators, e, associated) {
-        trailer::TrailerWord::Refused(n) => n,
-        trailer::TrailerWord::Accepted(w) => {
+    match packet_trailer::trailer_word(enables, indicators, e, associated) {
+        packet_trailer::TrailerWord::Refused(n) => n,
+        packet_trailer::TrailerWord::Accepted(w) => {
             answer[0] = w;
             0
         }

@@ -1,5 +1,5 @@
 // Packed samples.
-ghost use Rattle.payload.specs.Unpack.{buffers, unpackOf};
+ghost use Rattle.payload_unpack.specs.Unpack.{buffers, unpackOf};
 ghost use Rattle.vrt49.specs.Answers.{Gives};
 ghost use Rattle.vrt49.specs.Payloads.{packGives, neededGives, signedGives};
 
@@ -16,7 +16,7 @@ pub extern "C" fn vrt49_unpack(
 ) -> u32
     ensures { λ r. ⌜ Gives (unpackOf first second n (now (words .entry)) (buffers (now (items .entry)) (now (events .entry)) (now (channels .entry)))) (buffers (now (items .entry)) (now (events .entry)) (now (channels .entry))) r (buffers (now (items .exit)) (now (events .exit)) (now (channels .exit))) ⌝ }
 {
-    match payload::unpack(first, second, n, words, items, events, channels) {
+    match payload_unpack::unpack(first, second, n, words, items, events, channels) {
         words::Length::Refused(number) => number,
         words::Length::Accepted(_) => 0,
     }
@@ -39,7 +39,7 @@ pub extern "C" fn vrt49_pack(
         return words::ROOM;
     }
     crate::answers::give_length(
-        payload::pack(first, second, items, events, channels, out),
+        payload_pack::pack(first, second, items, events, channels, out),
         answer,
     )
 }
@@ -52,7 +52,7 @@ pub extern "C" fn vrt49_words_needed(first: u32, second: u32, n: usize, answer: 
     if answer.len() < 1 {
         return words::ROOM;
     }
-    crate::answers::give_length(payload::words_needed(first, second, n), answer)
+    crate::answers::give_length(payload_format::words_needed(first, second, n), answer)
 }
 
 // The two's complement value of an item; answers ROOM, FORMAT or VALUE. One value.
@@ -63,9 +63,9 @@ pub extern "C" fn vrt49_signed(width: u32, item: u64, value: &mut [i64]) -> u32
     if value.len() < 1 {
         return words::ROOM;
     }
-    match payload::signed(width, item) {
-        payload::Shown::Refused(n) => n,
-        payload::Shown::Value(z) => {
+    match payload_format::signed(width, item) {
+        payload_format::Shown::Refused(n) => n,
+        payload_format::Shown::Value(z) => {
             crate::answers::store_signed(value, z);
             0
         }

@@ -1,8 +1,8 @@
-// Runs the cases of standard input with `writing::write`, `packet::read` and `trailer::trailer_word`, and writes what they answer and leave.
+// Runs the cases of standard input with `packet_write::write`, `packet::read` and `packet_trailer::trailer_word`, and writes what they answer and leave.
 // A case begins with a word that says what is asked: 1 to write, 2 to read, write again and read again, 3 to make a trailer word.
 use packet::Parsed;
 use packet::Parts;
-use trailer::TrailerWord;
+use packet_trailer::TrailerWord;
 use words::Length;
 
 // The line of a buffer: its words where they are few, and else their sum.
@@ -71,7 +71,7 @@ fn next_parts() -> Parts {
 // Writes some parts and a body at a place of a buffer, and shows the answer and the buffer; whether it was accepted.
 fn write(parts: Parts, body: &[u32], out: &mut [u32], at: usize) -> bool {
     wordio::inner::pattern(out);
-    let written = show_written(writing::write(parts, body, out, at));
+    let written = show_written(packet_write::write(parts, body, out, at));
     show_buffer(out);
     written
 }
@@ -150,7 +150,7 @@ fn trailer_case() {
     let indicators = wordio::inner::word();
     let e = wordio::inner::word();
     let associated = wordio::inner::word();
-    let answer = trailer::trailer_word(enables, indicators, e, associated);
+    let answer = packet_trailer::trailer_word(enables, indicators, e, associated);
     match answer {
         TrailerWord::Accepted(w) => wordio::inner::named(b"trailer", w as u64),
         TrailerWord::Refused(n) => wordio::inner::named(b"refused", n as u64),

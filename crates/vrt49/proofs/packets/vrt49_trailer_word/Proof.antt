@@ -1,6 +1,6 @@
 -- `vrt49_trailer_word` meets its promise: ROOM, else the word or VALUE.
 use Rattle.words.proofs.Kit.{sym, ap, _∙_, [], _∷_, needs}
-use Rattle.trailer.specs.Trailer.{trailerPaper}
+use Rattle.packet_trailer.specs.Trailer.{trailerPaper}
 use Rattle.vrt49.specs.Packets.{trailerWordGives}
 use Rattle.vrt49.proofs.AnswerLaws.{gives-room, gives-refused, gives-values, stored-front}
 use Rattle.vrt49.proofs.packets.vrt49_trailer_word.Statement.{statement}

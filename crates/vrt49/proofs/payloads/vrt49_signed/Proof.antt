@@ -2,7 +2,7 @@
 use Rattle.words.proofs.Kit.{sym, ap, _∙_, [], _∷_, needs}
 use lib.IntN.{ℤ}
 use mir.Facts.{toZ-ofZ}
-use Rattle.payload.specs.Answers.{shownPaper}
+use Rattle.payload_format.specs.Answers.{shownPaper}
 use Rattle.vrt49.specs.Answers.{front}
 use Rattle.vrt49.specs.Payloads.{signedGives}
 use Rattle.vrt49.proofs.AnswerLaws.{gives-room, gives-refused, gives-values}

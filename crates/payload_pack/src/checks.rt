@@ -1,0 +1,113 @@
+// The refusals of packing: FORMAT, COUNT, VALUE, ROOM.
+ghost use Rattle.words.specs.Kit.{_≡_, _≤_, _<_, length};
+ghost use Rattle.words.specs.Outcome.{checked};
+ghost use Rattle.payload_format.specs.Field.{fitting, joined};
+ghost use Rattle.payload_pack.specs.Pack.{packCheck};
+use payload_format::inner::count_bad;
+use payload_format::inner::format_bad;
+use payload_format::inner::packing_of;
+use payload_format::inner::words_of;
+use words::Check;
+
+// The bits that any of the items has.
+fn join_items(items: &[u64]) -> u64
+    ensures { λ r. ⌜ r ≡ joined (length (now (items .entry))) (now (items .entry)) ⌝ }
+{
+    let mut all: u64 = 0;
+    let mut k = 0;
+    while k < items.len() {
+        all = all | items[k];
+        k += 1;
+    }
+    all
+}
+
+// The bits that any of the event tags has.
+fn join_events(events: &[u8]) -> u8
+    ensures { λ r. ⌜ r ≡ joined (length (now (events .entry))) (now (events .entry)) ⌝ }
+{
+    let mut all: u8 = 0;
+    let mut k = 0;
+    while k < events.len() {
+        all = all | events[k];
+        k += 1;
+    }
+    all
+}
+
+// The bits that any of the channel tags has.
+fn join_channels(channels: &[u16]) -> u16
+    ensures { λ r. ⌜ r ≡ joined (length (now (channels .entry))) (now (channels .entry)) ⌝ }
+{
+    let mut all: u16 = 0;
+    let mut k = 0;
+    while k < channels.len() {
+        all = all | channels[k];
+        k += 1;
+    }
+    all
+}
+
+// Whether all items fit w bits.
+fn items_fit(w: usize, items: &[u64]) -> bool
+    requires { ⌜ (1 ≤ w) × (w ≤ 64) ⌝ }
+    ensures { λ r. ⌜ r ≡ fitting w (length (now (items .entry))) (now (items .entry)) ⌝ }
+{
+    join_items(items) <= bitstream::inner::ones(w)
+}
+
+// Whether all event tags fit w bits.
+fn events_fit(w: usize, events: &[u8]) -> bool
+    requires { ⌜ w < 64 ⌝ }
+    ensures { λ r. ⌜ r ≡ fitting w (length (now (events .entry))) (now (events .entry)) ⌝ }
+{
+    (join_events(events) as u64) < bitstream::inner::power(w)
+}
+
+// Whether all channel tags fit w bits.
+fn channels_fit(w: usize, channels: &[u16]) -> bool
+    requires { ⌜ w < 64 ⌝ }
+    ensures { λ r. ⌜ r ≡ fitting w (length (now (channels .entry))) (now (channels .entry)) ⌝ }
+{
+    (join_channels(channels) as u64) < bitstream::inner::power(w)
+}
+
+// The first refusal of packing, by the inputs and how many places there are.
+pub fn pack_check(
+    first: u32,
+    second: u32,
+    items: &[u64],
+    events: &[u8],
+    channels: &[u16],
+    room: usize,
+) -> Check
+    ensures { λ r. ⌜ checked r ≡ packCheck first second (now (items .entry)) (now (events .entry)) (now (channels .entry)) room ⌝ }
+{
+    let n = items.len();
+    if format_bad(first, second) {
+        return Check::Refused(words::FORMAT);
+    }
+    if count_bad(first, second, n) {
+        return Check::Refused(words::COUNT);
+    }
+    if events.len() != n {
+        return Check::Refused(words::COUNT);
+    }
+    if channels.len() != n {
+        return Check::Refused(words::COUNT);
+    }
+    let p = packing_of(first);
+    if !items_fit(p.item, items) {
+        return Check::Refused(words::VALUE);
+    }
+    if !events_fit(p.event, events) {
+        return Check::Refused(words::VALUE);
+    }
+    if !channels_fit(p.channel, channels) {
+        return Check::Refused(words::VALUE);
+    }
+    if room < words_of(p.carry, p.field, n) {
+        return Check::Refused(words::ROOM);
+    }
+    Check::Fine
+}

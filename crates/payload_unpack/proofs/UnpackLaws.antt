@@ -1,0 +1,161 @@
+-- What is known where nothing of unpacking is refused, what fields without tags hold, and the answers of `unpack_check` and `unpack`.
+use Rattle.words.proofs.Kit.{_≡_, refl, sym, ap, _∙_, false, not, List, [], _∷_, ℕ, _+_, _*_, _/_, _%_, _^_, _≤_, _<_, arith, length, getD, ltb, eqb}
+use Rattle.words.proofs.Kit.{ltb-false, eqb-true, not-false}
+use native.Mathlib.Nat.{mod-one, div-one}
+use Rattle.words.specs.declared.Check.{Check}
+use Rattle.words.specs.declared.Check.the-variants as found
+use Rattle.words.specs.declared.Length.{Length}
+use Rattle.words.specs.declared.Length.the-variants.{Accepted, Refused}
+use Rattle.words.specs.Tests.{either}
+use Rattle.words.specs.Outcome.{refused, accepted, checked, measured, Meets}
+use Rattle.words.specs.Refusals.{Refusals, firstGiven}
+use Rattle.words.specs.Numbers.{COUNT, ROOM}
+use Rattle.words.specs.Word.{highFirst}
+use Rattle.words.proofs.RefusalLaws.{first-passed, either-passed, first-refused, first-fine}
+use Rattle.words.proofs.MeetLaws.{meets-refused, meets-length}
+use Rattle.bitstream.specs.Filled.{filled}
+use Rattle.bitstream.proofs.CarriedLaws.{enough, none-over, field-word, field-words}
+use Rattle.bitstream.proofs.FilledLaws.{filled-same}
+use Rattle.payload_format.specs.declared.inner.Packing.{Packing}
+use Rattle.payload_format.specs.Format.{formatBad, packingOf, carriedBits}
+use Rattle.payload_format.specs.Count.{countBad, wordsFor, neededOf}
+use Rattle.payload_format.specs.Field.{fieldIn, itemIn}
+use Rattle.payload_format.proofs.FormatLaws.{legal, count-few, carry-some, needed-first, needed-words}
+use Rattle.payload_unpack.specs.Unpack.{Buffers, buffers, unpacked, unpackList, unpackCheck, unpackOf, Unpackable}
+
+-- ---- fields without tags
+
+-- tags of size zero read as 0
+no-tags : (e n : ℕ) (h : ℕ → ℕ) (l : List ℕ) → e ≡ 0 → filled n (λ k. 0) l ≡ filled n (λ k. h k % 2 ^ e) l
+no-tags e n h l z = rw z (filled-same n (λ k. 0) (λ k. h k % 2 ^ 0) l (λ k q. sym (mod-one (h k))))
+
+module _ (p : Packing) (ws : List ℕ) where
+  pub unpacked-none : (n : ℕ) (is es cs : List ℕ) → n ≡ 0 → buffers is es cs ≡ unpacked p n ws (buffers is es cs)
+  unfolding filled
+  unpacked-none n is es cs z = rw z
+
+  pub unpacked-plain : (n : ℕ) (is es cs is′ es′ cs′ : List ℕ) → p .event + p .channel ≡ 0 → is′ ≡ filled n (λ k. itemIn p (fieldIn p ws k)) is
+      → es′ ≡ filled n (λ k. 0) es → cs′ ≡ filled n (λ k. 0) cs → buffers is′ es′ cs′ ≡ unpacked p n ws (buffers is es cs)
+  unpacked-plain n is es cs is′ es′ cs′ z x y t =
+      let y′ = y ∙ no-tags (p .event) n (λ k. fieldIn p ws k / 2 ^ p .channel) es (omega arith) in
+      let t′ = t ∙ no-tags (p .channel) n (fieldIn p ws) cs (omega arith) in
+      cc
+
+-- items that are whole words, and pairs of words
+module _ {p : Packing} {n room : ℕ} {ws : List ℕ} (u : Unpackable p n ws room) where
+  module _ (one : p .item ≡ 32) (narrow : p .field ≤ 32) where
+    one-field : p .field ≡ 32
+    one-field = omega (arith, u .legal .parts)
+
+    one-carry : p .carry ≡ 32
+    one-carry = omega (arith, u .legal .narrow narrow, u .legal .most, one-field)
+
+    pub words-there : n ≤ length ws
+    words-there = let t = rw (one-field, one-carry) at (u .there) in omega arith
+
+    pub plain-words : (small : (j : ℕ) → getD ws j 0 < 2 ^ 32) (l left : List ℕ) → left ≡ filled n (λ k. getD ws k 0) l
+        → left ≡ filled n (λ k. itemIn p (fieldIn p ws k)) l
+    plain-words small l left e =
+        e ∙ filled-same n _ _ l
+        (λ k q. rw (one-field, one-carry, one) (sym (ap (λ (x : ℕ). x / 2 ^ 0) (field-word ws small k) ∙ div-one (getD ws k 0))))
+
+  module _ (two : p .item ≡ 64) where
+    two-field : p .field ≡ 64
+    two-field = omega (arith, u .legal .parts, u .legal .few)
+
+    two-carry : p .carry ≡ 32
+    two-carry = u .legal .wide (omega (arith, two-field))
+
+    pub pairs-there : 2 * n ≤ length ws
+    pairs-there = let t = rw (two-field, two-carry) at (u .there) in omega arith
+
+    pub plain-pairs : (small : (j : ℕ) → getD ws j 0 < 2 ^ 32) (l left : List ℕ)
+        → left ≡ filled n (λ k. highFirst (getD ws (2 * k) 0) (getD ws (2 * k + 1) 0)) l → left ≡ filled n (λ k. itemIn p (fieldIn p ws k)) l
+    plain-pairs small l left e =
+        e ∙ filled-same n _ _ l
+        (λ k q.
+        rw (two-field, two-carry, two)
+        (sym (ap (λ (x : ℕ). x / 2 ^ 0) (field-words ws small k) ∙ div-one (highFirst (getD ws (2 * k) 0) (getD ws (2 * k + 1) 0)))))
+
+-- ---- the answers of `unpack_check`, by what `words_needed` says
+module _ (first second n : ℕ) (answer : Length) (e : measured answer ≡ neededOf first second n) (given items events channels : ℕ) where
+  pub needed-refused : (k : ℕ) → answer ≡ Refused k → refused k ≡ unpackCheck first second n given items events channels
+  unfolding unpackCheck
+  needed-refused k r = rw (needed-first first second n, ← e, r)
+
+  -- the lines of `unpackCheck` that are left
+  pub counted : (m : ℕ) → answer ≡ Accepted m → unpackCheck first second n given items events channels
+      ≡ firstGiven ((COUNT, not (eqb given m)) ∷ (ROOM, either (ltb items n) (either (ltb events n) (ltb channels n))) ∷ []) (accepted tt)
+  unfolding unpackCheck
+  counted m r = let w = needed-words first second n m (sym e ∙ ap measured r) in rw (needed-first first second n, ← e, r, w)
+
+-- ---- what `unpackCheck` lets through
+pub record UnpackPassed (first second n words room-items room-events room-channels : ℕ) : Type 0 where
+  pub format : formatBad first second ≡ false
+  pub count : countBad first second n ≡ false
+  pub there : words ≡ wordsFor first n
+  pub items : n ≤ room-items
+  pub events : n ≤ room-events
+  pub channels : n ≤ room-channels
+
+pub unpack-passed : (first second n m i e c : ℕ) → unpackCheck first second n m i e c ≡ accepted tt → UnpackPassed first second n m i e c
+unfolding unpackCheck
+unpack-passed first second n m i e c h =
+    let a = first-passed (unpackList first second n m i e c) _ tt h .0 in
+    let count = either-passed (countBad first second n) (not (eqb m (wordsFor first n))) (a .1 .0) in
+    let items = either-passed (ltb i n) _ (a .1 .1 .0) in
+    let tags = either-passed (ltb e n) (ltb c n) (items .1) in
+    record {
+      format = a .0;
+      count = count .0;
+      there = eqb-true m (wordsFor first n) (not-false _ (count .1));
+      items = ltb-false i n (items .0);
+      events = ltb-false e n (tags .0);
+      channels = ltb-false c n (tags .1);
+    }
+
+-- the words that are needed hold the fields, and one word fewer does not
+fields-there : (first n m : ℕ) → m ≡ wordsFor first n → packingOf first .field * n ≤ m * packingOf first .carry
+unfolding wordsFor packingOf
+fields-there first n m e = rw e (enough (carriedBits first) _ n (carry-some first))
+
+fields-fill : (first n m : ℕ) → m ≡ wordsFor first n → m * packingOf first .carry < packingOf first .field * n + packingOf first .carry
+unfolding wordsFor packingOf
+fields-fill first n m e = rw e (none-over (carriedBits first) _ n (carry-some first))
+
+-- ---- the answers of `unpack`, by what `unpack_check` found
+module _ (first second n : ℕ) (ws is es cs : List ℕ) (answer : Check) where
+  abbrev list : Refusals
+  list = unpackList first second n (length ws) (length is) (length es) (length cs)
+
+  module _ (e : checked answer ≡ unpackCheck first second n (length ws) (length is) (length es) (length cs)) where
+    pub unpack-refused : (k : ℕ) → answer ≡ found.Refused k
+        → Meets measured (unpackOf first second n ws (buffers is es cs)) (buffers is es cs) (Refused k) (buffers is es cs)
+    unfolding unpackOf unpackCheck
+    unpack-refused k r = meets-refused (first-refused list tt k _ (sym e ∙ ap checked r))
+
+    module _ (fine : answer ≡ found.Fine) where
+      through : UnpackPassed first second n (length ws) (length is) (length es) (length cs)
+      through = unpack-passed first second n (length ws) (length is) (length es) (length cs) (sym e ∙ ap checked fine)
+
+      pub unpackable : (p : Packing) → p ≡ packingOf first → Unpackable p n ws (length is)
+      unpackable p q =
+          rw q
+          (record {
+            legal = legal first second (through .format);
+            few = count-few first second n (through .count);
+            there = fields-there first n (length ws) (through .there);
+            none-over = fields-fill first n (length ws) (through .there);
+            places = through .items;
+          })
+
+      pub events-room : n ≤ length es
+      events-room = through .events
+
+      pub channels-room : n ≤ length cs
+      channels-room = through .channels
+
+      pub unpack-accepted : (p : Packing) (after : Buffers) → p ≡ packingOf first → after ≡ unpacked p n ws (buffers is es cs)
+          → Meets measured (unpackOf first second n ws (buffers is es cs)) (buffers is es cs) (Accepted n) after
+      unfolding unpackOf unpackCheck
+      unpack-accepted p after q left = meets-length (first-fine list tt tt _ (sym e ∙ ap checked fine)) (rw q at left)

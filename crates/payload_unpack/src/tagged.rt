@@ -1,0 +1,139 @@
+// Fields with tags: the item, the event tags and the channel tag of each.
+ghost use Rattle.words.specs.Kit.{_≡_, _+_, _*_, _≤_, _<_, length};
+ghost use Rattle.payload_format.specs.Format.{Legal};
+ghost use Rattle.payload_format.specs.Field.{eventIn, channelIn};
+ghost use Rattle.payload_unpack.specs.Unpack.{buffers, unpacked, unpackedFrom, Unpackable, Placed};
+use crate::window;
+use bitstream::inner::accumulator::Held;
+use bitstream::inner::accumulator::take_field;
+use payload_format::inner::Packing;
+
+// The event tags of a field.
+fn event_of(p: Packing, v: u64) -> u8
+    requires { ⌜ Legal p ⌝ }
+    ensures { λ r. ⌜ r ≡ eventIn p v ⌝ }
+{
+    bitstream::inner::low(v >> p.channel, p.event) as u8
+}
+
+// The channel tag of a field.
+fn channel_of(p: Packing, v: u64) -> u16
+    requires { ⌜ Legal p ⌝ }
+    ensures { λ r. ⌜ r ≡ channelIn p v ⌝ }
+{
+    bitstream::inner::low(v, p.channel) as u16
+}
+
+// The parts of the first n fields, one taken after the other.
+fn unpack_parts(
+    p: Packing,
+    n: usize,
+    words: &[u32],
+    items: &mut [u64],
+    events: &mut [u8],
+    channels: &mut [u16],
+)
+    requires { ⌜ Unpackable p n (now words) (length (now items)) × (n ≤ length (now events)) × (n ≤ length (now channels)) ⌝ }
+    ensures { λ _. ⌜ buffers (now (items .exit)) (now (events .exit)) (now (channels .exit))
+        ≡ unpacked p n (now (words .entry)) (buffers (now (items .entry)) (now (events .entry)) (now (channels .entry))) ⌝ }
+{
+    let c = p.carry;
+    let f = p.field;
+    let up = p.field - p.item;
+    let mut s = Held {
+        acc: 0,
+        have: 0,
+        at: 0,
+    };
+    let mut k: usize = 0;
+    while k < n {
+        let t = take_field(c, f, s, words);
+        let v = t.value;
+        s = Held {
+            acc: t.acc,
+            have: t.have,
+            at: t.at,
+        };
+        items[k] = v >> up;
+        events[k] = event_of(p, v);
+        channels[k] = channel_of(p, v);
+        k += 1;
+    }
+}
+
+// The parts of the fields from one on, which all begin in the last word.
+fn unpack_parts_last(
+    p: Packing,
+    from: usize,
+    n: usize,
+    words: &[u32],
+    items: &mut [u64],
+    events: &mut [u8],
+    channels: &mut [u16],
+)
+    requires { ⌜ Placed p n (now words) (length (now items)) × (n ≤ length (now events)) × (n ≤ length (now channels))
+        × (from ≤ n) × (length (now words) * 32 ≤ from * p .field + 32) ⌝ }
+    ensures { λ _. ⌜ buffers (now (items .exit)) (now (events .exit)) (now (channels .exit))
+        ≡ unpackedFrom p from n (now (words .entry)) (buffers (now (items .entry)) (now (events .entry)) (now (channels .entry))) ⌝ }
+{
+    let f = p.field;
+    let up = p.field - p.item;
+    let down = 32 - p.field;
+    let word = words[words.len() - 1];
+    let mut k = from;
+    while k < n {
+        let v = (window::bits_last(word, k * f) >> down) as u64;
+        items[k] = v >> up;
+        events[k] = event_of(p, v);
+        channels[k] = channel_of(p, v);
+        k += 1;
+    }
+}
+
+// The parts of the first n fields, read by their places.
+fn unpack_parts_narrow(
+    p: Packing,
+    n: usize,
+    words: &[u32],
+    items: &mut [u64],
+    events: &mut [u8],
+    channels: &mut [u16],
+)
+    requires { ⌜ Placed p n (now words) (length (now items)) × (n ≤ length (now events)) × (n ≤ length (now channels)) ⌝ }
+    ensures { λ _. ⌜ buffers (now (items .exit)) (now (events .exit)) (now (channels .exit))
+        ≡ unpacked p n (now (words .entry)) (buffers (now (items .entry)) (now (events .entry)) (now (channels .entry))) ⌝ }
+{
+    let f = p.field;
+    let up = p.field - p.item;
+    let down = 32 - p.field;
+    let last_begins = 32 * (words.len() - 1);
+    let mut k: usize = 0;
+    while k * f < last_begins {
+        let v = (window::bits(words, k * f) >> down) as u64;
+        items[k] = v >> up;
+        events[k] = event_of(p, v);
+        channels[k] = channel_of(p, v);
+        k += 1;
+    }
+    unpack_parts_last(p, k, n, words, items, events, channels);
+}
+
+// The parts of the first n fields.
+pub fn unpack_tagged(
+    p: Packing,
+    n: usize,
+    words: &[u32],
+    items: &mut [u64],
+    events: &mut [u8],
+    channels: &mut [u16],
+)
+    requires { ⌜ Unpackable p n (now words) (length (now items)) × (n ≤ length (now events)) × (n ≤ length (now channels)) × (0 < n) ⌝ }
+    ensures { λ _. ⌜ buffers (now (items .exit)) (now (events .exit)) (now (channels .exit))
+        ≡ unpacked p n (now (words .entry)) (buffers (now (items .entry)) (now (events .entry)) (now (channels .entry))) ⌝ }
+{
+    if p.carry == 32 && p.field <= 32 {
+        unpack_parts_narrow(p, n, words, items, events, channels);
+        return;
+    }
+    unpack_parts(p, n, words, items, events, channels);
+}

@@ -1,0 +1,101 @@
+// Unpacking: items and their tags from words.
+ghost use Rattle.words.specs.Kit.{_≡_, _≤_, length};
+ghost use Rattle.words.specs.Outcome.{checked, measured, Meets};
+ghost use Rattle.payload_unpack.specs.Unpack.{buffers, unpacked, unpackCheck, unpackOf, Unpackable};
+use crate::plain::clear_tags;
+use crate::plain::unpack_plain;
+use crate::tagged::unpack_tagged;
+use payload_format::inner::Packing;
+use payload_format::inner::packing_of;
+use payload_format::words_needed;
+use words::Check;
+use words::Length;
+
+// The first refusal of unpacking, by how many words are given and how many places there are. FORMAT and COUNT of n are asked as `words_needed` asks them.
+fn unpack_check(
+    first: u32,
+    second: u32,
+    n: usize,
+    given: usize,
+    items: usize,
+    events: usize,
+    channels: usize,
+) -> Check
+    ensures { λ r. ⌜ checked r ≡ unpackCheck first second n given items events channels ⌝ }
+{
+    let needed = words_needed(first, second, n);
+    match needed {
+        Length::Refused(number) => Check::Refused(number),
+        Length::Accepted(m) => {
+            if given != m {
+                return Check::Refused(words::COUNT);
+            }
+            if items < n {
+                return Check::Refused(words::ROOM);
+            }
+            if events < n {
+                return Check::Refused(words::ROOM);
+            }
+            if channels < n {
+                return Check::Refused(words::ROOM);
+            }
+            Check::Fine
+        }
+    }
+}
+
+// The items and tags of the first n fields: where a format has no tags, the items alone, and all tags 0.
+fn unpack_fields(
+    p: Packing,
+    n: usize,
+    words: &[u32],
+    items: &mut [u64],
+    events: &mut [u8],
+    channels: &mut [u16],
+)
+    requires { ⌜ Unpackable p n (now words) (length (now items)) × (n ≤ length (now events)) × (n ≤ length (now channels)) ⌝ }
+    ensures { λ _. ⌜ buffers (now (items .exit)) (now (events .exit)) (now (channels .exit))
+        ≡ unpacked p n (now (words .entry)) (buffers (now (items .entry)) (now (events .entry)) (now (channels .entry))) ⌝ }
+{
+    if n == 0 {
+        return;
+    }
+    if p.event + p.channel == 0 {
+        unpack_plain(p, n, words, items);
+        clear_tags(n, events, channels);
+        return;
+    }
+    unpack_tagged(p, n, words, items, events, channels);
+}
+
+// The n items in the words, with their event and channel tags, under a format: how many there are, or the number of the first refusal of FORMAT,
+// COUNT and ROOM. They fill the first n places of the buffers; the other places stay, and after a refusal all do.
+pub fn unpack(
+    first: u32,
+    second: u32,
+    n: usize,
+    words: &[u32],
+    items: &mut [u64],
+    events: &mut [u8],
+    channels: &mut [u16],
+) -> Length
+    ensures { λ r. ⌜ Meets measured
+        (unpackOf first second n (now (words .entry)) (buffers (now (items .entry)) (now (events .entry)) (now (channels .entry))))
+        (buffers (now (items .entry)) (now (events .entry)) (now (channels .entry))) r
+        (buffers (now (items .exit)) (now (events .exit)) (now (channels .exit))) ⌝ }
+{
+    let checked = unpack_check(
+        first,
+        second,
+        n,
+        words.len(),
+        items.len(),
+        events.len(),
+        channels.len(),
+    );
+    if let Check::Refused(number) = checked {
+        return Length::Refused(number);
+    }
+    unpack_fields(packing_of(first), n, words, items, events, channels);
+    Length::Accepted(n)
+}
