@@ -92,7 +92,7 @@ fn check_headed(w: u32, words: &[u32]) -> words::Check
     check_prologue(w, words)
 }
 
-// What is refused before the body is looked at: EMPTY, and then those.
+// All that is refused before the body is looked at: EMPTY, and then TYPE, BITS, SHORT, CUT, CLASS and TIME.
 pub fn check_front(words: &[u32]) -> words::Check
     ensures { λ r. ⌜ checked r ≡ frontChecks (now (words .entry)) ⌝ }
 {

@@ -5,7 +5,8 @@ ghost use Rattle.panel.specs.Readings.{readingPaper};
 ghost use Rattle.vrt49.specs.Answers.{Gives, front};
 ghost use Rattle.vrt49.specs.Readings.{levelledOf, numbersShown, buffers, shown, panelRoom, readingGives, heldGives};
 
-// A reading as numbers: its kind, the parts and the whole hertz of a frequency, and a level, a temperature, or the stages of a gain; zero what it has not.
+// A reading as numbers. A frequency has its parts and its whole hertz; a level and a temperature have `first`; a gain has its two stages, `first` and `second`. The
+// numbers that a kind of reading has not are zero.
 pub struct Values {
     pub kind: u32,
     pub parts: u32,

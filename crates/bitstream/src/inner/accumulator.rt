@@ -27,7 +27,7 @@ fn carried_at(c: usize, words: &[u32], at: usize) -> u64
     words[at] as u64 >> (32 - c)
 }
 
-// At least w bits counted: where there are fewer, with the bits that the next word carries behind them.
+// The state with at least w bits: as it is where it has them, and else with the bits that the next word carries put behind those that it has.
 fn refill(c: usize, w: usize, s: Held, words: &[u32]) -> Held
     requires { ⌜ Takeable c w s (now words) ⌝ }
     ensures { λ r. ⌜ Refilled c w s (now (words .entry)) r ⌝ }
@@ -58,7 +58,8 @@ fn take(c: usize, w: usize, s: Held, words: &[u32]) -> Taken
     }
 }
 
-// The item of the next field, of f bits, which are the item and u bits to its right. The state counts u bits too many, so that one shift serves.
+// The item of the next field. The field has f bits: the item, and u bits to its right. The state says that it has u bits more than it has, so that shifting by
+// the bits left after the field cuts off those u bits too: one shift where there would be two.
 pub fn take_item(c: usize, f: usize, u: usize, s: Held, words: &[u32]) -> Taken
     requires { ⌜ Takeable c (f + u) s (now words) × (u < f) × (f ≤ 32) ⌝ }
     ensures { λ r. ⌜ TookItem c f u s (now (words .entry)) r ⌝ }
