@@ -8,41 +8,41 @@ use lib.Pow as Pow
 use Rattle.words.specs.Word.{highFirst}
 use Rattle.words.proofs.Cases.{le-or-lt}
 use Rattle.bitstream.specs.Stream.{bit, span}
-use Rattle.bitstream.specs.Carried.{carried, fieldOf, wordOf, needed}
+use Rattle.bitstream.specs.Carried.{streamBits, packingField, wordOf, needed}
 use Rattle.bitstream.proofs.SpanLaws.{split, inside, same, regroup, whole, blank, zero-bits}
 
-pub carried-below : (c : ℕ) (ws : List ℕ) (j : ℕ) → c ≤ 32 → getD ws j 0 < 2 ^ 32 → carried c ws j < 2 ^ c
-unfolding carried
+pub carried-below : (c : ℕ) (ws : List ℕ) (j : ℕ) → c ≤ 32 → getD ws j 0 < 2 ^ 32 → streamBits c ws j < 2 ^ c
+unfolding streamBits
 carried-below c ws j l h =
     let e : 32 ≡ c + (32 - c) = omega arith in
     shr-lt c (32 - c) (subst (λ (x : ℕ). getD ws j 0 < 2 ^ x) e h)
 
 -- a word whose other bits are 0 is what it carries
-carried-back : (c : ℕ) (ws : List ℕ) (j : ℕ) → getD ws j 0 % 2 ^ (32 - c) ≡ 0 → carried c ws j * 2 ^ (32 - c) ≡ getD ws j 0
-unfolding carried
+carried-back : (c : ℕ) (ws : List ℕ) (j : ℕ) → getD ws j 0 % 2 ^ (32 - c) ≡ 0 → streamBits c ws j * 2 ^ (32 - c) ≡ getD ws j 0
+unfolding streamBits
 carried-back c ws j u = omega (arith, Pow.split (getD ws j 0) (32 - c))
 
 -- ---- bits of the words, where they lie within one
-pub carried-all : (ws : List ℕ) (p n : ℕ) → span 32 (carried 32 ws) p n ≡ span 32 (λ j. getD ws j 0) p n
-unfolding carried
+pub carried-all : (ws : List ℕ) (p n : ℕ) → span 32 (streamBits 32 ws) p n ≡ span 32 (λ j. getD ws j 0) p n
+unfolding streamBits
 carried-all ws p n = ap (λ (g : ℕ → ℕ). span 32 g p n) (λ i j. div-one (getD ws j 0) i)
 
-pub carried-one : (c : ℕ) (ws : List ℕ) (i o n : ℕ) → c ≤ 32 → o + n ≤ c → span c (carried c ws) (i * c + o) n ≡ getD ws i 0 / 2 ^ (32 - (o + n)) % 2 ^ n
-unfolding carried
+pub carried-one : (c : ℕ) (ws : List ℕ) (i o n : ℕ) → c ≤ 32 → o + n ≤ c → span c (streamBits c ws) (i * c + o) n ≡ getD ws i 0 / 2 ^ (32 - (o + n)) % 2 ^ n
+unfolding streamBits
 carried-one c ws i o n l h =
     let e : 32 - c + (c - (o + n)) ≡ 32 - (o + n) = omega arith in
-    inside c (carried c ws) i o n h
+    inside c (streamBits c ws) i o n h
     ∙ ap (λ (x : ℕ). x % 2 ^ n) (shr-shr (getD ws i 0) (32 - c) (c - (o + n)))
     ∙ ap (λ (x : ℕ). getD ws i 0 / 2 ^ x % 2 ^ n) e
 
 -- ---- fields of whole words
 module _ (ws : List ℕ) (h : (j : ℕ) → getD ws j 0 < 2 ^ 32) (k : ℕ) where
-  pub field-word : fieldOf 32 32 ws k ≡ getD ws k 0
-  unfolding fieldOf
+  pub field-word : packingField 32 32 ws k ≡ getD ws k 0
+  unfolding packingField
   field-word = carried-all ws (32 * k) 32 ∙ ap (λ (x : ℕ). span 32 (λ j. getD ws j 0) x 32) (mul-comm 32 k) ∙ whole 32 (λ j. getD ws j 0) k (h k)
 
-  pub field-words : fieldOf 32 64 ws k ≡ highFirst (getD ws (2 * k) 0) (getD ws (2 * k + 1) 0)
-  unfolding fieldOf
+  pub field-words : packingField 32 64 ws k ≡ highFirst (getD ws (2 * k) 0) (getD ws (2 * k + 1) 0)
+  unfolding packingField
   field-words =
       let g : ℕ → ℕ = λ j. getD ws j 0 in
       let a : 64 * k ≡ 2 * k * 32 = omega arith in
@@ -78,10 +78,10 @@ room-at c a h w l pc k r = lt-of-mul-lt-mul-right c (omega (arith, mul-comm c a)
 
 -- ---- the round trip of fields, and of words
 pub field-back : (c f m n : ℕ) (g : ℕ → ℕ) (ws : List ℕ) → 0 < c → f * n ≤ m * c → ((j : ℕ) → j < m → getD ws j 0 ≡ wordOf c f g j)
-    → (k : ℕ) → k < n → g k < 2 ^ f → fieldOf c f ws k ≡ g k
-unfolding fieldOf wordOf carried
+    → (k : ℕ) → k < n → g k < 2 ^ f → packingField c f ws k ≡ g k
+unfolding packingField wordOf streamBits
 field-back c f m n g ws pc l e k h b =
-    same c m (carried c ws) (λ j. span f g (c * j) c) pc
+    same c m (streamBits c ws) (λ j. span f g (c * j) c) pc
     (λ j q. ap (λ (x : ℕ). x / 2 ^ (32 - c)) (e j q) ∙ shl-shr (span f g (c * j) c) (32 - c))
     (f * k) f (omega (arith, mul-le-mul-left f h, mul-add f k 1))
     ∙ regroup f c g pc (f * k) f
@@ -89,18 +89,18 @@ field-back c f m n g ws pc l e k h b =
     ∙ whole f g k b
 
 -- the stream of the fields g is that of the words, up to the end of field n - 1
-spans-back : (c f n : ℕ) (g : ℕ → ℕ) (ws : List ℕ) → 0 < f → ((k : ℕ) → k < n → g k ≡ fieldOf c f ws k)
-    → (p m : ℕ) → p + m ≤ n * f → span f g p m ≡ span c (carried c ws) p m
-unfolding fieldOf
-spans-back c f n g ws pf e p m l = same f n g (λ k. span c (carried c ws) (f * k) f) pf e p m l ∙ regroup c f (carried c ws) pf p m
+spans-back : (c f n : ℕ) (g : ℕ → ℕ) (ws : List ℕ) → 0 < f → ((k : ℕ) → k < n → g k ≡ packingField c f ws k)
+    → (p m : ℕ) → p + m ≤ n * f → span f g p m ≡ span c (streamBits c ws) p m
+unfolding packingField
+spans-back c f n g ws pf e p m l = same f n g (λ k. span c (streamBits c ws) (f * k) f) pf e p m l ∙ regroup c f (streamBits c ws) pf p m
 
 -- word j comes back where the bits past the last field are 0, and those that carry nothing
 pub word-back : (c f n : ℕ) (g : ℕ → ℕ) (ws : List ℕ) (j : ℕ) → 0 < f → 0 < c → c ≤ 32
-    → ((k : ℕ) → k < n → g k ≡ fieldOf c f ws k) → ((k : ℕ) → n ≤ k → g k ≡ 0)
-    → ((i : ℕ) → f * n ≤ i → bit c (carried c ws) i ≡ 0) → getD ws j 0 < 2 ^ 32 → getD ws j 0 % 2 ^ (32 - c) ≡ 0 → wordOf c f g j ≡ getD ws j 0
+    → ((k : ℕ) → k < n → g k ≡ packingField c f ws k) → ((k : ℕ) → n ≤ k → g k ≡ 0)
+    → ((i : ℕ) → f * n ≤ i → bit c (streamBits c ws) i ≡ 0) → getD ws j 0 < 2 ^ 32 → getD ws j 0 % 2 ^ (32 - c) ≡ 0 → wordOf c f g j ≡ getD ws j 0
 unfolding wordOf
 word-back c f n g ws j pf pc mc e z pad b u =
-    let G : ℕ → ℕ = carried c ws in
+    let G : ℕ → ℕ = streamBits c ws in
     let past : (p m : ℕ) → n * f ≤ p → span f g p m ≡ span c G p m =
     λ p m l. blank f n g pf z p m l ∙ sym (zero-bits c G (f * n) pad p m (omega (arith, mul-comm f n))) in
     let all : span f g (c * j) c ≡ span c G (c * j) c =

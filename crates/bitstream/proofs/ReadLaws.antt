@@ -5,7 +5,7 @@ use native.Mathlib.Nat.{mul-comm, mul-add}
 use lib.Arith.{digits-lt}
 use lib.Pow.{pow-add, pow-mono, shr-shr, field}
 use Rattle.bitstream.specs.Stream.{span}
-use Rattle.bitstream.specs.Carried.{carried}
+use Rattle.bitstream.specs.Carried.{streamBits}
 use Rattle.bitstream.proofs.SpanLaws.{split, whole, none}
 use Rattle.bitstream.proofs.AccumulatorLaws.{append-below, appended, taken, left}
 use Rattle.bitstream.proofs.CarriedLaws.{room-at}
@@ -15,12 +15,12 @@ use Rattle.bitstream.specs.Accumulator.{Ahead, AheadBy, Takeable, Refill
 
 -- nothing is held yet
 pub ahead-none : (c : ℕ) (ws : List ℕ) (p : ℕ) → p ≡ 0 → Ahead c ws (record { acc = 0; have = 0; at = 0 }) p
-ahead-none c ws p e = record { place = omega arith; held = sym (none c (carried c ws) p) }
+ahead-none c ws p e = record { place = omega arith; held = sym (none c (streamBits c ws) p) }
 
 pub ahead-by-none : (c : ℕ) (ws : List ℕ) (u p : ℕ) → p ≡ 0 → AheadBy c ws u (record { acc = 0; have = u; at = 0 }) p
 ahead-by-none c ws u p e =
     let z : u - u ≡ 0 = omega arith in
-    record { over = omega arith; place = omega arith; held = rw z (sym (none c (carried c ws) p)) }
+    record { over = omega arith; place = omega arith; held = rw z (sym (none c (streamBits c ws) p)) }
 
 -- no bits too many
 ahead-by : {c : ℕ} {ws : List ℕ} {s : Held} {p : ℕ} → Ahead c ws s p → AheadBy c ws 0 s p
@@ -38,14 +38,14 @@ refill-below c w s ws d t b = append-below (s .acc) d c 64 (omega arith) b
 pub refilled-same : (c w : ℕ) (s : Held) (ws : List ℕ) → Takeable c w s ws → w ≤ s .have → Refilled c w s ws s
 refilled-same c w s ws t l = record { enough = l; most = t .few; place = refl; keeps = λ u p h a. a }
 
-pub refilled : (c w : ℕ) (s : Held) (ws : List ℕ) (d : ℕ) → Takeable c w s ws → s .have < w → d ≡ carried c ws (s .at) → d < 2 ^ c
+pub refilled : (c w : ℕ) (s : Held) (ws : List ℕ) (d : ℕ) → Takeable c w s ws → s .have < w → d ≡ streamBits c ws (s .at) → d < 2 ^ c
     → Refilled c w s ws (record { acc = (s .acc * 2 ^ c) % 2 ^ 64 + d; have = s .have + c; at = s .at + 1 })
 refilled c w s ws d t l e b = record {
   enough = t .part;
   most = omega arith;
   place = omega (arith, mul-add c (s .at) 1);
   keeps = λ u p h a.
-      let g : ℕ → ℕ = carried c ws in
+      let g : ℕ → ℕ = streamBits c ws in
       let m : ℕ = s .have - u in
       let z : s .have + c - u ≡ m + c = omega (arith, a .over) in
       let y : s .at * c ≡ p + m = omega (arith, a .place, a .over, mul-comm c (s .at)) in
@@ -65,7 +65,7 @@ took c w s h ws v l r e b = record {
   few = omega arith;
   place = omega arith;
   keeps = λ p a.
-      let g : ℕ → ℕ = carried c ws in
+      let g : ℕ → ℕ = streamBits c ws in
       let k = r .keeps 0 p (omega arith) (ahead-by a) in
       let z : h .have - 0 ≡ h .have = omega arith in
       let held : h .acc % 2 ^ h .have ≡ span c g p (h .have) = rw z at (k .held) in (
@@ -80,7 +80,7 @@ pub took-item : (c f u : ℕ) (s h : Held) (ws : List ℕ) (v : ℕ) → u < f �
 took-item c f u s h ws v l r e = record {
   few = omega (arith, r .enough, r .most);
   keeps = λ p m a.
-      let g : ℕ → ℕ = carried c ws in
+      let g : ℕ → ℕ = streamBits c ws in
       let k = r .keeps u p m a in
       let b : ℕ = h .have - u in
       let x : ℕ = h .acc / 2 ^ (b - f) in
@@ -110,7 +110,7 @@ took-twice c f a b s ws x y e t u = record {
   few = u .few;
   place = omega (arith, t .place, u .place);
   keeps = λ p h.
-      let g : ℕ → ℕ = carried c ws in
+      let g : ℕ → ℕ = streamBits c ws in
       let i = t .keeps p h in
       let j = u .keeps (p + a) (i .1) in
       let q : p + a + b ≡ p + f = omega arith in (

@@ -3,7 +3,7 @@
 -- enough.
 use Rattle.words.specs.Kit.{_≡_, List, ℕ, _+_, _-_, _*_, _/_, _%_, _^_, _≤_, _<_, length, set}
 use Rattle.bitstream.specs.Stream.{span}
-use Rattle.bitstream.specs.Carried.{carried, wordOf}
+use Rattle.bitstream.specs.Carried.{streamBits, wordOf}
 use Rattle.bitstream.specs.Filled.{filled}
 use Rattle.bitstream.specs.declared.inner.accumulator.Held.{Held}
 use Rattle.bitstream.specs.declared.inner.accumulator.Taken.{Taken}
@@ -13,13 +13,13 @@ use Rattle.bitstream.specs.declared.inner.accumulator.Taken.{Taken}
 -- s holds the bits of the words' stream from bit p up to word `at`
 pub record Ahead (c : ℕ) (ws : List ℕ) (s : Held) (p : ℕ) : Type 0 where
   pub place : c * s .at ≡ p + s .have
-  pub held : s .acc % 2 ^ s .have ≡ span c (carried c ws) p (s .have)
+  pub held : s .acc % 2 ^ s .have ≡ span c (streamBits c ws) p (s .have)
 
 -- the same where s counts u bits too many
 pub record AheadBy (c : ℕ) (ws : List ℕ) (u : ℕ) (s : Held) (p : ℕ) : Type 0 where
   pub over : u ≤ s .have
   pub place : c * s .at + u ≡ p + s .have
-  pub held : s .acc % 2 ^ (s .have - u) ≡ span c (carried c ws) p (s .have - u)
+  pub held : s .acc % 2 ^ (s .have - u) ≡ span c (streamBits c ws) p (s .have - u)
 
 -- w bits can be counted: they are, or the next word has enough more
 pub record Takeable (c w : ℕ) (s : Held) (ws : List ℕ) : Type 0 where
@@ -45,12 +45,12 @@ pub record Took (c w : ℕ) (s : Held) (ws : List ℕ) (r : Taken) : Type 0 wher
   pub below : r .value < 2 ^ w
   pub few : r .have < c
   pub place : c * r .at + s .have ≡ c * s .at + r .have + w
-  pub keeps : (p : ℕ) → Ahead c ws s p → (r .value ≡ span c (carried c ws) p w) × Ahead c ws (heldOf r) (p + w)
+  pub keeps : (p : ℕ) → Ahead c ws s p → (r .value ≡ span c (streamBits c ws) p w) × Ahead c ws (heldOf r) (p + w)
 
 -- a field of f bits was taken, of which u bits at the right are left out; u bits too many are counted before and after
 pub record TookItem (c f u : ℕ) (s : Held) (ws : List ℕ) (r : Taken) : Type 0 where
   pub few : r .have < u + c
-  pub keeps : (p : ℕ) → s .have < u + c → AheadBy c ws u s p → (r .value ≡ span c (carried c ws) p f / 2 ^ u) × AheadBy c ws u (heldOf r) (p + f)
+  pub keeps : (p : ℕ) → s .have < u + c → AheadBy c ws u s p → (r .value ≡ span c (streamBits c ws) p f / 2 ^ u) × AheadBy c ws u (heldOf r) (p + f)
 
 -- a field of f bits can be taken
 pub record FieldTakeable (c f : ℕ) (s : Held) (ws : List ℕ) : Type 0 where

@@ -4,12 +4,12 @@ use Rattle.words.specs.Kit.{ℕ, _+_, _-_, _*_, _/_, _^_, List, getD}
 use Rattle.bitstream.specs.Stream.{span}
 
 -- the bits of word j that carry the stream; past the last word they are 0
-unfoldable pub carried : ℕ → List ℕ → ℕ → ℕ
-carried c ws j = getD ws j 0 / 2 ^ (32 - c)
+unfoldable pub streamBits : ℕ → List ℕ → ℕ → ℕ
+streamBits c ws j = getD ws j 0 / 2 ^ (32 - c)
 
 -- reading: packing field k, of f bits, in the words ws
-unfoldable pub fieldOf : ℕ → ℕ → List ℕ → ℕ → ℕ
-fieldOf c f ws k = span c (carried c ws) (f * k) f
+unfoldable pub packingField : ℕ → ℕ → List ℕ → ℕ → ℕ
+packingField c f ws k = span c (streamBits c ws) (f * k) f
 
 -- writing: word j of the packing fields g; the bits that carry nothing are 0
 unfoldable pub wordOf : ℕ → ℕ → (ℕ → ℕ) → ℕ → ℕ

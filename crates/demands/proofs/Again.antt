@@ -21,8 +21,9 @@ use Rattle.packet.specs.Header.{typeOf, classed, trailed, tsmOf, reservedOf, ts
 use Rattle.packet.specs.Parts.{streamed, hasSeconds, hasFraction, classAt, secondsAt, fractionAt, bodyAt, requiredOf, bodyLength, wordIf, classHigh, classLow}
 use Rattle.packet.specs.Parts.{fractionOf, partsOf, bodyOf, packetOf}
 use Rattle.packet.specs.Read.{headerList, prologueList, headerChecks, timeOver, prologueChecks, bodyChecks, readOf}
-use Rattle.packet_write.specs.Write.{bit, headerWidths, headerWord, sizeFor, given, classWord, headWords, classWords, timeWords, prologueWords, trailerWords}
-use Rattle.packet_write.specs.Write.{packetWords, codesFit, flagsFit, classFits, partsFit, writeList, partsChecks, measureChecks, roomChecks, writeChecks, writeOf}
+use Rattle.packet_write.specs.Write.{bit, headerWidths, headerWord, sizeFor, given, classWord, leadingWords, classWords, timeWords, prologueWords, trailerWords}
+use Rattle.packet_write.specs.Write.{packetWords, codesFit, flagsFit, classFits, partsFit}
+use Rattle.packet_write.specs.Write.{writeList, partsChecks, measureChecks, roomChecks, writeChecks, writeOf}
 use Rattle.packet.proofs.RoomLaws.{Room, room}
 use Rattle.packet.proofs.ReadLaws.{Passed, sized, read-accepts}
 use Rattle.packet_write.proofs.FitLaws.{parts-fit, nothing-refused}
@@ -147,8 +148,8 @@ module _ (ws : List ℕ) (small : (i : ℕ) → getD ws i 0 < 2 ^ 32) (p : Packe
   unfolding prologueChecks
   class-clear = eqb-true _ 0 (not-false _ (first-passed (prologueList w ws) _ tt (passes .prologue) .0 .0))
 
-  head-again : headWords w P ≡ take (classAt w) ws
-  unfolding headWords partsOf classAt
+  head-again : leadingWords w P ≡ take (classAt w) ws
+  unfolding leadingWords partsOf classAt
   head-again =
       ap (λ (l : List ℕ). l ++ given (streamed w) (wordIf (streamed w) 1 ws ∷ [])) (first-word ws (read-accepts ws p e .some))
       ∙ one-more ws 1 (streamed w) (lies .identifier)
@@ -206,7 +207,7 @@ module _ (ws : List ℕ) (small : (i : ℕ) → getD ws i 0 < 2 ^ 32) (p : Packe
       ∙ rw (header-is, body-length) (omega (arith, fills .around))
 
   -- the packet's words, written again, are those that were read
-  pub packet-again : packetWords (p .parts) (part (p .body) (p .length) ws) ≡ take (p .size) ws
+  pub packet-again : packetWords (p .parts) (part (p .place) (p .length) ws) ≡ take (p .size) ws
   unfolding packetWords packetOf bodyOf
   packet-again =
       rw (← read-accepts ws p e .says)
@@ -243,7 +244,7 @@ module _ (ws : List ℕ) (small : (i : ℕ) → getD ws i 0 < 2 ^ 32) (p : Packe
 
   -- written again anywhere where there is room, it gives its words
   pub written-again : (out : List ℕ) (at : ℕ) → at + p .size ≤ length out
-      → writeOf (p .parts) (part (p .body) (p .length) ws) out at
+      → writeOf (p .parts) (part (p .place) (p .length) ws) out at
       ≡ accepted (record { says = p .size; leaves = take at out ++ take (p .size) ws ++ drop (at + p .size) out })
   unfolding writeOf writeChecks packetOf bodyOf
   written-again out at h =

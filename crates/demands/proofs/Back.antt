@@ -17,7 +17,8 @@ use Rattle.packet.specs.Header.{classed, trailed, sizeOf}
 use Rattle.packet.specs.Parts.{streamed, hasSeconds, hasFraction, classAt, secondsAt, fractionAt, bodyAt, requiredOf, bodyLength, wordIf, classHigh, classLow}
 use Rattle.packet.specs.Parts.{fractionOf, partsOf, bodyOf, packetOf}
 use Rattle.packet.specs.Read.{headerChecks, sizeChecks, timeOver, prologueChecks, readOf}
-use Rattle.packet_write.specs.Write.{headerWord, sizeFor, given, classWord, headWords, classWords, timeWords, prologueWords, trailerWords, packetWords, plainParts}
+use Rattle.packet_write.specs.Write.{headerWord, sizeFor, given, classWord, leadingWords}
+use Rattle.packet_write.specs.Write.{classWords, timeWords, prologueWords, trailerWords, packetWords, plainParts}
 use Rattle.packet_write.specs.Write.{classFits, writeList, writeChecks, writeOf}
 use Rattle.packet_write.proofs.FitLaws.{Fits, parts-fit, Writable, writable}
 use Rattle.packet.proofs.RoomLaws.{body-past}
@@ -50,17 +51,17 @@ found-last ws before rest false x size e l = refl
 
 -- ---- the numbers of two words, back from the words
 
-class-back : (t : Bool) (oui information packet : ℕ) → classFits t oui information packet ≡ true
+class-back : (t : Bool) (oui information code : ℕ) → classFits t oui information code ≡ true
     → (bits 31 24 (when t oui) ≡ 0) × (bits 23 0 (when t oui) ≡ when t oui)
-    × (bits 31 16 (when t (classWord information packet)) ≡ when t information) × (bits 15 0 (when t (classWord information packet)) ≡ when t packet)
+    × (bits 31 16 (when t (classWord information code)) ≡ when t information) × (bits 15 0 (when t (classWord information code)) ≡ when t code)
 unfolding classFits classWord join
-class-back true oui information packet e =
+class-back true oui information code e =
     let o = ltb-true oui (2 ^ 24) (both-left (ltb oui (2 ^ 24)) _ e) in
     let rest = both-right (ltb oui (2 ^ 24)) _ e in
     let i = ltb-true information (2 ^ 16) (both-left (ltb information (2 ^ 16)) _ rest) in
-    let k = ltb-true packet (2 ^ 16) (both-right (ltb information (2 ^ 16)) _ rest) in
+    let k = ltb-true code (2 ^ 16) (both-right (ltb information (2 ^ 16)) _ rest) in
     (omega arith, omega arith, omega arith, omega arith)
-class-back false oui information packet e = (refl, refl, refl, refl)
+class-back false oui information code e = (refl, refl, refl, refl)
 
 fraction-back : (t : Bool) (fraction : ℕ) → highFirst (when t (fraction / 2 ^ 32)) (when t (fraction % 2 ^ 32)) ≡ when t fraction
 fraction-back true fraction = omega arith
@@ -87,50 +88,50 @@ module _ (p : Parts) (body more : List ℕ) (room at : ℕ) (may : Writable p bo
   fits : Fits p
   fits = parts-fit p (may .fit)
 
-  class-fits : classFits (classed W) (p .oui) (p .information) (p .packet) ≡ true
+  class-fits : classFits (classed W) (p .oui) (p .information) (p .code) ≡ true
   class-fits = rw (classed-is p size (may .kind) fits (may .small)) (fits .class)
 
   first-is : getD Ws 0 0 ≡ W
-  unfolding packetWords prologueWords headWords
+  unfolding packetWords prologueWords leadingWords
   first-is = refl
 
   identifier-back : wordIf (streamed W) 1 Ws ≡ when (streamed W) (p .identifier)
-  unfolding packetWords prologueWords headWords
+  unfolding packetWords prologueWords leadingWords
   identifier-back =
       found-one Ws (W ∷ []) (classWords W p ++ (timeWords W p ++ (body ++ (trailerWords W p ++ more)))) (streamed W) (p .identifier) 1 (simp append-assoc) refl
 
-  head-at : length (headWords W p) ≡ classAt W
+  head-at : length (leadingWords W p) ≡ classAt W
   unfolding classAt
   head-at = head-length W p
 
-  class-words-back : (classHigh W Ws ≡ when (classed W) (p .oui)) × (classLow W Ws ≡ when (classed W) (classWord (p .information) (p .packet)))
+  class-words-back : (classHigh W Ws ≡ when (classed W) (p .oui)) × (classLow W Ws ≡ when (classed W) (classWord (p .information) (p .code)))
   unfolding classHigh classLow packetWords prologueWords classWords
   class-words-back =
-      found-two Ws (headWords W p) (timeWords W p ++ (body ++ (trailerWords W p ++ more))) (classed W) (p .oui) (classWord (p .information) (p .packet))
+      found-two Ws (leadingWords W p) (timeWords W p ++ (body ++ (trailerWords W p ++ more))) (classed W) (p .oui) (classWord (p .information) (p .code))
       (classAt W) (simp append-assoc) head-at
 
-  class-at : length (headWords W p ++ classWords W p) ≡ secondsAt W
+  class-at : length (leadingWords W p ++ classWords W p) ≡ secondsAt W
   unfolding secondsAt
   class-at = simp length-append (omega (arith, head-at, class-length W p))
 
   seconds-back : wordIf (hasSeconds W) (secondsAt W) Ws ≡ when (hasSeconds W) (p .seconds)
   unfolding packetWords prologueWords timeWords
   seconds-back =
-      found-one Ws (headWords W p ++ classWords W p)
+      found-one Ws (leadingWords W p ++ classWords W p)
       (given (hasFraction W) (p .fraction / 2 ^ 32 ∷ p .fraction % 2 ^ 32 ∷ []) ++ (body ++ (trailerWords W p ++ more)))
       (hasSeconds W) (p .seconds) (secondsAt W) (simp append-assoc) class-at
 
-  seconds-at : length (headWords W p ++ classWords W p ++ given (hasSeconds W) (p .seconds ∷ [])) ≡ fractionAt W
+  seconds-at : length (leadingWords W p ++ classWords W p ++ given (hasSeconds W) (p .seconds ∷ [])) ≡ fractionAt W
   unfolding fractionAt
   seconds-at =
-      length-append (headWords W p ++ classWords W p) (given (hasSeconds W) (p .seconds ∷ []))
+      length-append (leadingWords W p ++ classWords W p) (given (hasSeconds W) (p .seconds ∷ []))
       ∙ omega (arith, class-at, length-given (hasSeconds W) (p .seconds ∷ []))
 
   fraction-words-back : (wordIf (hasFraction W) (fractionAt W) Ws ≡ when (hasFraction W) (p .fraction / 2 ^ 32))
       × (wordIf (hasFraction W) (fractionAt W + 1) Ws ≡ when (hasFraction W) (p .fraction % 2 ^ 32))
   unfolding packetWords prologueWords timeWords
   fraction-words-back =
-      found-two Ws (headWords W p ++ classWords W p ++ given (hasSeconds W) (p .seconds ∷ [])) (body ++ (trailerWords W p ++ more))
+      found-two Ws (leadingWords W p ++ classWords W p ++ given (hasSeconds W) (p .seconds ∷ [])) (body ++ (trailerWords W p ++ more))
       (hasFraction W) (p .fraction / 2 ^ 32) (p .fraction % 2 ^ 32) (fractionAt W) (simp append-assoc) seconds-at
 
   fraction-is : fractionOf W Ws ≡ when (hasFraction W) (p .fraction)
@@ -152,7 +153,7 @@ module _ (p : Parts) (body more : List ℕ) (room at : ℕ) (may : Writable p bo
   parts-back : partsOf W Ws ≡ plainParts W p
   unfolding partsOf plainParts
   parts-back =
-      let c = class-back (classed W) (p .oui) (p .information) (p .packet) class-fits in
+      let c = class-back (classed W) (p .oui) (p .information) (p .code) class-fits in
       let k = may .kind in
       let z = may .small in
       rw (identifier-back, class-words-back .0, class-words-back .1, c .1, c .2, c .3, seconds-back, fraction-is, trailer-back)
@@ -187,7 +188,7 @@ module _ (p : Parts) (body more : List ℕ) (room at : ℕ) (may : Writable p bo
   prologue-passes : prologueChecks W Ws ≡ accepted tt
   unfolding prologueChecks
   prologue-passes =
-      let c = class-back (classed W) (p .oui) (p .information) (p .packet) class-fits in
+      let c = class-back (classed W) (p .oui) (p .information) (p .code) class-fits in
       rw (class-words-back .0, c .0, fraction-is, tsf-is p size (may .kind) fits (may .small), time-back (hasFraction W) (p .tsf) (p .fraction) (may .time))
 
   body-is : bodyOf W Ws ≡ body
@@ -203,7 +204,7 @@ module _ (p : Parts) (body more : List ℕ) (room at : ℕ) (may : Writable p bo
   }
 
   -- it is read back, absent parts zero
-  pub read-back : readOf Ws ≡ accepted (record { parts = plainParts W p; size = size; body = bodyAt W; length = length body })
+  pub read-back : readOf Ws ≡ accepted (record { parts = plainParts W p; size = size; place = bodyAt W; length = length body })
   unfolding packetOf
   read-back =
       let some : 0 < length Ws = omega (arith, length-append (packetWords p body) more, packet-length p body room at may, size-parts, body-past W) in
@@ -212,7 +213,7 @@ module _ (p : Parts) (body more : List ℕ) (room at : ℕ) (may : Writable p bo
 -- ---- what writing leaves, read from its place on
 pub written-back : (p : Parts) (body out : List ℕ) (at : ℕ) (d : Done ℕ (List ℕ)) → writeOf p body out at ≡ accepted d
     → let w = headerWord p (sizeFor p (length body)) in
-    (readOf (drop at (d .leaves)) ≡ accepted (record { parts = plainParts w p; size = d .says; body = bodyAt w; length = length body }))
+    (readOf (drop at (d .leaves)) ≡ accepted (record { parts = plainParts w p; size = d .says; place = bodyAt w; length = length body }))
     × (part (bodyAt w) (length body) (drop at (d .leaves)) ≡ body)
 unfolding writeOf writeChecks
 written-back p body out at d e =

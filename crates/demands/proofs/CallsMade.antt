@@ -7,7 +7,7 @@ use Rattle.words.specs.Outcome.{accepted, measured, saidOf, Meets}
 use Rattle.words.proofs.MeetLaws.{meets-accepted}
 use Rattle.table.specs.Layout.{base}
 use Rattle.play.specs.declared.Played.{Played}
-use Rattle.play.specs.Play.{paper}
+use Rattle.play.specs.Play.{playedPaper}
 use Rattle.page.specs.Save.{saveOf}
 use Rattle.page.specs.PutBack.{putBackOf}
 use Rattle.demands.specs.Demands.{ours, Right, layoutOf, playAll, saidAll, Resumes}
@@ -24,7 +24,7 @@ started ids lent t m =
     rw (k .leaves) (right-start ids lent (k .done) (k .wants))
 
 played : {t last : List ℕ} {packets : List (List ℕ)} {rs : List Played} → PlaysMade t packets rs last
-    → (last ≡ playAll ours t packets) × (map paper rs ≡ saidAll ours t packets)
+    → (last ≡ playAll ours t packets) × (map playedPaper rs ≡ saidAll ours t packets)
 played none = (refl, refl)
 played (next {t} {ws} {after} {last} {packets} {r} {rs} m p) =
     let k = played p in
@@ -58,17 +58,17 @@ module _ (ids lent t middle page room back : List ℕ) (first rest : List (List 
     on : last ≡ playAll ours (again .done .leaves) rest
     on = played p .0 ∙ ap (λ (u : List ℕ). playAll ours u rest) put-back
 
-    said-on : map paper answers ≡ saidAll ours (again .done .leaves) rest
+    said-on : map playedPaper answers ≡ saidAll ours (again .done .leaves) rest
     said-on = played p .1 ∙ ap (λ (u : List ℕ). saidAll ours u rest) put-back
 
     pub resumed : Ruled ids first rest answers last
     resumed = record { table = rw on (again .right); said = said-on ∙ again .answers }
 
     pub as-unbroken : (whole : List ℕ) (all : List Played) → PlaysMade t (first ++ rest) all whole
-        → (layoutOf ids last ≡ layoutOf ids whole) × (map paper all ≡ map paper (heard ++ answers))
+        → (layoutOf ids last ≡ layoutOf ids whole) × (map playedPaper all ≡ map playedPaper (heard ++ answers))
     as-unbroken whole all q = (
       ap (layoutOf ids) on ∙ again .same-table ∙ ap (layoutOf ids) (sym (played q .0)),
-      played q .1 ∙ again .same-answers ∙ sym (map-append paper heard answers ∙ rw (played b .1, said-on)),
+      played q .1 ∙ again .same-answers ∙ sym (map-append playedPaper heard answers ∙ rw (played b .1, said-on)),
     )
 
 pub demand-3-made : Demand3Made

@@ -10,7 +10,7 @@ use Rattle.words.proofs.Cases.{true-or-false}
 use Rattle.words.proofs.BitLaws.{word-same}
 use Rattle.words.proofs.PartLaws.{part-length, getD-part, part-whole}
 use Rattle.record.specs.Held.{heldMask, holds, heldBits, slotAt}
-use Rattle.record.specs.Layout.{headWords, slotWords, recordWords, identifierOf, heldOf, orderOf, countOf, slotIn, slotsOf, slotOf}
+use Rattle.record.specs.Layout.{headWords, slotWords, recordWords, identifierOf, heldOf, orderOf, countWords, slotIn, slotsOf, slotOf}
 use Rattle.record.specs.Good.{recordGood, Good}
 use Rattle.record.proofs.SlotLaws.{in-order-same, in-order-parts, slots-whole}
 use Rattle.record.proofs.GoodLaws.{good-of}
@@ -42,11 +42,11 @@ same-word i r q h g e =
 
 -- ---- what is held or not
 
-same-test : (x y : Bool) (v w : List ℕ) → pick x (some v) none ≡ pick y (some w) none → x ≡ y
-same-test true true v w e = refl
-same-test true false v w e = absurd (Option·none-ne-some v (sym e))
-same-test false true v w e = absurd (Option·none-ne-some w e)
-same-test false false v w e = refl
+same-held : (x y : Bool) (v w : List ℕ) → pick x (some v) none ≡ pick y (some w) none → x ≡ y
+same-held true true v w e = refl
+same-held true false v w e = absurd (Option·none-ne-some v (sym e))
+same-held false true v w e = absurd (Option·none-ne-some w e)
+same-held false false v w e = refl
 
 same-value : (x y : Bool) (v w : List ℕ) → x ≡ true → pick x (some v) none ≡ pick y (some w) none → v ≡ w
 same-value true true v w t e = Option·some-injective v w e
@@ -65,7 +65,7 @@ module _ (r q : List ℕ) (lr : length r ≡ recordWords) (lq : length q ≡ rec
   Q = good-of q lq gq
 
   same-bit : (b : ℕ) → has (heldOf r) b ≡ has (heldOf q) b
-  same-bit b = same-test (has (heldOf r) b) (has (heldOf q) b) (slotOf b r) (slotOf b q) (held b)
+  same-bit b = same-held (has (heldOf r) b) (has (heldOf q) b) (slotOf b r) (slotOf b q) (held b)
 
   same-held : heldOf r ≡ heldOf q
   same-held = word-same 31 (heldOf r) (heldOf q) (R .small) (Q .small) (λ b h. same-bit b)
@@ -86,8 +86,9 @@ module _ (r q : List ℕ) (lr : length r ≡ recordWords) (lq : length q ≡ rec
       ∙ in-order-same 31 heldMask _ _ (λ b h o. same-slot b o)
       ∙ in-order-parts 31 heldMask (slotsOf q) (slots-sized q lq ∙ sym slots-whole)
 
-  pub record-by : identifierOf r ≡ identifierOf q → ((kind : ℕ) → among kind countedTypes ≡ true → countOf (orderOf kind) r ≡ countOf (orderOf kind) q) → r ≡ q
-  unfolding countOf orderOf slotsOf
+  pub record-by : identifierOf r ≡ identifierOf q
+      → ((kind : ℕ) → among kind countedTypes ≡ true → countWords (orderOf kind) r ≡ countWords (orderOf kind) q) → r ≡ q
+  unfolding countWords orderOf slotsOf
   record-by i counts =
       let words = same-join 0 1 1 r q (same-word 0 r q (omega arith) (omega arith) i) (same-word 1 r q (omega arith) (omega arith) same-held) in
       let first = same-join 0 2 3 r q words (counts 1 refl) in
@@ -102,7 +103,7 @@ module _ (r q : List ℕ) (lr : length r ≡ recordWords) (lq : length q ≡ rec
 -- two right tables have the same records, where the rules say the same of the streams
 pub records-same : (ids : List ℕ) (ps qs : List (List ℕ)) (t u : List ℕ) (p : Right ids ps t) (q : Right ids qs u) (s : ℕ) (h : s < length ids)
     → ((b : ℕ) → heldIn b (recordAt s t) ≡ heldIn b (recordAt s u))
-    → ((kind : ℕ) → among kind countedTypes ≡ true → countOf (orderOf kind) (recordAt s t) ≡ countOf (orderOf kind) (recordAt s u))
+    → ((kind : ℕ) → among kind countedTypes ≡ true → countWords (orderOf kind) (recordAt s t) ≡ countWords (orderOf kind) (recordAt s u))
     → recordAt s t ≡ recordAt s u
 records-same ids ps qs t u p q s h held counts =
     record-by (recordAt s t) (recordAt s u) (record-whole ids t (right-listed p) s h) (record-whole ids u (right-listed q) s h)

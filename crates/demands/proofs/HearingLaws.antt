@@ -31,7 +31,7 @@ use Rattle.demands.specs.Trace.{Arrival, placeIn, arrivalList, arrivalOf
 
 -- ---- what a heard packet is
 
-pub record Fine (ids : List ℕ) (a : Arrival) : Type 0 where
+pub record Heeded (ids : List ℕ) (a : Arrival) : Type 0 where
   pub stream : a .stream < length ids
   pub count : a .count < 16
   pub kind : among (a .kind) countedTypes ≡ true
@@ -53,7 +53,7 @@ read-type ws p e =
     let k = read-accepts ws p e in
     rw (← k .says) (ltb-false 5 (typeOf (getD ws 0 0)) (first-passed (headerList (getD ws 0 0)) _ tt (k .passes .header) .0 .0))
 
-pub heard-fine : (ids ws : List ℕ) (a : Arrival) → heardBy ids ws ≡ accepted a → Fine ids a
+pub heard-fine : (ids ws : List ℕ) (a : Arrival) → heardBy ids ws ≡ accepted a → Heeded ids a
 unfolding heardBy arrivalOf
 heard-fine ids ws a e =
     let k = onward-passed (readOf ws) (arrivalOf ids ws) a e in
@@ -121,7 +121,7 @@ module _ (ids t : List ℕ) (l : Listed ids t) where
   record-whole s h = record-length s t (has-record s h)
 
   -- the records afterwards
-  module _ (a : Arrival) (f : Fine ids a) where
+  module _ (a : Arrival) (f : Heeded ids a) where
     new-whole : length (recordOn t a) ≡ recordWords
     new-whole = after-length (a .kind) (a .count) (a .body) (recordAt (a .stream) t) (record-whole (a .stream) (f .stream)) (f .body)
 

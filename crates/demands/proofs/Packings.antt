@@ -7,7 +7,7 @@ use lib.Arith.{digits-div}
 use Rattle.words.specs.Word.{highFirst}
 use Rattle.fields.specs.Format.{packingSize}
 use Rattle.bitstream.specs.Stream.{span}
-use Rattle.bitstream.specs.Carried.{carried, fieldOf, needed}
+use Rattle.bitstream.specs.Carried.{streamBits, packingField, needed}
 use Rattle.bitstream.proofs.CarriedLaws.{carried-one, carried-all, field-words}
 use Rattle.bitstream.proofs.BigNumber.{value, by-value}
 use Rattle.payload_format.specs.Format.{linkEfficient, carriedBits, packingOf}
@@ -24,7 +24,7 @@ module _ (first : ℕ) (link : linkEfficient first ≡ true) where
   -- "Link-efficient fields of f bits follow without a gap": field k is the f bits from bit f * k on, of the words as one number
   pub linked : (k : ℕ) (ws : List ℕ) → ((j : ℕ) → getD ws j 0 < 2 ^ 32) → packingSize first * k + packingSize first ≤ length ws * 32
       → fieldIn (packingOf first) ws k ≡ value ws / 2 ^ (length ws * 32 - (packingSize first * k + packingSize first)) % 2 ^ packingSize first
-  unfolding fieldOf packingOf
+  unfolding packingField packingOf
   linked k ws h l =
       rw all-carried (carried-all ws (packingSize first * k) (packingSize first) ∙ by-value ws h (packingSize first * k) (packingSize first) l)
 
@@ -35,13 +35,13 @@ module _ (first : ℕ) (link : linkEfficient first ≡ true) where
 
 -- ---- processing-efficient, at most 32 bits
 module _ (m f : ℕ) (hf : 0 < f) (hm : 0 < m) (l : m * f ≤ 32) where
-  several : (k : ℕ) (ws : List ℕ) → fieldOf (m * f) f ws k ≡ getD ws (k / m) 0 / 2 ^ (32 - (k % m * f + f)) % 2 ^ f
-  unfolding fieldOf
+  several : (k : ℕ) (ws : List ℕ) → packingField (m * f) f ws k ≡ getD ws (k / m) 0 / 2 ^ (32 - (k % m * f + f)) % 2 ^ f
+  unfolding packingField
   several k ws =
       let q : f * k ≡ k / m * (m * f) + k % m * f =
       mul-comm f k ∙ ap (λ (x : ℕ). x * f) (sym (div-add-mod' k m)) ∙ add-mul (k / m * m) (k % m) f ∙ ap (λ (x : ℕ). x + k % m * f) (mul-assoc (k / m) m f) in
       let o : k % m * f + f ≤ m * f = omega (arith, mul-le-mul-right f (mod-lt k hm), suc-mul (k % m) f) in
-      ap (λ (x : ℕ). span (m * f) (carried (m * f) ws) x f) q
+      ap (λ (x : ℕ). span (m * f) (streamBits (m * f) ws) x f) q
       ∙ carried-one (m * f) ws (k / m) (k % m * f) f l o
 
   several-words : (n : ℕ) → needed (m * f) f n ≡ (n + (m - 1)) / m

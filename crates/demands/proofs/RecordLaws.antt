@@ -12,7 +12,7 @@ use Rattle.words.proofs.Cases.{true-or-false, true-is-false, same-or-not, both-
 use Rattle.words.proofs.SetBitLaws.{has-above}
 use Rattle.fields.specs.Layout.{indicatorOf, fieldOf}
 use Rattle.record.specs.Held.{holds}
-use Rattle.record.specs.Layout.{recordWords, heldOf, orderOf, countOf, slotOf}
+use Rattle.record.specs.Layout.{recordWords, heldOf, orderOf, countWords, slotOf}
 use Rattle.record.specs.Counts.{countedOf}
 use Rattle.record.specs.After.{slotAfter, recordAfter}
 use Rattle.record.specs.Good.{recordGood}
@@ -23,7 +23,7 @@ use Rattle.record.proofs.PacketLaws.{order-small, after-length, after-slot, aft
 use Rattle.table.specs.Start.{freshRecord}
 use Rattle.demands.specs.Trace.{Arrival, kept, valueCarried, orElse, countedTypes}
 use Rattle.demands.specs.Demands.{heldIn}
-use Rattle.demands.proofs.HearingLaws.{Fine}
+use Rattle.demands.proofs.HearingLaws.{Heeded}
 
 -- ---- the types that are counted
 
@@ -90,7 +90,7 @@ pick-has : (t : Bool) (m n b : ℕ) → has (pick t m n) b ≡ pick t (has m b) 
 pick-has true m n b = refl
 pick-has false m n b = refl
 
-module _ (ids : List ℕ) (a : Arrival) (f : Fine ids a) (r : List ℕ) (l : length r ≡ recordWords) where
+module _ (ids : List ℕ) (a : Arrival) (f : Heeded ids a) (r : List ℕ) (l : length r ≡ recordWords) where
   abbrev next : List ℕ
   next = recordAfter (a .kind) (a .count) (a .body) r
 
@@ -115,15 +115,15 @@ module _ (ids : List ℕ) (a : Arrival) (f : Fine ids a) (r : List ℕ) (l : len
       (true-or-false (holds b))
 
   pub count-after : (kind : ℕ) → among kind countedTypes ≡ true
-      → countOf (orderOf kind) (recordAfter (a .kind) (a .count) (a .body) r)
-      ≡ pick (eqb (a .kind) kind) (countedOf (a .count) (countOf (orderOf kind) r)) (countOf (orderOf kind) r)
+      → countWords (orderOf kind) (recordAfter (a .kind) (a .count) (a .body) r)
+      ≡ pick (eqb (a .kind) kind) (countedOf (a .count) (countWords (orderOf kind) r)) (countWords (orderOf kind) r)
   count-after kind k =
       ⊎-elim
       (λ (e : a .kind ≡ kind).
       rw (eq-eqb (a .kind) kind e)
-      (ap (λ (j : ℕ). countOf (orderOf j) next) (sym e)
+      (ap (λ (j : ℕ). countWords (orderOf j) next) (sym e)
       ∙ after-count (a .kind) (a .count) (a .body) r l (f .body)
-      ∙ ap (λ (j : ℕ). countedOf (a .count) (countOf (orderOf j) r)) e))
+      ∙ ap (λ (j : ℕ). countedOf (a .count) (countWords (orderOf j) r)) e))
       (λ (n : a .kind ≡ kind → ⊥).
       rw (ne-eqb (a .kind) kind n)
       (after-other (a .kind) (a .count) (a .body) r l (f .body) (orderOf kind) (order-small kind) (λ o. orders-apart kind (a .kind) k (f .kind) n o)))
@@ -135,6 +135,6 @@ pub fresh-held : (i b : ℕ) → heldIn b (freshRecord i) ≡ none
 unfolding freshRecord
 fresh-held i b = rw (has-above 0 b (pow-pos b))
 
-pub fresh-count : (i kind : ℕ) → among kind countedTypes ≡ true → countOf (orderOf kind) (freshRecord i) ≡ 0 ∷ 0 ∷ 0 ∷ []
-unfolding freshRecord countOf orderOf part
-fresh-count i = by-types (λ k. countOf (orderOf k) (freshRecord i) ≡ 0 ∷ 0 ∷ 0 ∷ []) refl refl refl refl
+pub fresh-count : (i kind : ℕ) → among kind countedTypes ≡ true → countWords (orderOf kind) (freshRecord i) ≡ 0 ∷ 0 ∷ 0 ∷ []
+unfolding freshRecord countWords orderOf part
+fresh-count i = by-types (λ k. countWords (orderOf k) (freshRecord i) ≡ 0 ∷ 0 ∷ 0 ∷ []) refl refl refl refl

@@ -5,7 +5,7 @@ use lib.Seq.{take-at, drop-at, length-take-le}
 use Rattle.words.specs.Outcome.{Outcome, accepted, Done, saidOf, leftOf}
 use Rattle.words.proofs.Cases.{accepted-same}
 use Rattle.words.proofs.RefusalLaws.{first-passed}
-use Rattle.record.specs.Layout.{identifierOf, orderOf, countOf}
+use Rattle.record.specs.Layout.{identifierOf, orderOf, countWords}
 use Rattle.table.specs.Layout.{streamsOf, base, recordAt}
 use Rattle.table.specs.Well.{wellMade}
 use Rattle.table.proofs.RecordLaws.{record-identifier}
@@ -38,7 +38,7 @@ module _ (ids : List ℕ) (packets : List (List ℕ)) (t rest : List ℕ) (r : R
     streams = ap (λ (l : List ℕ). streamsOf (l ++ rest)) (sym (layout-is r)) ∙ table-streams (length ids) (λ x. recordAt x t) rest;
     list = λ s h. sym (record-identifier s (layoutOf ids t ++ rest)) ∙ ap identifierOf (record-same s h) ∙ record-identifier s t ∙ r .list s h;
     held = λ s h b. ap (heldIn b) (record-same s h) ∙ r .held s h b;
-    counts = λ s h kind o. ap (countOf (orderOf kind)) (record-same s h) ∙ r .counts s h kind o;
+    counts = λ s h kind o. ap (countWords (orderOf kind)) (record-same s h) ∙ r .counts s h kind o;
   }
 
   -- what follows is past it

@@ -8,7 +8,7 @@ use Rattle.words.specs.Tests.{pick, among}
 use Rattle.words.specs.Outcome.{Outcome, refused, accepted, onward, Done, saidOf, leftOf}
 use Rattle.words.proofs.Cases.{accepted-same, same-or-not}
 use Rattle.words.proofs.RefusalLaws.{first-passed}
-use Rattle.record.specs.Layout.{orderOf, countOf, lastOf}
+use Rattle.record.specs.Layout.{orderOf, countWords, lastOf}
 use Rattle.record.specs.Counts.{addedOf, countedOf, addedTo}
 use Rattle.record.specs.After.{addedBy}
 use Rattle.table.specs.Layout.{streamsOf, base, recordAt}
@@ -23,7 +23,7 @@ use Rattle.demands.specs.Trace.{Arrival, Trace, heardBy, traceOf, own, v
 use Rattle.demands.specs.Trace.{countedTypes, countsOf, countRule, answerTo, answersAfter}
 use Rattle.demands.specs.Demands.{ours, heldIn, Right, pastOf, playAll, saidAll}
 use Rattle.demands.proofs.RuleLaws.{own-append, last-more, counts-append, added-by-last, rule-more}
-use Rattle.demands.proofs.HearingLaws.{Fine, heard-fine, Listed, recordOn, doneOn, play-is, listed-on, record-whole, record-own, record-other}
+use Rattle.demands.proofs.HearingLaws.{Heeded, heard-fine, Listed, recordOn, doneOn, play-is, listed-on, record-whole, record-own, record-other}
 use Rattle.demands.proofs.RecordLaws.{held-after, count-after, fresh-held, fresh-count}
 
 -- ---- the start
@@ -48,7 +48,7 @@ right-start ids t d e =
       streams = k .streams;
       list = k .list;
       held = λ s h b. ap (heldIn b) (fresh s h) ∙ fresh-held (getD ids s 0) b;
-      counts = λ s h kind o. ap (countOf (orderOf kind)) (fresh s h) ∙ fresh-count (getD ids s 0) kind o;
+      counts = λ s h kind o. ap (countWords (orderOf kind)) (fresh s h) ∙ fresh-count (getD ids s 0) kind o;
     }
 
 -- ---- one packet more
@@ -60,7 +60,7 @@ trace-append ids (ws ∷ ps) qs = ap (λ (l : Trace). heardBy ids ws ∷ l) (tra
 -- the rules of a stream's own packets
 record Ruled (before : List Arrival) (r : List ℕ) : Type 0 where
   held : (b : ℕ) → heldIn b r ≡ lastCarried b before
-  counts : (kind : ℕ) → among kind countedTypes ≡ true → countOf (orderOf kind) r ≡ countRule (countsOf kind before)
+  counts : (kind : ℕ) → among kind countedTypes ≡ true → countWords (orderOf kind) r ≡ countRule (countsOf kind before)
 
 counted-more : (t : Bool) (c : ℕ) (counts : List ℕ) → pick t (countedOf c (countRule counts)) (countRule counts) ≡ countRule (counts ++ pick t (c ∷ []) [])
 counted-more true c counts = sym (rule-more counts c)
@@ -80,7 +80,7 @@ module _ (ids : List ℕ) (before : List (List ℕ)) (t : List ℕ) (r : Right i
   ruled-same s xs h e = rw (e, append-nil (own s (traceOf ids before))) (ruled s h)
 
   -- a packet of the stream
-  ruled-own : (a : Arrival) → Fine ids a → Ruled (own (a .stream) (traceOf ids before) ++ (a ∷ [])) (recordOn t a)
+  ruled-own : (a : Arrival) → Heeded ids a → Ruled (own (a .stream) (traceOf ids before) ++ (a ∷ [])) (recordOn t a)
   ruled-own a f =
       let s = a .stream in
       let h : s < length ids = f .stream in
@@ -95,7 +95,7 @@ module _ (ids : List ℕ) (before : List (List ℕ)) (t : List ℕ) (r : Right i
             ∙ counted-more (eqb (a .kind) kind) (a .count) (countsOf kind old) ∙ ap countRule (sym (counts-append kind old (a ∷ [])));
       }
 
-  ruled-heard : (x : Outcome Arrival) → ((a : Arrival) → x ≡ accepted a → Fine ids a) → (s : ℕ) → s < length ids
+  ruled-heard : (x : Outcome Arrival) → ((a : Arrival) → x ≡ accepted a → Heeded ids a) → (s : ℕ) → s < length ids
       → Ruled (own s (traceOf ids before) ++ own s (x ∷ [])) (recordAt s (leftOf (onward x (doneOn t)) t))
   ruled-heard (refused n) f s h = ruled-same s [] h refl
   ruled-heard (accepted a) f s h =
@@ -121,12 +121,12 @@ module _ (ids : List ℕ) (before : List (List ℕ)) (t : List ℕ) (r : Right i
             λ s h b. ap (λ (u : List ℕ). heldIn b (recordAt s u)) same ∙ ruled-heard (heardBy ids ws) (heard-fine ids ws) s h .held b
             ∙ ap (lastCarried b) (sym (grown s));
         counts = λ s h kind o.
-            ap (λ (u : List ℕ). countOf (orderOf kind) (recordAt s u)) same ∙ ruled-heard (heardBy ids ws) (heard-fine ids ws) s h .counts kind o
+            ap (λ (u : List ℕ). countWords (orderOf kind) (recordAt s u)) same ∙ ruled-heard (heardBy ids ws) (heard-fine ids ws) s h .counts kind o
             ∙ ap (λ (l : List Arrival). countRule (countsOf kind l)) (sym (grown s));
       }
 
   -- and what is said of it is what the rules say
-  answer-heard : (x : Outcome Arrival) → ((a : Arrival) → x ≡ accepted a → Fine ids a) → saidOf (onward x (doneOn t)) ≡ answerTo (traceOf ids before) x
+  answer-heard : (x : Outcome Arrival) → ((a : Arrival) → x ≡ accepted a → Heeded ids a) → saidOf (onward x (doneOn t)) ≡ answerTo (traceOf ids before) x
   unfolding addedBy addedTo
   answer-heard (refused n) f = refl
   answer-heard (accepted a) f =

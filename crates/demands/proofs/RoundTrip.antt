@@ -12,7 +12,7 @@ use Rattle.words.proofs.RefusalLaws.{first-passed, none-given, first-fine}
 use Rattle.words.proofs.MeetLaws.{said-accepted}
 use Rattle.words.proofs.AllLaws.{all-intro}
 use Rattle.fields.specs.Format.{eventSize, channelSize, itemSize, packingSize}
-use Rattle.bitstream.specs.Carried.{carried, fieldOf, wordOf}
+use Rattle.bitstream.specs.Carried.{streamBits, packingField, wordOf}
 use Rattle.bitstream.specs.Filled.{filled}
 use Rattle.bitstream.proofs.SpanLaws.{below}
 use Rattle.bitstream.proofs.CarriedLaws.{field-back, word-back, enough}
@@ -172,10 +172,10 @@ parts-of first second n m ws b b′ k e = rw e (record {
 
 -- an item of a field fits its bits
 item-small : (p : Packing) → Legal p → (ws : List ℕ) (k : ℕ) → itemIn p (fieldIn p ws k) < 2 ^ p .item
-unfolding fieldOf
+unfolding packingField
 item-small p l ws k =
     let e : p .item + (p .field - p .item) ≡ p .field = omega arith in
-    shr-lt (p .item) (p .field - p .item) (rw e (below (p .carry) (carried (p .carry) ws) (p .field * k) (p .field)))
+    shr-lt (p .item) (p .field - p .item) (rw e (below (p .carry) (streamBits (p .carry) ws) (p .field * k) (p .field)))
 
 module _ (first second n : ℕ) (ws is es cs out : List ℕ) (f : formatBad first second ≡ false) (c : countBad first second n ≡ false)
     (there : length ws ≡ wordsFor first n) (h : Parts first n ws is es cs) (room : length ws ≤ length out) where

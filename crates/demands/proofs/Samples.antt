@@ -4,7 +4,7 @@ use lib.Count.{trailingZeros}
 use Rattle.words.specs.Part.{part}
 use Rattle.words.specs.SetBits.{bitsOf, above}
 use Rattle.words.specs.All.{all}
-use Rattle.fields.specs.Sizes.{sizeOf, asciiWords, listWords, wordsOf}
+use Rattle.fields.specs.Sizes.{fieldSize, asciiWords, listWords, wordsOf}
 use Rattle.fields.specs.Format.{codeKnown, codeFits, formatOk}
 use Rattle.fields.specs.Rules.{notNegative, upperHalfZero, deviceRule, stateRule, formatRule, asciiRule, listsRule, ruleOf}
 use Rattle.fields.specs.Layout.{spanOf, obeyed, bodyWords, lowBitsSet, otherLength, ruleBroken}
@@ -13,7 +13,7 @@ use Rattle.packet.specs.Parts.{streamed, hasSeconds, hasFraction, classAt, seco
 use Rattle.packet.specs.Parts.{fractionOf, partsOf, bodyOf, packetOf}
 use Rattle.packet.specs.Read.{timeOver, readOf}
 use Rattle.bitstream.specs.Stream.{bit, span}
-use Rattle.bitstream.specs.Carried.{carried, fieldOf, wordOf, needed}
+use Rattle.bitstream.specs.Carried.{streamBits, packingField, wordOf, needed}
 use Rattle.bitstream.specs.Filled.{filled}
 use Rattle.payload_format.specs.Format.{wideProcessing, formatBad, carriedBits, packingOf}
 use Rattle.payload_format.specs.Count.{unitOf, countBad, wordsFor}
@@ -28,9 +28,11 @@ use Rattle.demands.specs.Samples.{Hold, bench}
 use Rattle.demands.proofs.Listing.{_and_}
 
 pub samples : Hold bench
-unfolding bench part bitsOf above all sizeOf asciiWords listWords wordsOf codeKnown codeFits formatOk notNegative upperHalfZero deviceRule stateRule formatRule
+unfolding bench part bitsOf above all fieldSize asciiWords listWords wordsOf codeKnown codeFits formatOk notNegative upperHalfZero deviceRule stateRule
+    formatRule
     asciiRule listsRule ruleOf spanOf obeyed bodyWords lowBitsSet otherLength ruleBroken trailed tsmOf reservedOf streamed hasSeconds hasFraction classAt
-    secondsAt fractionAt bodyAt requiredOf bodyLength wordIf classHigh classLow fractionOf partsOf bodyOf packetOf timeOver readOf bit span carried fieldOf
+    secondsAt fractionAt bodyAt requiredOf bodyLength wordIf classHigh classLow fractionOf partsOf bodyOf packetOf timeOver readOf bit span streamBits
+    packingField
     wordOf needed filled wideProcessing formatBad carriedBits packingOf unitOf countBad wordsFor fitting packOf unpackOf twosComplement signedOf missedOf
     unitsOf lowerHalf share over isFrequency shownOf trailingZeros
 samples =

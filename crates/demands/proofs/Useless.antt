@@ -7,7 +7,7 @@ use Rattle.words.specs.Part.{part}
 use Rattle.words.specs.SetBits.{bitsOf, above}
 use Rattle.words.specs.All.{all, firstOf}
 use Rattle.words.specs.Outcome.{Outcome, refused, accepted, Done, saidOf, leftOf}
-use Rattle.fields.specs.Sizes.{sizeOf, wordsOf}
+use Rattle.fields.specs.Sizes.{fieldSize, wordsOf}
 use Rattle.fields.specs.Rules.{ruleOf}
 use Rattle.fields.specs.Layout.{spanOf, obeyed, bodyWords, placeOf, fieldOf, lowBitsSet, otherLength, ruleBroken}
 use Rattle.packet.specs.declared.Packet.{Packet}
@@ -15,7 +15,7 @@ use Rattle.packet.specs.Header.{trailed, tsmOf, reservedOf}
 use Rattle.packet.specs.Parts.{streamed, hasSeconds, hasFraction, classAt, secondsAt, fractionAt, bodyAt, requiredOf, bodyLength, wordIf, classHigh, classLow}
 use Rattle.packet.specs.Parts.{fractionOf, partsOf, bodyOf, packetOf}
 use Rattle.packet.specs.Read.{timeOver, readOf}
-use Rattle.record.specs.Layout.{orderOf, countOf, seenOf}
+use Rattle.record.specs.Layout.{orderOf, countWords, seenOf}
 use Rattle.record.specs.Counts.{missedOf}
 use Rattle.table.specs.Layout.{recordAt}
 use Rattle.table.specs.Identifiers.{listed, apart, listGood}
@@ -57,7 +57,7 @@ record Computed : Type 0 where
 computed : Computed
 unfolding heardBy arrivalOf placeIn firstOf trailed tsmOf reservedOf streamed hasSeconds hasFraction classAt secondsAt fractionAt bodyAt requiredOf bodyLength
     wordIf classHigh classLow fractionOf partsOf bodyOf packetOf part timeOver readOf lowBitsSet otherLength ruleBroken bodyWords spanOf obeyed ruleOf wordsOf
-    sizeOf bitsOf above placeOf fieldOf
+    fieldSize bitsOf above placeOf fieldOf
 computed = record {
   read3 = (_, refl, refl);
   read4 = (_, refl, refl);
@@ -113,7 +113,7 @@ module _ (P : Program) (d : Demand3 P) where
   fresh = begun .0 .leaves
 
   seen-after : (packets : List (List ℕ))
-      → countOf (orderOf 1) (recordAt 0 (playAll P (begun .0 .leaves) packets)) ≡ countRule (countsOf 1 (own 0 (traceOf ids packets)))
+      → countWords (orderOf 1) (recordAt 0 (playAll P (begun .0 .leaves) packets)) ≡ countRule (countsOf 1 (own 0 (traceOf ids packets)))
   seen-after packets = d .right ids buffer (begun .0) (begun .1) packets .counts 0 (omega arith) 1 refl
 
   held-after : (packets : List (List ℕ)) → heldIn 30 (recordAt 0 (playAll P (begun .0 .leaves) packets)) ≡ lastCarried 30 (own 0 (traceOf ids packets))
@@ -122,10 +122,10 @@ module _ (P : Program) (d : Demand3 P) where
   -- an idle play: shut out by the counts
   pub no-idle-play : ((t ws : List ℕ) → leftOf (P .play t ws) t ≡ t) → ⊥
   no-idle-play idle =
-      let none-seen : seenOf (countOf (orderOf 1) (recordAt 0 fresh)) ≡ 0 = ap seenOf (seen-after []) in
-      let one : seenOf (countOf (orderOf 1) (recordAt 0 (leftOf (P .play fresh data3) fresh))) ≡ 1 =
+      let none-seen : seenOf (countWords (orderOf 1) (recordAt 0 fresh)) ≡ 0 = ap seenOf (seen-after []) in
+      let one : seenOf (countWords (orderOf 1) (recordAt 0 (leftOf (P .play fresh data3) fresh))) ≡ 1 =
       ap seenOf (seen-after (data3 ∷ [])) ∙ rw (computed .heard3) in
-      omega (arith, none-seen, sym (ap (λ (t : List ℕ). seenOf (countOf (orderOf 1) (recordAt 0 t))) (idle fresh data3)) ∙ one)
+      omega (arith, none-seen, sym (ap (λ (t : List ℕ). seenOf (countWords (orderOf 1) (recordAt 0 t))) (idle fresh data3)) ∙ one)
 
   -- one that plays the first packet and feigns the rest, so that no later packet changes what is held: shut out by the last-carried rule
   pub no-feigned-rest : ((list t : List ℕ) (e : Done ℕ (List ℕ)) → P .start list t ≡ accepted e → (ws : List ℕ) (rest : List (List ℕ)) (s b : ℕ)

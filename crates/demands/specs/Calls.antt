@@ -56,7 +56,7 @@ calls =
     ∷ answers checked contextOf
     ∷ answers foundPaper (λ (h : ℕ × List ℕ). foundOf (h .0) (h .1))
     -- packet::read, packet_write::write, packet_trailer::trailer_parts, trailer_word
-    ∷ answers Read.paper Read.readOf
+    ∷ answers Read.parsedPaper Read.readOf
     ∷ lends measured (λ (h : Parts × List ℕ × List ℕ × ℕ). writeOf (h .0) (h .1) (h .2) (h .3)) (λ h. h .2)
     ∷ answers plain trailerOf
     ∷ answers trailerPaper (λ (h : ℕ × ℕ × ℕ × ℕ). trailerWordOf (h .0) (h .1) (h .2) (h .3))
@@ -69,7 +69,7 @@ calls =
     ∷ lends measured (λ (h : List ℕ × List ℕ). startOf (h .0) (h .1)) (λ h. h .1)
     ∷ answers plain wellMade
     -- play::play, play_run
-    ∷ lends Play.paper (λ (h : List ℕ × List ℕ). Play.playOf (h .0) (h .1)) (λ h. h .0)
+    ∷ lends Play.playedPaper (λ (h : List ℕ × List ℕ). Play.playOf (h .0) (h .1)) (λ h. h .0)
     ∷ lends runPaper (λ (h : List ℕ × List ℕ × ℕ × List ℕ). runOf (h .0) (h .1) (h .2) (h .3)) (λ h. (h .0, h .3))
     -- page::page_length, save, put_back
     ∷ answers measured lengthOf

@@ -23,7 +23,7 @@ pub record StartMade (ids lent t : List ℕ) : Type 0 where
 -- `play` was called with each of the packets, one after the other, on a table that was t at first; its answers, and the table at last
 pub data PlaysMade : List ℕ → List (List ℕ) → List Played → List ℕ → Type 0 where
   none : {t : List ℕ} → PlaysMade t [] [] t
-  next : {t ws after last : List ℕ} {packets : List (List ℕ)} {r : Played} {rs : List Played} → Meets Play.paper (Play.playOf t ws) t r after
+  next : {t ws after last : List ℕ} {packets : List (List ℕ)} {r : Played} {rs : List Played} → Meets Play.playedPaper (Play.playOf t ws) t r after
       → PlaysMade after packets rs last → PlaysMade t (ws ∷ packets) (r ∷ rs) last
 
 -- `save` was called with a table and a lent buffer, was accepted, and wrote the page
@@ -39,7 +39,7 @@ pub record SaveMade (t page : List ℕ) : Type 0 where
 -- what the rules say of played packets: the table, and the answers
 pub record Ruled (ids : List ℕ) (before packets : List (List ℕ)) (answers : List Played) (t : List ℕ) : Type 0 where
   pub table : Right ids (before ++ packets) t
-  pub said : map Play.paper answers ≡ answersAfter (traceOf ids before) (traceOf ids packets)
+  pub said : map Play.playedPaper answers ≡ answersAfter (traceOf ids before) (traceOf ids packets)
 
 pub record Demand3Made : Type 0 where
   -- "Start a fresh table for any valid list of streams and play any packets, refused ones among them."
@@ -55,8 +55,8 @@ pub record Demand3Made : Type 0 where
       → StartMade ids lent t → PlaysMade t first heard middle → SaveMade middle page
       → base (length ids) ≤ length room → Meets measured (putBackOf page room) room r back → PlaysMade back rest answers last
       → PlaysMade t (first ++ rest) all whole
-      → (layoutOf ids last ≡ layoutOf ids whole) × (map Play.paper all ≡ map Play.paper (heard ++ answers))
+      → (layoutOf ids last ≡ layoutOf ids whole) × (map Play.playedPaper all ≡ map Play.playedPaper (heard ++ answers))
   -- "other streams' packets may be altered at will, none becoming this stream's, without altering this stream's answers or record"
   pub apart : (ids lent room t u last other : List ℕ) (ps qs : List (List ℕ)) (answers others : List Played) (s : ℕ)
       → StartMade ids lent t → PlaysMade t ps answers last → StartMade ids room u → PlaysMade u qs others other → s < length ids → Altered ids s ps qs
-      → (recordAt s last ≡ recordAt s other) × (ownAnswers ids s ps (map Play.paper answers) ≡ ownAnswers ids s qs (map Play.paper others))
+      → (recordAt s last ≡ recordAt s other) × (ownAnswers ids s ps (map Play.playedPaper answers) ≡ ownAnswers ids s qs (map Play.playedPaper others))

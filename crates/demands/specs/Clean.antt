@@ -2,7 +2,7 @@
 use Rattle.words.specs.Kit.{_≡_, ℕ, _-_, _*_, _%_, _^_, _≤_, _<_, List, getD}
 use Rattle.fields.specs.Format.{packingSize}
 use Rattle.bitstream.specs.Stream.{bit}
-use Rattle.bitstream.specs.Carried.{carried}
+use Rattle.bitstream.specs.Carried.{streamBits}
 use Rattle.payload_format.specs.Format.{carriedBits, packingOf}
 use Rattle.payload_format.specs.Field.{fieldIn, unusedIn}
 
@@ -10,4 +10,4 @@ use Rattle.payload_format.specs.Field.{fieldIn, unusedIn}
 pub record Clean (first n : ℕ) (ws : List ℕ) : Type 0 where
   pub unused : (k : ℕ) → k < n → unusedIn (packingOf first) (fieldIn (packingOf first) ws k) ≡ 0
   pub uncarried : (j : ℕ) → getD ws j 0 % 2 ^ (32 - carriedBits first) ≡ 0
-  pub padding : (i : ℕ) → packingSize first * n ≤ i → bit (carriedBits first) (carried (carriedBits first) ws) i ≡ 0
+  pub padding : (i : ℕ) → packingSize first * n ≤ i → bit (carriedBits first) (streamBits (carriedBits first) ws) i ≡ 0

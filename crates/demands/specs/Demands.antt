@@ -15,7 +15,7 @@ use Rattle.packet.specs.Read.{readOf}
 use Rattle.packet_write.specs.Write.{headerWord, sizeFor, plainParts, writeOf}
 use Rattle.payload_unpack.specs.Unpack.{Buffers, unpackOf}
 use Rattle.payload_pack.specs.Pack.{packOf}
-use Rattle.record.specs.Layout.{heldOf, orderOf, countOf, slotOf}
+use Rattle.record.specs.Layout.{heldOf, orderOf, countWords, slotOf}
 use Rattle.table.specs.Layout.{streamsOf, base, recordAt}
 use Rattle.table.specs.Identifiers.{listed, declared, listGood}
 use Rattle.table.specs.Well.{wellMade}
@@ -52,8 +52,8 @@ abbrev pub Accepts : {A : Type 0} → Outcome A → Type 0
 Accepts {A} o = (a : A) × (o ≡ accepted a)
 
 -- words of 32 bits
-abbrev pub Words : List ℕ → Type 0
-Words ws = (i : ℕ) → getD ws i 0 < 2 ^ 32
+abbrev pub AreWords : List ℕ → Type 0
+AreWords ws = (i : ℕ) → getD ws i 0 < 2 ^ 32
 
 -- ---- demand 1
 
@@ -76,13 +76,13 @@ pub record Demand2 (P : Program) : Type 0 where
       → P .pack first second items events channels out ≡ packOf first second items events channels out
   pub unpacks : (first second n : ℕ) (ws : List ℕ) (b : Buffers) → P .unpack first second n ws b ≡ unpackOf first second n ws b
   -- "An accepted packet written again gives the same words": its parts and body, written anywhere with room
-  pub again : (ws : List ℕ) → Words ws → (p : Packet) → P .read ws ≡ accepted p → (out : List ℕ) (at : ℕ) → at + p .size ≤ length out
-      → P .write (p .parts) (part (p .body) (p .length) ws) out at
+  pub again : (ws : List ℕ) → AreWords ws → (p : Packet) → P .read ws ≡ accepted p → (out : List ℕ) (at : ℕ) → at + p .size ≤ length out
+      → P .write (p .parts) (part (p .place) (p .length) ws) out at
       ≡ accepted (record { says = p .size; leaves = take at out ++ take (p .size) ws ++ drop (at + p .size) out })
   -- what was written, read from its place on, has the same parts, absent ones zero, and the same body
   pub back : (p : Parts) (body out : List ℕ) (at : ℕ) (d : Done ℕ (List ℕ)) → P .write p body out at ≡ accepted d
       → let w = headerWord p (sizeFor p (length body)) in
-      (P .read (drop at (d .leaves)) ≡ accepted (record { parts = plainParts w p; size = d .says; body = bodyAt w; length = length body }))
+      (P .read (drop at (d .leaves)) ≡ accepted (record { parts = plainParts w p; size = d .says; place = bodyAt w; length = length body }))
       × (part (bodyAt w) (length body) (drop at (d .leaves)) ≡ body)
   -- "Legal samples, event tags and channel tags packed and unpacked come back the same"
   pub unpacked : (first second : ℕ) (items events channels out : List ℕ) (d : Done ℕ (List ℕ)) → P .pack first second items events channels out ≡ accepted d
@@ -93,7 +93,7 @@ pub record Demand2 (P : Program) : Type 0 where
       × (take (length items) (leftOf answer b .events) ≡ events)
       × (take (length items) (leftOf answer b .channels) ≡ channels)
   -- and the other way: words that a writer made, unpacked and packed, are the same words
-  pub packed : (first second n : ℕ) (ws : List ℕ) → Words ws → Clean first n ws → (b : Buffers) (v : ℕ) → saidOf (P .unpack first second n ws b) ≡ accepted v
+  pub packed : (first second n : ℕ) (ws : List ℕ) → AreWords ws → Clean first n ws → (b : Buffers) (v : ℕ) → saidOf (P .unpack first second n ws b) ≡ accepted v
       → (out : List ℕ) → length ws ≤ length out
       → let left = leftOf (P .unpack first second n ws b) b in
       let answer = P .pack first second (take n (left .items)) (take n (left .events)) (take n (left .channels)) out in
@@ -114,7 +114,7 @@ pub record Right (ids : List ℕ) (packets : List (List ℕ)) (t : List ℕ) : T
   pub list : (s : ℕ) → s < length ids → declared t s ≡ listed ids s
   pub held : (s : ℕ) → s < length ids → (b : ℕ) → heldIn b (recordAt s t) ≡ lastCarried b (own s (traceOf ids packets))
   pub counts : (s : ℕ) → s < length ids → (kind : ℕ) → among kind countedTypes ≡ true
-      → countOf (orderOf kind) (recordAt s t) ≡ countRule (countsOf kind (own s (traceOf ids packets)))
+      → countWords (orderOf kind) (recordAt s t) ≡ countRule (countsOf kind (own s (traceOf ids packets)))
 
 -- `lastCarried` is what the sentence says: a value is that of the last packet that carried the field, and there is none where none did
 abbrev pub LastMeant : Type 0

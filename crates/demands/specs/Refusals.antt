@@ -25,7 +25,7 @@ use Rattle.play.specs.Run.{wholeWalk, reachedOf, answersOf, runOf}
 use Rattle.page.specs.Layout.{pageOf, pageLength, bodiesIn, tableOf}
 use Rattle.page.specs.Save.{lengthList, saveList, lengthOf, saveOf}
 use Rattle.page.specs.PutBack.{putBackList, putBackOf}
-use Rattle.panel.specs.HeldWords.{heldIn, heldWordsList, heldWordsOf}
+use Rattle.panel.specs.HeldWords.{heldWordsIn, heldWordsList, heldWordsOf}
 use Rattle.panel.specs.Readings.{recordShows, readingList, readingOf}
 
 -- a call's list has these numbers in this order; the call gives the first of the list that applies, and is else accepted with this answer
@@ -75,6 +75,6 @@ pub record InOrder : Type 0 where
   pub playRun : (t ws : List ℕ) (from : ℕ) (out : List ℕ) → let w = wholeWalk t ws from out in
       Ordered (runOf t ws from out) (TABLE ∷ []) (tableList t) (record { says = reachedOf w; leaves = (w .table, answersOf w out) })
   pub pageLengthOf : (t : List ℕ) → Ordered (lengthOf t) (TABLE ∷ SIZE ∷ []) (lengthList t) (pageLength t)
-  pub heldWords : (t : List ℕ) (stream bit : ℕ) (out : List ℕ) → let ws = heldIn bit (recordAt stream t) in
+  pub heldWords : (t : List ℕ) (stream bit : ℕ) (out : List ℕ) → let ws = heldWordsIn bit (recordAt stream t) in
       Ordered (heldWordsOf t stream bit out) (TABLE ∷ STREAM ∷ VALUE ∷ ROOM ∷ []) (heldWordsList t stream bit out)
       (record { says = length ws; leaves = ws ++ drop (length ws) out })

@@ -45,7 +45,7 @@ arrivalOf ids ws p =
       kind = p .parts .kind;
       count = p .parts .count;
       size = p .size;
-      body = part (p .body) (p .length) ws;
+      body = part (p .place) (p .length) ws;
     }))
 
 -- what some words are to a list: refused, by reading or with STREAM; or an accepted packet of a stream

@@ -15,7 +15,7 @@ use Rattle.words.proofs.Cases.{both-left, both-right, both-assoc}
 use Rattle.words.proofs.RefusalLaws.{first-passed}
 use Rattle.words.proofs.SetBitLaws.{bits-split}
 use Rattle.words.proofs.PartLaws.{part-is}
-use Rattle.fields.specs.Sizes.{sizeOf, sizesOf, wordsOf}
+use Rattle.fields.specs.Sizes.{fieldSize, sizesOf, wordsOf}
 use Rattle.fields.specs.Rules.{ruleOf}
 use Rattle.fields.specs.Layout.{spanOf, obeyed, carried, indicatorOf, bodyWords, placeOf, fieldOf, insideOf, foundOf, lowBitsSet, otherLength}
 use Rattle.fields.specs.Layout.{ruleBroken, contextList, contextOf}
@@ -26,12 +26,12 @@ use Rattle.fields.proofs.WalkLaws.{span-cons, rules-cons}
 -- ---- an accepted body
 
 -- no bit of 7-0 is set, the fields need the words that there are, and each obeys its rule
-pub record Fine (body : List ℕ) : Type 0 where
+pub record Sound (body : List ℕ) : Type 0 where
   pub low : bits 7 0 (indicatorOf body) ≡ 0
   pub whole : bodyWords body ≡ length body
   pub obeys : obeyed (carried (indicatorOf body)) (drop 1 body) ≡ true
 
-pub context-fits : (body : List ℕ) → contextOf body ≡ accepted tt → Fine body
+pub context-fits : (body : List ℕ) → contextOf body ≡ accepted tt → Sound body
 unfolding contextOf lowBitsSet otherLength ruleBroken
 context-fits body e =
     let a = first-passed (contextList body) _ tt e .0 in
@@ -96,7 +96,7 @@ module _ (b : ℕ) (body : List ℕ) (h : b < 31) (carries : has (indicatorOf bo
       ∙ ap (both (obeyed before (drop 1 body))) (ap (obeyed (b ∷ later)) (sym (place-drop b body)) ∙ rules-cons b own (placeOf b body) later body refl)
 
   -- of an accepted body
-  module _ (fine : Fine body) where
+  module _ (fine : Sound body) where
     pub field-inside : placeOf b body + wordsOf b (fromField b body) ≤ length body
     field-inside = omega (arith, body-split, fine .whole)
 
@@ -124,7 +124,7 @@ module _ (b : ℕ) (body : List ℕ) (h : b < 31) (carries : has (indicatorOf bo
 fixed-step : (t : Bool) (b x : ℕ) (l ws : List ℕ) → 9 ≤ b → ltb b x ≡ t → ((us : List ℕ) → spanOf l us ≡ sizesOf l)
     → spanOf (pick t (x ∷ l) l) ws ≡ sizesOf (pick t (x ∷ l) l)
 unfolding spanOf sizesOf
-fixed-step true b x l ws h e lower = rw (words-fixed x ws (omega (arith, ltb-true b x e)), lower (drop (sizeOf x) ws))
+fixed-step true b x l ws h e lower = rw (words-fixed x ws (omega (arith, ltb-true b x e)), lower (drop (fieldSize x) ws))
 fixed-step false b x l ws h e lower = lower ws
 
 -- fields of the bits above b, b at least 9, take the words of their rows
@@ -138,8 +138,8 @@ unfolding placeOf
 place-fixed b body h = ap (λ (n : ℕ). 1 + n) (span-fixed b (carried (indicatorOf body)) (drop 1 body) h)
 
 -- and have the words of their rows
-pub field-fixed : (b : ℕ) (body : List ℕ) → 10 ≤ b → fieldOf b body ≡ part (1 + sizesOf (above b (carried (indicatorOf body)))) (sizeOf b) body
+pub field-fixed : (b : ℕ) (body : List ℕ) → 10 ≤ b → fieldOf b body ≡ part (1 + sizesOf (above b (carried (indicatorOf body)))) (fieldSize b) body
 unfolding fieldOf
 field-fixed b body h =
-    ap (λ (n : ℕ). take n (fromField b body)) (words-fixed b (fromField b body) h) ∙ sym (part-is (placeOf b body) (sizeOf b) body)
-    ∙ ap (λ (n : ℕ). part n (sizeOf b) body) (place-fixed b body (omega arith))
+    ap (λ (n : ℕ). take n (fromField b body)) (words-fixed b (fromField b body) h) ∙ sym (part-is (placeOf b body) (fieldSize b) body)
+    ∙ ap (λ (n : ℕ). part n (fieldSize b) body) (place-fixed b body (omega arith))

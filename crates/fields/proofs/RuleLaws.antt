@@ -6,9 +6,9 @@ use Rattle.words.proofs.Kit.{eq-eqb, ne-eqb, lt-ltb, le-ltb, eqb, ltb, take, dr
 use lib.Seq.{getD-take}
 use Rattle.words.specs.Tests.{pick, both, among}
 use Rattle.words.specs.All.{all}
-use Rattle.words.proofs.Cases.{true-or-false, le-or-lt, true-is-false, both-yes, neither, same-tests}
+use Rattle.words.proofs.Cases.{true-or-false, le-or-lt, true-is-false, both-yes, neither, agreed}
 use Rattle.words.proofs.AllLaws.{all-at}
-use Rattle.fields.specs.Sizes.{sizeOf, wordsOf}
+use Rattle.fields.specs.Sizes.{fieldSize, wordsOf}
 use Rattle.fields.specs.Rules.{ruleOf, notNegative, upperHalfZero, deviceRule, stateRule, formatRule, asciiRule, listsRule}
 use Rattle.fields.specs.inner.Limits.{ruled, limitOf, firstOk, deviceSecond, moreOk}
 use Rattle.fields.proofs.PlaceLaws.{first-word, second-word}
@@ -20,15 +20,15 @@ unfolding ruleOf notNegative upperHalfZero stateRule formatRule asciiRule listsR
 rule-first b us ws n e = rw (n, e)
 
 -- device (17) has the two words that its rule looks at
-rule-device : (ws : List ℕ) → ruleOf 17 (take (sizeOf 17) ws) ≡ ruleOf 17 ws
-unfolding ruleOf deviceRule sizeOf
+rule-device : (ws : List ℕ) → ruleOf 17 (take (fieldSize 17) ws) ≡ ruleOf 17 ws
+unfolding ruleOf deviceRule fieldSize
 rule-device ws = rw (getD-take 2 ws 0 0 (omega arith), getD-take 2 ws 1 0 (omega arith))
 
 -- a rule looks only at the field's own words
-pub rule-own : (b : ℕ) (ws : List ℕ) → 10 ≤ b → b < 31 → ruleOf b (take (sizeOf b) ws) ≡ ruleOf b ws
+pub rule-own : (b : ℕ) (ws : List ℕ) → 10 ≤ b → b < 31 → ruleOf b (take (fieldSize b) ws) ≡ ruleOf b ws
 rule-own b ws h g =
     ⊎-elim (λ t. let e : b ≡ 17 = eqb-true b 17 t in rw e (rule-device ws))
-    (λ f. rule-first b (take (sizeOf b) ws) ws f (getD-take (sizeOf b) ws 0 0 (size-some b h g))) (true-or-false (eqb b 17))
+    (λ f. rule-first b (take (fieldSize b) ws) ws f (getD-take (fieldSize b) ws 0 0 (size-some b h g))) (true-or-false (eqb b 17))
 
 -- ---- a rule is a limit of the first word, and what else is asked
 
@@ -115,7 +115,7 @@ bit-right b = pick (eqb (556237568 / 2 ^ b % 2) 1) (ruled b) (not (ruled b))
 
 pub ruled-bit : (b : ℕ) → b < 32 → eqb (556237568 / 2 ^ b % 2) 1 ≡ ruled b
 unfolding bit-right all ruled
-ruled-bit b h = same-tests (eqb (556237568 / 2 ^ b % 2) 1) (ruled b) (all-at bit-right 32 b h refl)
+ruled-bit b h = agreed (eqb (556237568 / 2 ^ b % 2) 1) (ruled b) (all-at bit-right 32 b h refl)
 
 -- what is not among some numbers is none of them
 none-of : (b n : ℕ) (xs : List ℕ) → among b xs ≡ false → among n xs ≡ true → eqb b n ≡ false
@@ -130,7 +130,7 @@ module _ (b : ℕ) (ws : List ℕ) (has : Bool) (e : has ≡ ruled b) (none : ha
   unfolding ruled
   other n m = none-of b n (29 ∷ 24 ∷ 21 ∷ 18 ∷ 17 ∷ 16 ∷ 15 ∷ 9 ∷ 8 ∷ []) (sym e ∙ none) m
 
-  pub unruled-past : (at n : ℕ) → n ≡ sizeOf b → at + n ≡ at + wordsOf b ws
+  pub unruled-past : (at n : ℕ) → n ≡ fieldSize b → at + n ≡ at + wordsOf b ws
   unfolding ruled wordsOf
   unruled-past at n size = rw (size, other 9 refl, other 8 refl)
 

@@ -4,8 +4,8 @@ use Rattle.words.specs.Tests.{pick, among}
 use Rattle.words.specs.Word.{bits}
 
 -- the rows of fixed size; 0 for a bit in none of them
-unfoldable pub sizeOf : ℕ → ℕ
-sizeOf b =
+unfoldable pub fieldSize : ℕ → ℕ
+fieldSize b =
     pick (among b (30 ∷ 24 ∷ 23 ∷ 22 ∷ 19 ∷ 18 ∷ 16 ∷ 10 ∷ [])) 1
     (pick (among b (29 ∷ 28 ∷ 27 ∷ 26 ∷ 25 ∷ 21 ∷ 20 ∷ 17 ∷ 15 ∷ [])) 2
     (pick (among b (14 ∷ 13 ∷ [])) 11
@@ -15,7 +15,7 @@ sizeOf b =
 -- the words of fields of fixed size together
 unfoldable pub sizesOf : List ℕ → ℕ
 sizesOf [] = 0
-sizesOf (b ∷ bs) = sizeOf b + sizesOf bs
+sizesOf (b ∷ bs) = fieldSize b + sizesOf bs
 
 -- "9 (GPS ASCII): 2 + N, N the second word"
 unfoldable pub asciiWords : List ℕ → ℕ
@@ -29,4 +29,4 @@ listWords ws =
 
 -- the words of the field of bit b, whose own words are the first of ws
 unfoldable pub wordsOf : ℕ → List ℕ → ℕ
-wordsOf b ws = pick (eqb b 9) (asciiWords ws) (pick (eqb b 8) (listWords ws) (sizeOf b))
+wordsOf b ws = pick (eqb b 9) (asciiWords ws) (pick (eqb b 8) (listWords ws) (fieldSize b))

@@ -13,6 +13,6 @@ pub use layout::walk;
 pub use rules::first_ok;
 pub use rules::more_ok;
 pub use sizes::SIZES;
+pub use sizes::field_size;
 pub use sizes::size_in;
-pub use sizes::size_of;
 pub use sizes::words_at;

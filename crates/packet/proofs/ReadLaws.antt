@@ -80,7 +80,7 @@ module _ (ws : List ℕ) (p : Packet) (e : readOf ws ≡ accepted p) where
   read-inside = rw (← read-accepts ws p e .says) (sized _ _ (read-accepts ws p e .passes .size) .1)
 
   -- its body lies inside it
-  pub body-inside : p .body + p .length ≤ p .size
+  pub body-inside : p .place + p .length ≤ p .size
   unfolding packetOf
   body-inside = rw (← read-accepts ws p e .says) (read-room .body)
 
@@ -95,7 +95,7 @@ module _ (ws : List ℕ) (p : Packet) (e : readOf ws ≡ accepted p) where
   count-small = rw (← read-accepts ws p e .says) (mod-lt _ (omega arith))
 
   -- a type 4 body is as document 01 says: its layout and its rules hold
-  pub body-context : p .parts .kind ≡ 4 → contextOf (part (p .body) (p .length) ws) ≡ accepted tt
+  pub body-context : p .parts .kind ≡ 4 → contextOf (part (p .place) (p .length) ws) ≡ accepted tt
   unfolding packetOf partsOf bodyOf bodyChecks contextOf
   body-context k =
       let a = read-accepts ws p e in

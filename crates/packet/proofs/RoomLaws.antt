@@ -6,7 +6,7 @@ use Rattle.words.specs.Tests.{pick, when, among}
 use Rattle.words.specs.Word.{has, highFirst}
 use Rattle.words.specs.All.{all}
 use Rattle.words.proofs.AllLaws.{all-at}
-use Rattle.words.proofs.Cases.{when-most, true-is-false, same-tests}
+use Rattle.words.proofs.Cases.{when-most, true-is-false, agreed}
 use Rattle.packet.specs.Header.{typeOf, classed, trailed, tsmOf, reservedOf, tsfOf, sizeOf}
 use Rattle.packet.specs.Parts.{streamed, hasSeconds, hasFraction, classAt, secondsAt, fractionAt, bodyAt, requiredOf, bodyLength, wordIf, fractionOf}
 
@@ -70,7 +70,7 @@ bit-right k = pick (eqb (58 / 2 ^ k % 2) 1) (among k (1 ∷ 3 ∷ 4 ∷ 5 ∷ []
 
 pub streamed-bit : (k : ℕ) → k < 16 → eqb (58 / 2 ^ k % 2) 1 ≡ among k (1 ∷ 3 ∷ 4 ∷ 5 ∷ [])
 unfolding bit-right all
-streamed-bit k h = same-tests (eqb (58 / 2 ^ k % 2) 1) (among k (1 ∷ 3 ∷ 4 ∷ 5 ∷ [])) (all-at bit-right 16 k h refl)
+streamed-bit k h = agreed (eqb (58 / 2 ^ k % 2) 1) (among k (1 ∷ 3 ∷ 4 ∷ 5 ∷ [])) (all-at bit-right 16 k h refl)
 
 -- TSM of a header whose reserved bits are zero, whatever its type
 pub tsm-bit : (w : ℕ) → reservedOf w ≡ 0 → has w 24 ≡ tsmOf w

@@ -71,7 +71,7 @@ partsOf w ws = record {
   identifier = wordIf (streamed w) 1 ws;
   oui = bits 23 0 (classHigh w ws);
   information = bits 31 16 (classLow w ws);
-  packet = bits 15 0 (classLow w ws);
+  code = bits 15 0 (classLow w ws);
   seconds = wordIf (hasSeconds w) (secondsAt w) ws;
   fraction = fractionOf w ws;
   trailer = wordIf (trailed w) (sizeOf w - 1) ws;
@@ -83,4 +83,4 @@ bodyOf w ws = part (bodyAt w) (bodyLength w) ws
 
 -- all that reading gives: the parts, the size, and where the body stands
 unfoldable pub packetOf : ℕ → List ℕ → Packet
-packetOf w ws = record { parts = partsOf w ws; size = sizeOf w; body = bodyAt w; length = bodyLength w }
+packetOf w ws = record { parts = partsOf w ws; size = sizeOf w; place = bodyAt w; length = bodyLength w }

@@ -64,6 +64,6 @@ unfoldable pub readOf : List ℕ → Outcome Packet
 readOf ws = firstGiven (readList (getD ws 0 0) ws) (accepted (packetOf (getD ws 0 0) ws))
 
 -- the number and values of an answer
-abbrev pub paper : Parsed → Outcome Packet
-paper (Refused n) = refused n
-paper (Accepted p) = accepted p
+abbrev pub parsedPaper : Parsed → Outcome Packet
+parsedPaper (Refused n) = refused n
+parsedPaper (Accepted p) = accepted p

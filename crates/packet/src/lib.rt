@@ -5,7 +5,7 @@ pub mod inner;
 mod prologue;
 
 ghost use mathlib.Core.Path.{_≡_};
-ghost use Rattle.packet.specs.Read.{paper, readOf};
+ghost use Rattle.packet.specs.Read.{parsedPaper, readOf};
 
 // The parts of a packet beside its body. A part that is absent is zero.
 pub struct Parts {
@@ -21,18 +21,19 @@ pub struct Parts {
     pub count: u32,
     pub identifier: u32,
     pub oui: u32,
+    // the codes of the information class and of the packet class
     pub information: u32,
-    pub packet: u32,
+    pub code: u32,
     pub seconds: u32,
     pub fraction: u64,
     pub trailer: u32,
 }
 
-// A packet that was read: its parts, its size in words, and where its body begins and how many words it has.
+// A packet that was read: its parts, its size in words, and its body's place and length.
 pub struct Packet {
     pub parts: Parts,
     pub size: usize,
-    pub body: usize,
+    pub place: usize,
     pub length: usize,
 }
 
@@ -44,7 +45,7 @@ pub enum Parsed {
 
 // The packet that stands at the front of the words, or the first of the refusals 1 to 10 that applies. Words beyond its size are ignored.
 pub fn read(words: &[u32]) -> Parsed
-    ensures { λ r. ⌜ paper r ≡ readOf (now (words .entry)) ⌝ }
+    ensures { λ r. ⌜ parsedPaper r ≡ readOf (now (words .entry)) ⌝ }
 {
     let front = checks::check_front(words);
     if let words::Check::Refused(n) = front {

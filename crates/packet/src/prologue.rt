@@ -81,7 +81,7 @@ fn parts_of(w: u32, words: &[u32]) -> crate::Parts
         identifier: identifier_of(w, words),
         oui: high % 0x100_0000,
         information: low / 0x1_0000 % 0x1_0000,
-        packet: low % 0x1_0000,
+        code: low % 0x1_0000,
         seconds: word_if(
             crate::header::has_seconds(w),
             crate::header::seconds_at(w),
@@ -102,11 +102,11 @@ pub fn packet_of(w: u32, words: &[u32]) -> crate::Packet
     ensures { λ r. ⌜ r ≡ packetOf w (now (words .entry)) ⌝ }
 {
     let parts = parts_of(w, words);
-    let body = crate::header::body_at(w);
+    let place = crate::header::body_at(w);
     crate::Packet {
         parts,
         size: crate::header::size_of(w),
-        body,
-        length: body_end(w) - body,
+        place,
+        length: body_end(w) - place,
     }
 }

@@ -21,7 +21,7 @@ fn show_prologue(p: Parts, body: usize, length: usize) {
     wordio::inner::named(b"identifier", p.identifier as u64);
     wordio::inner::named(b"oui", p.oui as u64);
     wordio::inner::named(b"information", p.information as u64);
-    wordio::inner::named(b"packet", p.packet as u64);
+    wordio::inner::named(b"packet", p.code as u64);
     wordio::inner::named(b"seconds", p.seconds as u64);
     wordio::inner::named(b"fraction", p.fraction);
     wordio::inner::named(b"body", body as u64);
@@ -46,7 +46,7 @@ pub fn show(p: Packet) {
     let parts = p.parts;
     wordio::inner::text(b" accepted");
     show_header(parts, p.size);
-    show_prologue(parts, p.body, p.length);
+    show_prologue(parts, p.place, p.length);
     if parts.trailed {
         show_trailer(parts.trailer);
     }

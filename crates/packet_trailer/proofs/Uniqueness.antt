@@ -14,11 +14,11 @@ trailerBack : Outcome ℕ → TrailerWord
 trailerBack (refused n) = Refused n
 trailerBack (accepted w) = Accepted w
 
-trailer-back : (a : TrailerWord) → trailerBack (trailerPaper a) ≡ a
+answer-back : (a : TrailerWord) → trailerBack (trailerPaper a) ≡ a
 unfolding trailerBack
-trailer-back (Refused n) = refl
-trailer-back (Accepted w) = refl
+answer-back (Refused n) = refl
+answer-back (Accepted w) = refl
 
 pub trailer-word-once : (enables indicators e associated : ℕ) {a b : TrailerWord} → trailerPaper a ≡ trailerWordOf enables indicators e associated
     → trailerPaper b ≡ trailerWordOf enables indicators e associated → a ≡ b
-trailer-word-once enables indicators e associated = once trailerPaper trailerBack trailer-back
+trailer-word-once enables indicators e associated = once trailerPaper trailerBack answer-back

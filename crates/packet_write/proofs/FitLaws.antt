@@ -34,7 +34,7 @@ pub record Fits (p : Parts) : Type 0 where
   pub tsf : p .tsf < 4
   pub count : p .count < 16
   pub flags : flagsFit (p .kind) (p .trailed) (p .tsm) ≡ true
-  pub class : classFits (p .classed) (p .oui) (p .information) (p .packet) ≡ true
+  pub class : classFits (p .classed) (p .oui) (p .information) (p .code) ≡ true
 
 pub parts-fit : (p : Parts) → partsFit p ≡ true → Fits p
 unfolding partsFit codesFit

@@ -14,7 +14,7 @@ use Rattle.packet.specs.Header.{trailed}
 use Rattle.packet.specs.Parts.{bodyAt}
 use Rattle.packet.specs.declared.Parts.{Parts}
 use Rattle.packet_write.specs.Write.{bit, headerWord, sizeFor, prologueWords, trailerWords, packetWords, partsChecks, writeChecks}
-use Rattle.packet_write.specs.inner.Given.{partsIn, Headed}
+use Rattle.packet_write.specs.inner.Given.{partsIn, HeaderFor}
 use Rattle.packet_write.proofs.FitLaws.{Fits, Writable, writable, parts-passed, parts-fit}
 use Rattle.packet_write.proofs.HeaderLaws.{header-size, header-small, classed-is, trailed-is, size-for-is}
 use Rattle.packet_write.proofs.LayLaws.{prologue-length, trailer-length, laid-packet}
@@ -32,7 +32,7 @@ bit-back false = refl
 
 -- what `write` lays out as words gives its parts again
 pub parts-again : (p : Parts) (c t m : ℕ) → c ≡ bit (p .classed) → t ≡ bit (p .trailed) → m ≡ bit (p .tsm)
-    → partsIn (p .kind ∷ c ∷ t ∷ m ∷ p .tsi ∷ p .tsf ∷ p .count ∷ p .identifier ∷ p .oui ∷ p .information ∷ p .packet ∷ p .seconds
+    → partsIn (p .kind ∷ c ∷ t ∷ m ∷ p .tsi ∷ p .tsf ∷ p .count ∷ p .identifier ∷ p .oui ∷ p .information ∷ p .code ∷ p .seconds
     ∷ p .fraction / 2 ^ 32 ∷ p .fraction % 2 ^ 32 ∷ p .trailer ∷ []) ≡ p
 unfolding partsIn
 parts-again p c t m e f g = rw (e, f, g, bit-back (p .classed), bit-back (p .trailed), bit-back (p .tsm), div-add-mod' (p .fraction) (2 ^ 32))
@@ -106,7 +106,7 @@ module _ (q body out : List ℕ) (at w size : ℕ) (passes : writeChecks (partsI
   pub sum-small : w + size < 2 ^ 32
   sum-small = omega (arith, e, s, may .small, header-small (partsIn q) (may .kind) fits)
 
-  pub headed : length q ≡ 15 → Headed (w + size) q
+  pub headed : length q ≡ 15 → HeaderFor (w + size) q
   headed long =
       rw with-size
       (record {

@@ -19,7 +19,7 @@ use Rattle.packet.specs.Header.{classed, trailed}
 use Rattle.packet.specs.Parts.{streamed, hasSeconds, hasFraction, classAt, secondsAt, fractionAt, bodyAt}
 use Rattle.packet_write.proofs.FitLaws.{Writable, parts-fit}
 use Rattle.packet_write.proofs.HeaderLaws.{size-for-is}
-use Rattle.packet_write.specs.Write.{headerWord, sizeFor, given, classWord, headWords, classWords, timeWords, prologueWords, trailerWords, packetWords}
+use Rattle.packet_write.specs.Write.{headerWord, sizeFor, given, classWord, leadingWords, classWords, timeWords, prologueWords, trailerWords, packetWords}
 use Rattle.packet_write.specs.Write.{classFits}
 
 -- ---- how many words
@@ -29,8 +29,8 @@ length-given true ws = refl
 length-given false ws = refl
 
 module _ (w : ℕ) (p : Parts) where
-  pub head-length : length (headWords w p) ≡ 1 + when (streamed w) 1
-  unfolding headWords
+  pub head-length : length (leadingWords w p) ≡ 1 + when (streamed w) 1
+  unfolding leadingWords
   head-length = simp length-given (omega arith)
 
   pub class-length : length (classWords w p) ≡ when (classed w) 2
@@ -50,29 +50,29 @@ module _ (w : ℕ) (p : Parts) where
   trailer-length = simp length-given
 
 -- ---- the class's second word: what the code computes of numbers that fit, where there is a class
-class-second : (t : Bool) (oui information packet second : ℕ) → classFits t oui information packet ≡ true
-    → second ≡ information % 2 ^ 16 * 2 ^ 16 + packet % 2 ^ 16 → given t (oui ∷ second ∷ []) ≡ given t (oui ∷ classWord information packet ∷ [])
+class-second : (t : Bool) (oui information code second : ℕ) → classFits t oui information code ≡ true
+    → second ≡ information % 2 ^ 16 * 2 ^ 16 + code % 2 ^ 16 → given t (oui ∷ second ∷ []) ≡ given t (oui ∷ classWord information code ∷ [])
 unfolding classFits classWord join
-class-second true oui information packet second fits e =
+class-second true oui information code second fits e =
     let rest = both-right (ltb oui (2 ^ 24)) _ fits in
     let i = ltb-true information (2 ^ 16) (both-left (ltb information (2 ^ 16)) _ rest) in
-    let p = ltb-true packet (2 ^ 16) (both-right (ltb information (2 ^ 16)) _ rest) in
-    let same : second ≡ packet + 2 ^ 16 * (information + 2 ^ 16 * 0) = omega (arith, mod-eq-of-lt i, mod-eq-of-lt p) in
+    let p = ltb-true code (2 ^ 16) (both-right (ltb information (2 ^ 16)) _ rest) in
+    let same : second ≡ code + 2 ^ 16 * (information + 2 ^ 16 * 0) = omega (arith, mod-eq-of-lt i, mod-eq-of-lt p) in
     rw same
-class-second false oui information packet second fits e = refl
+class-second false oui information code second fits e = refl
 
 -- ---- the pieces of the prologue, each where the one before it ended; `has` is the answer to whether a part is there
 
 module _ (w : ℕ) (p : Parts) where
-  pub head-first : (n : ℕ) → length (headWords w p) ≤ n → 1 ≤ n
+  pub head-first : (n : ℕ) → length (leadingWords w p) ≤ n → 1 ≤ n
   head-first n h = omega (arith, head-length w p)
 
   module _ (has : Bool) (e : has ≡ streamed w) (out mid : List ℕ) (a : ℕ) (l : Laid out 0 (w ∷ []) a mid) where
-    pub head-second : length (headWords w p) ≤ length out → a + when has 1 ≤ length mid
+    pub head-second : length (leadingWords w p) ≤ length out → a + when has 1 ≤ length mid
     head-second h = rw e (omega (arith, head-length w p, l .past, laid-length l))
 
-    pub head-laid : (left : List ℕ) (b : ℕ) → Laid mid a (given has (p .identifier ∷ [])) b left → Laid out 0 (headWords w p) b left
-    unfolding headWords
+    pub head-laid : (left : List ℕ) (b : ℕ) → Laid mid a (given has (p .identifier ∷ [])) b left → Laid out 0 (leadingWords w p) b left
+    unfolding leadingWords
     head-laid left b m = then l (rw e at m)
 
   module _ (has : Bool) (e : has ≡ classed w) where
@@ -80,11 +80,11 @@ module _ (w : ℕ) (p : Parts) where
     class-room at n h = rw e (omega (arith, class-length w p))
 
     -- the class's second word is the join of two codes that fit, where there is a class
-    pub class-laid : classFits (classed w) (p .oui) (p .information) (p .packet) ≡ true → (out left : List ℕ) (second at a : ℕ)
-        → second ≡ p .information % 2 ^ 16 * 2 ^ 16 + p .packet % 2 ^ 16 → Laid out at (given has (p .oui ∷ second ∷ [])) a left
+    pub class-laid : classFits (classed w) (p .oui) (p .information) (p .code) ≡ true → (out left : List ℕ) (second at a : ℕ)
+        → second ≡ p .information % 2 ^ 16 * 2 ^ 16 + p .code % 2 ^ 16 → Laid out at (given has (p .oui ∷ second ∷ [])) a left
         → Laid out at (classWords w p) a left
     unfolding classWords
-    class-laid fits out left second at a s l = rw (← class-second (classed w) (p .oui) (p .information) (p .packet) second fits s, ← e) l
+    class-laid fits out left second at a s l = rw (← class-second (classed w) (p .oui) (p .information) (p .code) second fits s, ← e) l
 
   module _ (has : Bool) (e : has ≡ hasSeconds w) where
     pub seconds-room : (at n : ℕ) → at + length (timeWords w p) ≤ n → at + when has 1 ≤ n
@@ -99,14 +99,14 @@ module _ (w : ℕ) (p : Parts) where
       unfolding timeWords
       time-laid left high low b g h m = then (rw e at l) (rw (f, g, h) at m)
 
-  pieces : length (prologueWords w p) ≡ length (headWords w p) + (length (classWords w p) + length (timeWords w p))
+  pieces : length (prologueWords w p) ≡ length (leadingWords w p) + (length (classWords w p) + length (timeWords w p))
   unfolding prologueWords
   pieces = simp length-append (omega arith)
 
-  pub prologue-first : (n : ℕ) → length (prologueWords w p) ≤ n → length (headWords w p) ≤ n
+  pub prologue-first : (n : ℕ) → length (prologueWords w p) ≤ n → length (leadingWords w p) ≤ n
   prologue-first n h = omega (arith, pieces)
 
-  module _ (out first : List ℕ) (a : ℕ) (l : Laid out 0 (headWords w p) a first) where
+  module _ (out first : List ℕ) (a : ℕ) (l : Laid out 0 (leadingWords w p) a first) where
     pub prologue-second : length (prologueWords w p) ≤ length out → a + length (classWords w p) ≤ length first
     prologue-second h = omega (arith, pieces, l .past, laid-length l)
 

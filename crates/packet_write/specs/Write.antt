@@ -35,15 +35,15 @@ given false ws = []
 
 -- "the second has information and packet class"
 unfoldable pub classWord : ℕ → ℕ → ℕ
-classWord information packet = join (16 ∷ 16 ∷ []) (packet ∷ information ∷ [])
+classWord information code = join (16 ∷ 16 ∷ []) (code ∷ information ∷ [])
 
 -- "header; stream identifier (types 1, 3, 4, 5)"
-unfoldable pub headWords : ℕ → Parts → List ℕ
-headWords w p = (w ∷ []) ++ given (streamed w) (p .identifier ∷ [])
+unfoldable pub leadingWords : ℕ → Parts → List ℕ
+leadingWords w p = (w ∷ []) ++ given (streamed w) (p .identifier ∷ [])
 
 -- "class (two words, if C)"
 unfoldable pub classWords : ℕ → Parts → List ℕ
-classWords w p = given (classed w) (p .oui ∷ classWord (p .information) (p .packet) ∷ [])
+classWords w p = given (classed w) (p .oui ∷ classWord (p .information) (p .code) ∷ [])
 
 -- "integer seconds (if TSI is not 0); fraction (two words, high first, if TSF is not 0)"
 unfoldable pub timeWords : ℕ → Parts → List ℕ
@@ -51,7 +51,7 @@ timeWords w p = given (hasSeconds w) (p .seconds ∷ []) ++ given (hasFraction w
 
 -- what stands before the body
 unfoldable pub prologueWords : ℕ → Parts → List ℕ
-prologueWords w p = headWords w p ++ classWords w p ++ timeWords w p
+prologueWords w p = leadingWords w p ++ classWords w p ++ timeWords w p
 
 unfoldable pub trailerWords : ℕ → Parts → List ℕ
 trailerWords w p = given (trailed w) (p .trailer ∷ [])
@@ -75,7 +75,7 @@ plainParts w p = record {
   identifier = when (streamed w) (p .identifier);
   oui = when (classed w) (p .oui);
   information = when (classed w) (p .information);
-  packet = when (classed w) (p .packet);
+  code = when (classed w) (p .code);
   seconds = when (hasSeconds w) (p .seconds);
   fraction = when (hasFraction w) (p .fraction);
   trailer = when (trailed w) (p .trailer);
@@ -93,14 +93,14 @@ flagsFit kind trailed tsm = pick (ltb kind 4) (not tsm) (not trailed)
 
 -- the OUI has 24 bits, information and packet class 16 each
 unfoldable pub classFits : Bool → ℕ → ℕ → ℕ → Bool
-classFits classed oui information packet =
-    pick classed (both (ltb oui (2 ^ 24)) (both (ltb information (2 ^ 16)) (ltb packet (2 ^ 16)))) true
+classFits classed oui information code =
+    pick classed (both (ltb oui (2 ^ 24)) (both (ltb information (2 ^ 16)) (ltb code (2 ^ 16)))) true
 
 unfoldable pub partsFit : Parts → Bool
 partsFit p =
     both (codesFit (p .tsi) (p .tsf) (p .count))
     (both (flagsFit (p .kind) (p .trailed) (p .tsm))
-    (classFits (p .classed) (p .oui) (p .information) (p .packet)))
+    (classFits (p .classed) (p .oui) (p .information) (p .code)))
 
 -- ---- the refusals, in their order
 

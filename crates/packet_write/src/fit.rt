@@ -25,13 +25,13 @@ fn flags_fit(kind: u32, trailed: bool, tsm: bool) -> bool
 }
 
 // Whether the class, where there is one, fits its bits.
-fn class_fits(classed: bool, oui: u32, information: u32, packet: u32) -> bool
-    ensures { λ r. ⌜ r ≡ classFits classed oui information packet ⌝ }
+fn class_fits(classed: bool, oui: u32, information: u32, code: u32) -> bool
+    ensures { λ r. ⌜ r ≡ classFits classed oui information code ⌝ }
 {
     if classed {
         words::inner::both_of(
             oui < 0x100_0000,
-            words::inner::both_of(information < 0x1_0000, packet < 0x1_0000),
+            words::inner::both_of(information < 0x1_0000, code < 0x1_0000),
         )
     } else {
         true
@@ -59,7 +59,7 @@ pub fn check_parts(q: &[u32]) -> words::Check
         q[parts::CLASSED] % 2 == 1,
         q[parts::OUI],
         q[parts::INFORMATION],
-        q[parts::PACKET],
+        q[parts::CODE],
     ) {
         return words::Check::Fine;
     }

@@ -5,8 +5,8 @@ ghost use Rattle.words.specs.Tests.{when};
 ghost use Rattle.words.specs.Outcome.{accepted};
 ghost use Rattle.words.specs.Part.{part, put};
 ghost use Rattle.words.specs.Laid.{Laid};
-ghost use Rattle.packet_write.specs.Write.{headerWord, sizeFor, given, headWords, classWords, timeWords, prologueWords, trailerWords, packetWords, partsChecks, writeChecks};
-ghost use Rattle.packet_write.specs.inner.Given.{partsIn, Headed};
+ghost use Rattle.packet_write.specs.Write.{headerWord, sizeFor, given, leadingWords, classWords, timeWords, prologueWords, trailerWords, packetWords, partsChecks, writeChecks};
+ghost use Rattle.packet_write.specs.inner.Given.{partsIn, HeaderFor};
 
 // The header word of parts that are not refused, with a size of 0: its fields from the left, each shifted by the widths of those after it.
 pub fn header_word(q: &[u32]) -> u32
@@ -53,32 +53,32 @@ fn lay_two(present: bool, high: u32, low: u32, out: &mut [u32], at: usize) -> us
 
 // The header and the stream identifier, from the start of a buffer.
 fn lay_head(w: u32, q: &[u32], out: &mut [u32]) -> usize
-    requires { ⌜ Headed w (now q) × (length (headWords w (partsIn (now q))) ≤ length (now out)) ⌝ }
-    ensures { λ r. ⌜ Laid (now (out .entry)) 0 (headWords w (partsIn (now (q .entry)))) r (now (out .exit)) ⌝ }
+    requires { ⌜ HeaderFor w (now q) × (length (leadingWords w (partsIn (now q))) ≤ length (now out)) ⌝ }
+    ensures { λ r. ⌜ Laid (now (out .entry)) 0 (leadingWords w (partsIn (now (q .entry)))) r (now (out .exit)) ⌝ }
 {
     let a = lay_one(true, w, out, 0);
     lay_one(packet::inner::has_stream(w), q[parts::IDENTIFIER], out, a)
 }
 
 // The class's second word.
-fn class_word(information: u32, packet: u32) -> u32
-    ensures { λ r. ⌜ r ≡ information % 2 ^ 16 * 2 ^ 16 + packet % 2 ^ 16 ⌝ }
+fn class_word(information: u32, code: u32) -> u32
+    ensures { λ r. ⌜ r ≡ information % 2 ^ 16 * 2 ^ 16 + code % 2 ^ 16 ⌝ }
 {
-    information % 0x1_0000 * 0x1_0000 + packet % 0x1_0000
+    information % 0x1_0000 * 0x1_0000 + code % 0x1_0000
 }
 
 // The class, from a place on.
 fn lay_class(w: u32, q: &[u32], out: &mut [u32], at: usize) -> usize
-    requires { ⌜ Headed w (now q) × (at + length (classWords w (partsIn (now q))) ≤ length (now out)) ⌝ }
+    requires { ⌜ HeaderFor w (now q) × (at + length (classWords w (partsIn (now q))) ≤ length (now out)) ⌝ }
     ensures { λ r. ⌜ Laid (now (out .entry)) at (classWords w (partsIn (now (q .entry)))) r (now (out .exit)) ⌝ }
 {
-    let second = class_word(q[parts::INFORMATION], q[parts::PACKET]);
+    let second = class_word(q[parts::INFORMATION], q[parts::CODE]);
     lay_two(packet::inner::has_class(w), q[parts::OUI], second, out, at)
 }
 
 // The seconds and the fraction, from a place on.
 fn lay_time(w: u32, q: &[u32], out: &mut [u32], at: usize) -> usize
-    requires { ⌜ Headed w (now q) × (at + length (timeWords w (partsIn (now q))) ≤ length (now out)) ⌝ }
+    requires { ⌜ HeaderFor w (now q) × (at + length (timeWords w (partsIn (now q))) ≤ length (now out)) ⌝ }
     ensures { λ r. ⌜ Laid (now (out .entry)) at (timeWords w (partsIn (now (q .entry)))) r (now (out .exit)) ⌝ }
 {
     let a = lay_one(packet::inner::has_seconds(w), q[parts::SECONDS], out, at);
@@ -89,7 +89,7 @@ fn lay_time(w: u32, q: &[u32], out: &mut [u32], at: usize) -> usize
 
 // What stands before the body, from the start of a buffer.
 fn lay_prologue(w: u32, q: &[u32], out: &mut [u32]) -> usize
-    requires { ⌜ Headed w (now q) × (length (prologueWords w (partsIn (now q))) ≤ length (now out)) ⌝ }
+    requires { ⌜ HeaderFor w (now q) × (length (prologueWords w (partsIn (now q))) ≤ length (now out)) ⌝ }
     ensures { λ r. ⌜ Laid (now (out .entry)) 0 (prologueWords w (partsIn (now (q .entry)))) r (now (out .exit)) ⌝ }
 {
     let a = lay_head(w, q, out);
@@ -128,7 +128,7 @@ fn lay_body(body: &[u32], out: &mut [u32]) -> usize
 
 // The trailer, from the start of a buffer.
 fn lay_trailer(w: u32, q: &[u32], out: &mut [u32]) -> usize
-    requires { ⌜ Headed w (now q) × (length (trailerWords w (partsIn (now q))) ≤ length (now out)) ⌝ }
+    requires { ⌜ HeaderFor w (now q) × (length (trailerWords w (partsIn (now q))) ≤ length (now out)) ⌝ }
     ensures { λ r. ⌜ Laid (now (out .entry)) 0 (trailerWords w (partsIn (now (q .entry)))) r (now (out .exit)) ⌝ }
 {
     lay_one(q[parts::TRAILED] % 2 == 1, q[parts::TRAILER], out, 0)
@@ -136,7 +136,7 @@ fn lay_trailer(w: u32, q: &[u32], out: &mut [u32]) -> usize
 
 // The three in turn, each lent the part of the buffer that is left, from a place on.
 fn lay_parts(w: u32, q: &[u32], body: &[u32], out: &mut [u32], at: usize) -> usize
-    requires { ⌜ Headed w (now q) ⌝ }
+    requires { ⌜ HeaderFor w (now q) ⌝ }
     requires { ⌜ at + (length (prologueWords w (partsIn (now q))) + length (now body) + length (trailerWords w (partsIn (now q)))) ≤ length (now out) ⌝ }
     ensures { λ r. ⌜ Laid (now (out .entry)) at (prologueWords w (partsIn (now (q .entry))) ++ now (body .entry) ++ trailerWords w (partsIn (now (q .entry)))) r (now (out .exit)) ⌝ }
 {

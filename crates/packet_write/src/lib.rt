@@ -32,7 +32,7 @@ pub fn write(parts: packet::Parts, body: &[u32], out: &mut [u32], at: usize) -> 
         parts.identifier,
         parts.oui,
         parts.information,
-        parts.packet,
+        parts.code,
         parts.seconds,
         (fraction / 0x1_0000_0000) as u32,
         (fraction % 0x1_0000_0000) as u32,

@@ -24,7 +24,7 @@ pub const OUI: usize = 8;
 
 pub const INFORMATION: usize = 9;
 
-pub const PACKET: usize = 10;
+pub const CODE: usize = 10;
 
 pub const SECONDS: usize = 11;
 

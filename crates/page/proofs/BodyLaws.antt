@@ -15,10 +15,10 @@ use Rattle.words.proofs.AllLaws.{all-at}
 use Rattle.words.proofs.SetBitLaws.{bits-zero, bits-yes, bits-no, bits-none, bits-trim, bits-mod}
 use Rattle.words.proofs.Cases.{both-left, true-or-false}
 use Rattle.words.proofs.PartLaws.{getD-part, part-length, part-front, part-past, part-whole, part-is}
-use Rattle.fields.specs.Sizes.{sizeOf, sizesOf}
+use Rattle.fields.specs.Sizes.{fieldSize, sizesOf}
 use Rattle.fields.proofs.SizeLaws.{sizes-none, sizes-more}
 use Rattle.record.specs.Held.{heldMask, holds, heldBits, slotAt}
-use Rattle.record.specs.Layout.{headWords, slotWords, recordWords, heldOf, countOf, lastOf, slotIn, slotsOf, slotOf}
+use Rattle.record.specs.Layout.{headWords, slotWords, recordWords, heldOf, countWords, lastOf, slotIn, slotsOf, slotOf}
 use Rattle.record.specs.After.{slotAfter, refilled, heldWords}
 use Rattle.record.specs.Good.{recordGood, heldGood}
 use Rattle.record.proofs.SlotLaws.{placed, placed-inside, in-order-length, in-order-at, slots-whole, held-high}
@@ -48,9 +48,10 @@ unfolding recordOf
 record-word b i h g = front-word i b _ h g
 
 -- first words that are good hold no bit but those of held fields; and so a good record
-pub head-within : (r : List ℕ) (rest : Bool) → both (heldGood (heldOf r) (lastOf (countOf 2 r))) rest ≡ true → bitAnd (heldOf r) heldMask ≡ heldOf r
+pub head-within : (r : List ℕ) (rest : Bool) → both (heldGood (heldOf r) (lastOf (countWords 2 r))) rest ≡ true → bitAnd (heldOf r) heldMask ≡ heldOf r
 unfolding heldGood
-head-within r rest e = eqb-true _ _ (both-left (eqb (bitAnd (heldOf r) heldMask) (heldOf r)) _ (both-left (heldGood (heldOf r) (lastOf (countOf 2 r))) rest e))
+head-within r rest e =
+    eqb-true _ _ (both-left (eqb (bitAnd (heldOf r) heldMask) (heldOf r)) _ (both-left (heldGood (heldOf r) (lastOf (countWords 2 r))) rest e))
 
 pub good-within : (r : List ℕ) → recordGood r ≡ true → bitAnd (heldOf r) heldMask ≡ heldOf r
 unfolding recordGood
@@ -58,16 +59,16 @@ good-within r e = head-within r _ e
 
 -- ---- zeroed slots
 
-zero-slot : (b : ℕ) → holds b ≡ true → slotIn b (replicate slotWords 0) ≡ replicate (sizeOf b) 0
+zero-slot : (b : ℕ) → holds b ≡ true → slotIn b (replicate slotWords 0) ≡ replicate (fieldSize b) 0
 unfolding slotIn
 zero-slot b o =
     let l : length (replicate {A = ℕ} slotWords 0) ≡ slotWords = length-replicate {A = ℕ} slotWords 0 in
-    let m : length (part (slotAt b) (sizeOf b) (replicate slotWords 0)) ≡ sizeOf b = part-length (slotAt b) (sizeOf b) (replicate slotWords 0)
+    let m : length (part (slotAt b) (fieldSize b) (replicate slotWords 0)) ≡ fieldSize b = part-length (slotAt b) (fieldSize b) (replicate slotWords 0)
     (omega (arith, slot-inside b o)) in
-    ext-getD 0 _ (replicate (sizeOf b) 0) (m ∙ sym (length-replicate (sizeOf b) 0))
+    ext-getD 0 _ (replicate (fieldSize b) 0) (m ∙ sym (length-replicate (fieldSize b) 0))
     (λ i h.
-    getD-part (slotAt b) (sizeOf b) i (replicate slotWords 0) (omega arith)
-    ∙ zero-at slotWords (slotAt b + i) ∙ sym (zero-at (sizeOf b) i))
+    getD-part (slotAt b) (fieldSize b) i (replicate slotWords 0) (omega arith)
+    ∙ zero-at slotWords (slotAt b + i) ∙ sym (zero-at (fieldSize b) i))
 
 -- ---- a record's body, and its record again
 
@@ -109,7 +110,7 @@ sizes-within : (k n m : ℕ) → ((b : ℕ) → b < k → has n b ≡ true → h
 sizes-within zero n m w = omega (arith, ap sizesOf (bits-zero n), ap sizesOf (bits-zero m))
 sizes-within (suc k) n m w =
     let rest = sizes-within k n m (λ b h. w b (omega arith)) in
-    let more : (x : ℕ) → has x k ≡ true → sizesOf (bitsOf (suc k) x) ≡ sizeOf k + sizesOf (bitsOf k x) = λ x y. ap sizesOf (bits-yes k x y)
+    let more : (x : ℕ) → has x k ≡ true → sizesOf (bitsOf (suc k) x) ≡ fieldSize k + sizesOf (bitsOf k x) = λ x y. ap sizesOf (bits-yes k x y)
     ∙ sizes-more k (bitsOf k x) in
     ⊎-elim (λ (y : has n k ≡ true). omega (arith, rest, more n y, more m (w k (omega arith) y)))
     (λ (y : has n k ≡ false).
@@ -123,7 +124,7 @@ every-bit b h = all-at (has (2 ^ 31 - 1)) 31 b h refl
 
 -- the fields of bits 30 to 0 that have a fixed size have 74 words together
 every-size : sizesOf (bitsOf 31 (2 ^ 31 - 1)) ≡ slotWords
-unfolding bitsOf sizesOf sizeOf
+unfolding bitsOf sizesOf fieldSize
 every-size = refl
 
 pub words-most : (held : ℕ) → pageBodyWords held ≤ recordWords
@@ -139,7 +140,7 @@ unfolding pageBodyWords
 adding-start held rest e =
     ap (λ (l : List ℕ). headWords + sizesOf l) (ap (bitsOf 32) e ∙ bits-trim 31 32 (held % 2 ^ 31) (omega arith) (mod-lt held (omega arith)) ∙ bits-mod 31 held)
 
-module _ (held rest n b rest′ w : ℕ) (p : Adding held rest n) (cut : bitsOf 32 rest ≡ b ∷ bitsOf 32 rest′) (e : w ≡ sizeOf b) where
+module _ (held rest n b rest′ w : ℕ) (p : Adding held rest n) (cut : bitsOf 32 rest ≡ b ∷ bitsOf 32 rest′) (e : w ≡ fieldSize b) where
   pub adding-turn : Adding held rest′ (n + w)
   adding-turn = omega (arith, p, ap sizesOf cut, sizes-more b (bitsOf 32 rest′))
 
@@ -156,11 +157,12 @@ module _ (held rest n : ℕ) (p : Adding held rest n) (z : rest ≡ 0) where
 -- ---- slots that words are put into
 
 module _ (held : ℕ) (ws blank : List ℕ) (l : length ws ≡ sizesOf (bitsOf 31 held)) (m : length blank ≡ slotWords) where
-  refilled-sized : (b : ℕ) → b < 31 → holds b ≡ true → length (slotAfter (has held b) (part (0 + placed 31 held b) (sizeOf b) ws) (slotIn b blank)) ≡ sizeOf b
+  refilled-sized : (b : ℕ) → b < 31 → holds b ≡ true → length (slotAfter (has held b) (part (0 + placed 31 held b) (fieldSize b) ws) (slotIn b blank))
+      ≡ fieldSize b
   unfolding slotAfter slotIn
   refilled-sized b g o =
-      ⊎-elim (λ (y : has held b ≡ true). rw y (part-length (0 + placed 31 held b) (sizeOf b) ws (omega (arith, placed-inside 31 held b g y))))
-      (λ (n : has held b ≡ false). rw n (part-length (slotAt b) (sizeOf b) blank (omega (arith, slot-inside b o)))) (true-or-false (has held b))
+      ⊎-elim (λ (y : has held b ≡ true). rw y (part-length (0 + placed 31 held b) (fieldSize b) ws (omega (arith, placed-inside 31 held b g y))))
+      (λ (n : has held b ≡ false). rw n (part-length (slotAt b) (fieldSize b) blank (omega (arith, slot-inside b o)))) (true-or-false (has held b))
 
   refilled-length : length (refilled held 0 ws blank) ≡ slotWords
   unfolding refilled heldBits holds
@@ -203,13 +205,13 @@ module _ (b : List ℕ) (l : length b ≡ pageBodyWords (heldOf b)) where
 
   -- a slot has the words of its field where the body holds it, and is else zero
   pub record-slot : (x : ℕ) → holds x ≡ true
-      → slotOf x (recordOf b) ≡ slotAfter (has (heldOf b) x) (part (placed 31 (heldOf b) x) (sizeOf x) (drop headWords b)) (replicate (sizeOf x) 0)
+      → slotOf x (recordOf b) ≡ slotAfter (has (heldOf b) x) (part (placed 31 (heldOf b) x) (fieldSize x) (drop headWords b)) (replicate (fieldSize x) 0)
   unfolding slotOf slotIn slotAt refilled heldBits holds
   record-slot x o =
       let ws : List ℕ = drop headWords b in
       ap (slotIn x) record-slots
       ∙ in-order-at 31 heldMask x _ (refilled-sized (heldOf b) ws (replicate slotWords 0) rest-length zeros-length) (held-high x o) o
-      ∙ ap₂ (λ (n : ℕ) (z : List ℕ). slotAfter (has (heldOf b) x) (part n (sizeOf x) ws) z) (zero-add (placed 31 (heldOf b) x)) (zero-slot x o)
+      ∙ ap₂ (λ (n : ℕ) (z : List ℕ). slotAfter (has (heldOf b) x) (part n (fieldSize x) ws) z) (zero-add (placed 31 (heldOf b) x)) (zero-slot x o)
 
   pub body-record : bitAnd (heldOf b) heldMask ≡ heldOf b → pageBody (recordOf b) ≡ b
   unfolding recordOf pageBody

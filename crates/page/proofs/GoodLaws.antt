@@ -16,7 +16,7 @@ use Rattle.words.proofs.Cases.{le-or-lt, true-or-false, both-yes, both-no, pick
 use Rattle.words.proofs.AllLaws.{all-none, all-more, all-fails, all-end, all-same}
 use Rattle.words.proofs.PartLaws.{part-is}
 use Rattle.words.proofs.SetBitLaws.{bits-zero, bits-yes, bits-no}
-use Rattle.fields.specs.Sizes.{sizeOf, sizesOf}
+use Rattle.fields.specs.Sizes.{fieldSize, sizesOf}
 use Rattle.fields.specs.Rules.{ruleOf}
 use Rattle.fields.specs.Layout.{obeyed}
 use Rattle.fields.proofs.PlaceLaws.{rest-whole}
@@ -24,7 +24,7 @@ use Rattle.fields.proofs.SizeLaws.{sizes-more, words-fixed}
 use Rattle.fields.proofs.RuleLaws.{rule-own}
 use Rattle.fields.proofs.WalkLaws.{rules-cons}
 use Rattle.record.specs.Held.{heldMask, holds}
-use Rattle.record.specs.Layout.{headWords, heldOf, countAt, countOf, lastOf}
+use Rattle.record.specs.Layout.{headWords, heldOf, countAt, countWords, lastOf}
 use Rattle.record.specs.After.{slotAfter}
 use Rattle.record.specs.Good.{countGoodAt, heldGood, slotGood, recordGood}
 use Rattle.record.proofs.SlotLaws.{placed, placed-split, held-small, held-low, held-high}
@@ -138,13 +138,13 @@ module _ (b : List ℕ) (l : length b ≡ pageBodyWords (heldOf b)) where
   unfolding slotGood slotAfter
   slot-held x o y =
       let h : heldOf (recordOf b) ≡ heldOf b = record-word b 1 (omega arith) (body-some b l) in
-      rw (o, h, y, record-slot b l x o, y, part-is (placed 31 (heldOf b) x) (sizeOf x) (drop headWords b)) (rule-own x _ (held-low x o) (held-high x o))
+      rw (o, h, y, record-slot b l x o, y, part-is (placed 31 (heldOf b) x) (fieldSize x) (drop headWords b)) (rule-own x _ (held-low x o) (held-high x o))
 
   slot-blank : (x : ℕ) → has (heldOf b) x ≡ false → slotGood (recordOf b) x ≡ true
   unfolding slotGood slotAfter
   slot-blank x n =
       let h : heldOf (recordOf b) ≡ heldOf b = record-word b 1 (omega arith) (body-some b l) in
-      pick-true (holds x) _ (λ o. rw (h, n, record-slot b l x o, n) (zeros-good (sizeOf x)))
+      pick-true (holds x) _ (λ o. rw (h, n, record-slot b l x o, n) (zeros-good (fieldSize x)))
 
   -- the fields of the bits below k, which stand from a on among the held words
   rules-below : (k a : ℕ) → bitAnd (heldOf b) heldMask ≡ heldOf b → k ≤ 31 → a + sizesOf (bitsOf k (heldOf b)) ≡ sizesOf (bitsOf 31 (heldOf b))
@@ -157,11 +157,11 @@ module _ (b : List ℕ) (l : length b ≡ pageBodyWords (heldOf b)) where
       ⊎-elim
       (λ (y : has held k ≡ true).
       let o : holds k ≡ true = within-holds held w k y in
-      let f : sizesOf (bitsOf (suc k) held) ≡ sizeOf k + sizesOf (bitsOf k held) = ap sizesOf (bits-yes k held y) ∙ sizes-more k (bitsOf k held) in
+      let f : sizesOf (bitsOf (suc k) held) ≡ fieldSize k + sizesOf (bitsOf k held) = ap sizesOf (bits-yes k held y) ∙ sizes-more k (bitsOf k held) in
       let i : a ≡ placed 31 held k = omega (arith, e, f, placed-split 31 held k (omega arith) y) in
       ap (λ (bs : List ℕ). obeyed bs (drop a ws)) (bits-yes k held y)
-      ∙ rules-cons k (sizeOf k) a (bitsOf k held) ws (sym (words-fixed k (drop a ws) (held-low k o)))
-      ∙ ap₂ both (ap (λ (n : ℕ). ruleOf k (drop n ws)) i ∙ sym (slot-held k o y)) (rules-below k (a + sizeOf k) w (omega arith) (omega (arith, e, f)))
+      ∙ rules-cons k (fieldSize k) a (bitsOf k held) ws (sym (words-fixed k (drop a ws) (held-low k o)))
+      ∙ ap₂ both (ap (λ (n : ℕ). ruleOf k (drop n ws)) i ∙ sym (slot-held k o y)) (rules-below k (a + fieldSize k) w (omega arith) (omega (arith, e, f)))
       ∙ both-swap (slotGood (recordOf b) k) (all k (slotGood (recordOf b))))
       (λ (n : has held k ≡ false).
       ap (λ (bs : List ℕ). obeyed bs (drop a ws)) (bits-no k held n)
@@ -178,11 +178,11 @@ module _ (b : List ℕ) (l : length b ≡ pageBodyWords (heldOf b)) where
       counts-at b k ∙ rw (first, word 1 (omega arith), word 2 (omega arith)) (sym (counts-at (recordOf b) k))
 
   -- head is the test of the first words
-  module _ (head : Bool) (e : head ≡ both (heldGood (heldOf b) (lastOf (countOf 2 b))) (all 4 (countGoodAt b))) where
-    head-same : head ≡ both (heldGood (heldOf (recordOf b)) (lastOf (countOf 2 (recordOf b)))) (all 4 (countGoodAt (recordOf b)))
+  module _ (head : Bool) (e : head ≡ both (heldGood (heldOf b) (lastOf (countWords 2 b))) (all 4 (countGoodAt b))) where
+    head-same : head ≡ both (heldGood (heldOf (recordOf b)) (lastOf (countWords 2 (recordOf b)))) (all 4 (countGoodAt (recordOf b)))
     head-same =
         let h : heldOf b ≡ heldOf (recordOf b) = sym (record-word b 1 (omega arith) (body-some b l)) in
-        let last : lastOf (countOf 2 b) ≡ lastOf (countOf 2 (recordOf b)) = last-at b ∙ sym (record-word b 10 (omega arith) (body-some b l))
+        let last : lastOf (countWords 2 b) ≡ lastOf (countWords 2 (recordOf b)) = last-at b ∙ sym (record-word b 10 (omega arith) (body-some b l))
         ∙ sym (last-at (recordOf b)) in
         e ∙ ap₂ both (ap₂ heldGood h last) (all-same (countGoodAt b) (countGoodAt (recordOf b)) 4 count-same)
 

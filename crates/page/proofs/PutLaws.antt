@@ -16,7 +16,7 @@ use Rattle.words.specs.Laid.{Laid}
 use Rattle.words.proofs.LaidLaws.{then, laid-length}
 use Rattle.words.proofs.MeetLaws.{meets-refused, meets-length}
 use Rattle.words.proofs.PartLaws.{seen, lent-to, put-at, part-length, part-past, part-whole}
-use Rattle.fields.specs.Sizes.{sizeOf, sizesOf}
+use Rattle.fields.specs.Sizes.{fieldSize, sizesOf}
 use Rattle.record.specs.Held.{heldMask, holds, heldBits}
 use Rattle.record.specs.Layout.{headWords, slotWords, recordWords, heldOf, slotIn}
 use Rattle.record.specs.After.{slotAfter, refilled, Inside}
@@ -48,7 +48,7 @@ refilled-masked n at ws slots =
     in-order-same 31 heldMask _ _
     (λ b h e.
     rw (masked-has n b e)
-    (ap (λ (l : List ℕ). pick (has n b) (part (at + sizesOf l) (sizeOf b) ws) (slotIn b slots)) (masked-place n b (omega (arith, held-low b e)))))
+    (ap (λ (l : List ℕ). pick (has n b) (part (at + sizesOf l) (fieldSize b) ws) (slotIn b slots)) (masked-place n b (omega (arith, held-low b e)))))
 
 -- n is the body's held indicator
 module _ (n : ℕ) (b : List ℕ) (e : n ≡ heldOf b) (l : length b ≡ pageBodyWords (heldOf b)) where

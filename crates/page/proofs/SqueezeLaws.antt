@@ -13,7 +13,7 @@ use Rattle.words.proofs.LaidLaws.{then, laid-length}
 use Rattle.words.proofs.PartLaws.{part-length}
 use Rattle.words.proofs.SetBitLaws.{bits-zero, bits-yes, bits-no, bits-trim, bits-none}
 use Rattle.words.proofs.Cases.{true-or-false}
-use Rattle.fields.specs.Sizes.{sizeOf, sizesOf}
+use Rattle.fields.specs.Sizes.{fieldSize, sizesOf}
 use Rattle.fields.proofs.SizeLaws.{sizes-more}
 use Rattle.record.specs.Held.{heldMask, holds, slotAt, inOrder}
 use Rattle.record.specs.Layout.{slotWords, slotIn}
@@ -55,7 +55,7 @@ squeezing-start held at slots page w =
 
 -- a turn: the next bit is b, whose slot begins at the place from and has n words
 module _ (held at rest to b rest′ n : ℕ) (slots before page : List ℕ) (p : Squeezing held at slots before page rest to)
-    (cut : bitsOf 32 rest ≡ b ∷ bitsOf 32 rest′) (e : n ≡ sizeOf b) where
+    (cut : bitsOf 32 rest ≡ b ∷ bitsOf 32 rest′) (e : n ≡ fieldSize b) where
   squeezing-holds : holds b ≡ true
   squeezing-holds = (rw cut at (p .bits)) .0
 
@@ -74,7 +74,7 @@ module _ (held at rest to b rest′ n : ℕ) (slots before page : List ℕ) (p :
     unfolding slotIn
     squeezing-turn page′ h q =
         let g : ℕ → List ℕ = λ x. slotIn x slots in
-        let k : length (slotIn b slots) ≡ n = part-length (slotAt b) (sizeOf b) slots (omega (arith, slot-inside b squeezing-holds)) ∙ sym e in
+        let k : length (slotIn b slots) ≡ n = part-length (slotAt b) (fieldSize b) slots (omega (arith, slot-inside b squeezing-holds)) ∙ sym e in
         let w : page′ ≡ put to n (slotIn b slots) page = q ∙ ap₂ (λ (i m : ℕ). put to n (part i m slots) page) f e in
         record {
           done = p .done ++ slotIn b slots;

@@ -6,7 +6,7 @@ use lib.ListN.{replicate}
 use Rattle.words.specs.Word.{has}
 use Rattle.words.specs.SetBits.{bitsOf, above}
 use Rattle.words.specs.Part.{part}
-use Rattle.fields.specs.Sizes.{sizeOf, sizesOf}
+use Rattle.fields.specs.Sizes.{fieldSize, sizesOf}
 use Rattle.record.specs.Held.{heldBits, inOrder}
 use Rattle.record.specs.Layout.{headWords, slotWords, heldOf, slotIn}
 use Rattle.record.specs.After.{slotAfter, refilled}
@@ -69,8 +69,8 @@ words-record b w =
     words-append (part 0 headWords b) _ (words-part 0 headWords b w)
     (words-order heldBits _
     (λ x. words-after (has (heldOf b) x) _ _
-    (words-part (headWords + sizesOf (above x (bitsOf 31 (heldOf b)))) (sizeOf x) b w)
-    (words-part _ (sizeOf x) (replicate slotWords 0) (words-zero slotWords))))
+    (words-part (headWords + sizesOf (above x (bitsOf 31 (heldOf b)))) (fieldSize x) b w)
+    (words-part _ (fieldSize x) (replicate slotWords 0) (words-zero slotWords))))
 
 pub words-table : (p : List ℕ) → Words32 p → Words32 (tableOf p)
 unfolding tableOf tableFrom savedRecord pageBodyAt

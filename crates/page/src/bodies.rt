@@ -4,7 +4,7 @@ ghost use lib.Bits.{bitAnd};
 ghost use Rattle.words.specs.SetBits.{bitsOf};
 ghost use Rattle.words.specs.Laid.{Laid};
 ghost use Rattle.words.specs.All.{tabled};
-ghost use Rattle.fields.specs.Sizes.{sizeOf, sizesOf};
+ghost use Rattle.fields.specs.Sizes.{fieldSize, sizesOf};
 ghost use Rattle.record.specs.Held.{heldMask, slotAt};
 ghost use Rattle.record.specs.Layout.{slotWords, recordWords};
 ghost use Rattle.record.specs.After.{heldWords};
@@ -16,7 +16,7 @@ ghost use Rattle.page.specs.inner.Tested.{contentsGood};
 
 // The length of a body, by its held indicator: the first words, and the words of each held field. The table of sizes is lent.
 pub fn body_words(held: u32, sizes: &[u8; 32]) -> usize
-    requires { ⌜ tabled 32 sizeOf (now sizes) ≡ true ⌝ }
+    requires { ⌜ tabled 32 fieldSize (now sizes) ≡ true ⌝ }
     ensures { λ r. ⌜ (r ≡ pageBodyWords held) × (r ≤ recordWords) ⌝ }
 {
     let mut rest = held % 0x8000_0000;
@@ -55,7 +55,7 @@ fn squeeze(
     sizes: &[u8; 32],
     places: &[u8; 32],
 ) -> usize
-    requires { ⌜ (length (now slots) ≡ slotWords) × (bitAnd held heldMask ≡ held) × (at + sizesOf (bitsOf 31 held) ≤ length (now page)) × (tabled 32 sizeOf (now sizes) ≡ true) × (tabled 32 slotAt (now places) ≡ true) ⌝ }
+    requires { ⌜ (length (now slots) ≡ slotWords) × (bitAnd held heldMask ≡ held) × (at + sizesOf (bitsOf 31 held) ≤ length (now page)) × (tabled 32 fieldSize (now sizes) ≡ true) × (tabled 32 slotAt (now places) ≡ true) ⌝ }
     ensures { λ r. ⌜ Laid (now (page .entry)) at (heldWords held (now (slots .entry))) r (now (page .exit)) ⌝ }
 {
     let mut rest = held;
@@ -79,7 +79,7 @@ pub fn write_body(
     sizes: &[u8; 32],
     places: &[u8; 32],
 ) -> usize
-    requires { ⌜ (length (now rec) ≡ recordWords) × (recordGood (now rec) ≡ true) × (at + length (pageBody (now rec)) ≤ length (now page)) × (tabled 32 sizeOf (now sizes) ≡ true) × (tabled 32 slotAt (now places) ≡ true) ⌝ }
+    requires { ⌜ (length (now rec) ≡ recordWords) × (recordGood (now rec) ≡ true) × (at + length (pageBody (now rec)) ≤ length (now page)) × (tabled 32 fieldSize (now sizes) ≡ true) × (tabled 32 slotAt (now places) ≡ true) ⌝ }
     ensures { λ r. ⌜ Laid (now (page .entry)) at (pageBody (now (rec .entry))) r (now (page .exit)) ⌝ }
 {
     words::inner::copy_part(page, at, rec, 0, record::inner::HEAD_WORDS);

@@ -1,7 +1,7 @@
 // Whether a page is well made: its contents, then its list, then each body's record.
 ghost use Rattle.words.specs.Kit.{_≡_, true, _≤_, _<_, length};
 ghost use Rattle.words.specs.All.{all, tabled};
-ghost use Rattle.fields.specs.Sizes.{sizeOf};
+ghost use Rattle.fields.specs.Sizes.{fieldSize};
 ghost use Rattle.record.specs.Layout.{heldOf};
 ghost use Rattle.record.specs.Good.{recordGood};
 ghost use Rattle.table.specs.Identifiers.{listGood};
@@ -12,7 +12,7 @@ ghost use Rattle.page.specs.inner.Tested.{pairGood, pairsGood, contentsG
 // Whether pair s is right, where the bodies before it end at a place: its offset is that place, its body ends inside the page, and its length is that of the
 // body's held indicator. The table of sizes is lent.
 fn pair_good(page: &[u32], s: usize, at: usize, sizes: &[u8; 32]) -> bool
-    requires { ⌜ (at ≡ beginsAt (now page) s) × (at ≤ length (now page)) × (s < 32) × (tabled 32 sizeOf (now sizes) ≡ true) ⌝ }
+    requires { ⌜ (at ≡ beginsAt (now page) s) × (at ≤ length (now page)) × (s < 32) × (tabled 32 fieldSize (now sizes) ≡ true) ⌝ }
     ensures { λ r. ⌜ r ≡ pairGood (now (page .entry)) s ⌝ }
 {
     let here = crate::contents::offset_in(page, s) == at;

@@ -11,7 +11,7 @@ use Rattle.words.proofs.Cases.{when-most}
 use Rattle.words.proofs.RefusalLaws.{first-passed, either-passed, after-first}
 use Rattle.words.proofs.MeetLaws.{meets-refused, meets-length}
 use Rattle.words.proofs.PartLaws.{seen, part-part, part-length}
-use Rattle.fields.specs.Sizes.{sizeOf}
+use Rattle.fields.specs.Sizes.{fieldSize}
 use Rattle.record.specs.Held.{holds, slotAt}
 use Rattle.record.specs.Layout.{headWords, slotWords, recordWords, slotIn, slotsOf, slotOf}
 use Rattle.record.proofs.SlotLaws.{held-all}
@@ -20,8 +20,8 @@ use Rattle.table.specs.Layout.{streamsOf, base, Has, recordAt}
 use Rattle.table.specs.Well.{wellMade}
 use Rattle.table.proofs.WellLaws.{layout-has, well-whole, well-few}
 use Rattle.panel.specs.Readings.{absent, shownOf, isHeld, recordShows, readingList, askedOf, readingOf, readingPaper}
-use Rattle.panel.specs.HeldWords.{heldIn, copyOf, heldWordsOf}
-use Rattle.panel.specs.declared.Dial.{Dial}
+use Rattle.panel.specs.HeldWords.{heldWordsIn, copyOf, heldWordsOf}
+use Rattle.panel.specs.declared.FieldReading.{FieldReading}
 use Rattle.words.specs.declared.Check.{Check}
 use Rattle.words.specs.declared.Check.the-variants as checks
 use Rattle.words.specs.declared.Length.{Length}
@@ -66,7 +66,7 @@ module _ (t : List ℕ) (s b : ℕ) where
   unfolding readingOf askedOf
   reading-asked = sym (after-first (readingList t s b) tt _)
 
-  words-asked : (out : List ℕ) → heldWordsOf t s b out ≡ after (askedOf t s b) (copyOf (heldIn b (recordAt s t)) out)
+  words-asked : (out : List ℕ) → heldWordsOf t s b out ≡ after (askedOf t s b) (copyOf (heldWordsIn b (recordAt s t)) out)
   unfolding heldWordsOf askedOf copyOf
   words-asked out = sym (after-first (readingList t s b) tt _)
 
@@ -89,13 +89,13 @@ module _ (t : List ℕ) (s b : ℕ) where
     pub reading-refused : (n : ℕ) → k ≡ checks.Refused n → refused n ≡ readingOf t s b
     reading-refused n f = let g : askedOf t s b ≡ refused n = sym e ∙ ap checked f in rw (reading-asked, g)
 
-    pub reading-shown : (r : Dial) → k ≡ checks.Fine → readingPaper r ≡ accepted (recordShows b (recordAt s t)) → readingPaper r ≡ readingOf t s b
+    pub reading-shown : (r : FieldReading) → k ≡ checks.Fine → readingPaper r ≡ accepted (recordShows b (recordAt s t)) → readingPaper r ≡ readingOf t s b
     reading-shown r f h = rw (reading-asked, fine f) h
 
     pub words-refused : (out : List ℕ) (n : ℕ) → k ≡ checks.Refused n → Meets measured (heldWordsOf t s b out) out (lengths.Refused n) out
     words-refused out n f = let g : askedOf t s b ≡ refused n = sym e ∙ ap checked f in meets-refused (rw (words-asked, g))
 
-    pub words-copied : (out last : List ℕ) (r : Length) → k ≡ checks.Fine → Meets measured (copyOf (heldIn b (recordAt s t)) out) out r last
+    pub words-copied : (out last : List ℕ) (r : Length) → k ≡ checks.Fine → Meets measured (copyOf (heldWordsIn b (recordAt s t)) out) out r last
         → Meets measured (heldWordsOf t s b out) out r last
     words-copied out last r f h = rw (words-asked, fine f) h
 
@@ -104,18 +104,18 @@ pub shows-absent : (r : List ℕ) (b : ℕ) (h : Bool) → h ≡ isHeld b r → 
 unfolding recordShows
 shows-absent r b h e i = rw (← e, not-true h i)
 
-module _ (r : List ℕ) (b at z : ℕ) (l : length r ≡ recordWords) (lo : 10 ≤ b) (hi : b ≤ 30) (ea : at ≡ slotAt b) (ez : z ≡ sizeOf b) where
+module _ (r : List ℕ) (b at z : ℕ) (l : length r ≡ recordWords) (lo : 10 ≤ b) (hi : b ≤ 30) (ea : at ≡ slotAt b) (ez : z ≡ fieldSize b) where
   held-here : holds b ≡ true
   held-here = held-all b lo (omega arith)
 
-  slot-is : slotOf b r ≡ part (headWords + at) (sizeOf b) r
+  slot-is : slotOf b r ≡ part (headWords + at) (fieldSize b) r
   unfolding slotOf slotIn slotsOf
-  slot-is = rw ea (part-part (slotAt b) (sizeOf b) headWords slotWords r (slot-inside b held-here))
+  slot-is = rw ea (part-part (slotAt b) (fieldSize b) headWords slotWords r (slot-inside b held-here))
 
   pub slot-most : headWords + at + z ≤ length r
   slot-most = omega (arith, slot-inside b held-here)
 
-  pub shows-held : (h : Bool) (d : Dial) → h ≡ isHeld b r → not h ≡ false
+  pub shows-held : (h : Bool) (d : FieldReading) → h ≡ isHeld b r → not h ≡ false
       → readingPaper d ≡ accepted (shownOf b (take (headWords + at + z - (headWords + at)) (drop (headWords + at) r)))
       → readingPaper d ≡ accepted (recordShows b r)
   unfolding recordShows
@@ -124,7 +124,7 @@ module _ (r : List ℕ) (b at z : ℕ) (l : length r ≡ recordWords) (lo : 10 �
       (seen (headWords + at) (headWords + at + z) z r refl ∙ rw ez (sym slot-is)))
 
   -- the held words are a part of the record
-  part-when : (t : Bool) → pick t (slotOf b r) [] ≡ part (headWords + at) (when t (sizeOf b)) r
+  part-when : (t : Bool) → pick t (slotOf b r) [] ≡ part (headWords + at) (when t (fieldSize b)) r
   unfolding part
   part-when true = slot-is
   part-when false = refl
@@ -133,25 +133,25 @@ module _ (r : List ℕ) (b at z : ℕ) (l : length r ≡ recordWords) (lo : 10 �
     pub held-most : headWords + at + n ≤ length r
     held-most = omega (arith, slot-most, when-most h z)
 
-    held-part : heldIn b r ≡ part (headWords + at) n r
-    unfolding heldIn
+    held-part : heldWordsIn b r ≡ part (headWords + at) n r
+    unfolding heldWordsIn
     held-part = part-when (isHeld b r) ∙ ap (λ (k : ℕ). part (headWords + at) k r) (rw (← eh, ← ez) (sym en))
 
-    held-length : length (heldIn b r) ≡ n
+    held-length : length (heldWordsIn b r) ≡ n
     held-length = ap length held-part ∙ part-length (headWords + at) n r held-most
 
     pub copy-made : (out last : List ℕ) → n ≤ length out → last ≡ put 0 n (part (headWords + at) n r) out
-        → Meets measured (copyOf (heldIn b r) out) out (lengths.Accepted n) last
+        → Meets measured (copyOf (heldWordsIn b r) out) out (lengths.Accepted n) last
     unfolding copyOf put
     copy-made out last o p =
-        meets-length {left = heldIn b r ++ drop n out} (rw (held-length, le-ltb (length out) n o))
+        meets-length {left = heldWordsIn b r ++ drop n out} (rw (held-length, le-ltb (length out) n o))
         (p ∙ ap (λ (ws : List ℕ). ws ++ drop n out) (sym held-part))
 
-pub copy-room : (r out : List ℕ) (b z n : ℕ) (h : Bool) → length r ≡ recordWords → 10 ≤ b → b ≤ 30 → z ≡ sizeOf b → h ≡ isHeld b r → n ≡ when h z
-    → length out < n → Meets measured (copyOf (heldIn b r) out) out (lengths.Refused ROOM) out
+pub copy-room : (r out : List ℕ) (b z n : ℕ) (h : Bool) → length r ≡ recordWords → 10 ≤ b → b ≤ 30 → z ≡ fieldSize b → h ≡ isHeld b r → n ≡ when h z
+    → length out < n → Meets measured (copyOf (heldWordsIn b r) out) out (lengths.Refused ROOM) out
 unfolding copyOf
 copy-room r out b z n h l lo hi ez eh en o =
-    let k : length (heldIn b r) ≡ n = held-length r b (slotAt b) z l lo hi refl ez n h eh en in
+    let k : length (heldWordsIn b r) ≡ n = held-length r b (slotAt b) z l lo hi refl ez n h eh en in
     meets-refused (rw (k, lt-ltb (length out) n o))
 
 -- ---- a record that is lent from its place on
@@ -160,10 +160,10 @@ module _ (t : List ℕ) (s b at : ℕ) (e : at ≡ base s) where
   unfolding recordAt
   lent-record = seen at (at + recordWords) recordWords t refl ∙ ap (λ (a : ℕ). part a recordWords t) e
 
-  pub read-lent : (d : Dial) → readingPaper d ≡ accepted (recordShows b (take (at + recordWords - at) (drop at t)))
+  pub read-lent : (d : FieldReading) → readingPaper d ≡ accepted (recordShows b (take (at + recordWords - at) (drop at t)))
       → readingPaper d ≡ accepted (recordShows b (recordAt s t))
   read-lent d h = h ∙ ap (λ (r : List ℕ). accepted (recordShows b r)) lent-record
 
-  pub copy-lent : (out last : List ℕ) (r : Length) → Meets measured (copyOf (heldIn b (take (at + recordWords - at) (drop at t))) out) out r last
-      → Meets measured (copyOf (heldIn b (recordAt s t)) out) out r last
-  copy-lent out last r h = subst (λ (l : List ℕ). Meets measured (copyOf (heldIn b l) out) out r last) lent-record h
+  pub copy-lent : (out last : List ℕ) (r : Length) → Meets measured (copyOf (heldWordsIn b (take (at + recordWords - at) (drop at t))) out) out r last
+      → Meets measured (copyOf (heldWordsIn b (recordAt s t)) out) out r last
+  copy-lent out last r h = subst (λ (l : List ℕ). Meets measured (copyOf (heldWordsIn b l) out) out r last) lent-record h

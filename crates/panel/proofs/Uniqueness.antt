@@ -3,11 +3,11 @@ use Rattle.words.proofs.Kit.{_≡_, refl, List, ℕ}
 use Rattle.words.specs.Outcome.{Outcome, refused, accepted}
 use Rattle.words.proofs.Once.{once}
 use Rattle.panel.specs.Readings.{Reading, frequency, level, gain, temperature, other, absent, readingOf, readingPaper}
-use Rattle.panel.specs.declared.Dial.{Dial}
-use Rattle.panel.specs.declared.Dial.the-variants as dial
+use Rattle.panel.specs.declared.FieldReading.{FieldReading}
+use Rattle.panel.specs.declared.FieldReading.the-variants as dial
 
 -- ---- the left inverses
-abbrev readingBack : Outcome Reading → Dial
+abbrev readingBack : Outcome Reading → FieldReading
 readingBack (accepted (frequency hertz parts)) = dial.Frequency hertz parts
 readingBack (accepted (level x)) = dial.Level x
 readingBack (accepted (gain x y)) = dial.Gain (record { stage1 = x; stage2 = y })
@@ -16,7 +16,7 @@ readingBack (accepted other) = dial.Other
 readingBack (accepted absent) = dial.Absent
 readingBack (refused n) = dial.Refused n
 
-readingLeft : (a : Dial) → readingBack (readingPaper a) ≡ a
+readingLeft : (a : FieldReading) → readingBack (readingPaper a) ≡ a
 readingLeft (dial.Frequency hertz parts) = refl
 readingLeft (dial.Level x) = refl
 readingLeft (dial.Gain g) = refl
@@ -26,5 +26,6 @@ readingLeft dial.Absent = refl
 readingLeft (dial.Refused n) = refl
 
 -- ---- one law for each public call
-pub reading-once : (t : List ℕ) (stream bit : ℕ) (r s : Dial) → readingPaper r ≡ readingOf t stream bit → readingPaper s ≡ readingOf t stream bit → r ≡ s
+pub reading-once : (t : List ℕ) (stream bit : ℕ) (r s : FieldReading) → readingPaper r ≡ readingOf t stream bit → readingPaper s ≡ readingOf t stream bit
+    → r ≡ s
 reading-once t stream bit r s p q = once readingPaper readingBack readingLeft p q

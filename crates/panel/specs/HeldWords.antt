@@ -10,8 +10,8 @@ use Rattle.table.specs.Layout.{recordAt}
 use Rattle.panel.specs.Readings.{isHeld, readingList}
 
 -- the words of the field of a bit in a record: none where it is absent
-unfoldable pub heldIn : ℕ → List ℕ → List ℕ
-heldIn bit r = pick (isHeld bit r) (slotOf bit r) []
+unfoldable pub heldWordsIn : ℕ → List ℕ → List ℕ
+heldWordsIn bit r = pick (isHeld bit r) (slotOf bit r) []
 
 -- "a buffer to be written is too short"
 abbrev pub copyList : List ℕ → List ℕ → Refusals
@@ -22,10 +22,10 @@ unfoldable pub copyOf : List ℕ → List ℕ → Outcome (Done ℕ (List ℕ))
 copyOf ws out = firstGiven (copyList ws out) (accepted (record { says = length ws; leaves = ws ++ drop (length ws) out }))
 
 abbrev pub heldWordsList : List ℕ → ℕ → ℕ → List ℕ → Refusals
-heldWordsList t stream bit out = readingList t stream bit ++ copyList (heldIn bit (recordAt stream t)) out
+heldWordsList t stream bit out = readingList t stream bit ++ copyList (heldWordsIn bit (recordAt stream t)) out
 
 -- what `held_words` answers, and what it leaves in the buffer
 unfoldable pub heldWordsOf : List ℕ → ℕ → ℕ → List ℕ → Outcome (Done ℕ (List ℕ))
 heldWordsOf t stream bit out =
-    let ws = heldIn bit (recordAt stream t) in
+    let ws = heldWordsIn bit (recordAt stream t) in
     firstGiven (heldWordsList t stream bit out) (accepted (record { says = length ws; leaves = ws ++ drop (length ws) out }))

@@ -12,8 +12,8 @@ use Rattle.record.specs.Layout.{heldOf, slotOf}
 use Rattle.table.specs.Layout.{streamsOf, recordAt}
 use Rattle.table.specs.Well.{wellMade}
 use Rattle.panel.specs.Values.{unitsOf, floorDiv, floorRem, over, lowerHalf, upperHalf}
-use Rattle.panel.specs.declared.Dial.{Dial}
-use Rattle.panel.specs.declared.Dial.the-variants as dial
+use Rattle.panel.specs.declared.FieldReading.{FieldReading}
+use Rattle.panel.specs.declared.FieldReading.the-variants as dial
 
 -- a reading, with its values
 pub data Reading : Type 0 where
@@ -59,7 +59,7 @@ unfoldable pub readingOf : List ℕ → ℕ → ℕ → Outcome Reading
 readingOf t stream bit = firstGiven (readingList t stream bit) (accepted (recordShows bit (recordAt stream t)))
 
 -- the number or the values of its answer
-abbrev pub readingPaper : Dial → Outcome Reading
+abbrev pub readingPaper : FieldReading → Outcome Reading
 readingPaper (dial.Frequency hertz parts) = accepted (frequency hertz parts)
 readingPaper (dial.Level x) = accepted (level x)
 readingPaper (dial.Gain g) = accepted (gain (g .stage1) (g .stage2))

@@ -17,7 +17,7 @@ pub struct Stages {
 
 // What a reading shows: whole hertz rounded down and parts of 2^20, a level, both stages of a gain, a temperature, a field of which no more is said, no field;
 // or the number of the refusal.
-pub enum Dial {
+pub enum FieldReading {
     Frequency { hertz: i64, parts: u32 },
     Level(f32),
     Gain(Stages),
@@ -29,11 +29,11 @@ pub enum Dial {
 
 // What the field of a bit shows in a stream's record. TABLE for a table that is not well made, STREAM for a stream number that is not in it, VALUE for a bit
 // that is not 30 to 10.
-pub fn reading(table: &[u32], stream: usize, bit: u32) -> Dial
+pub fn reading(table: &[u32], stream: usize, bit: u32) -> FieldReading
     ensures { λ r. ⌜ readingPaper r ≡ readingOf (now (table .entry)) stream bit ⌝ }
 {
     match asked::check(table, stream, bit) {
-        words::Check::Refused(n) => Dial::Refused(n),
+        words::Check::Refused(n) => FieldReading::Refused(n),
         words::Check::Fine => records::read_at(table, stream, bit),
     }
 }

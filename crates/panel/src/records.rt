@@ -4,7 +4,7 @@ ghost use Rattle.words.specs.Outcome.{accepted, measured, Meets};
 ghost use Rattle.record.specs.Layout.{recordWords};
 ghost use Rattle.table.specs.Layout.{Has, recordAt};
 ghost use Rattle.panel.specs.Readings.{isHeld, recordShows, readingPaper};
-ghost use Rattle.panel.specs.HeldWords.{heldIn, copyOf};
+ghost use Rattle.panel.specs.HeldWords.{heldWordsIn, copyOf};
 
 // Whether a record holds the field of a bit.
 fn is_held(rec: &[u32], bit: u32) -> bool
@@ -15,24 +15,24 @@ fn is_held(rec: &[u32], bit: u32) -> bool
 }
 
 // What the field of a bit shows in a record.
-fn read_record(rec: &[u32], bit: u32) -> crate::Dial
+fn read_record(rec: &[u32], bit: u32) -> crate::FieldReading
     requires { ⌜ (length (now rec) ≡ recordWords) × (10 ≤ bit) × (bit ≤ 30) ⌝ }
     ensures { λ r. ⌜ readingPaper r ≡ accepted (recordShows bit (now (rec .entry))) ⌝ }
 {
     if !is_held(rec, bit) {
-        return crate::Dial::Absent;
+        return crate::FieldReading::Absent;
     }
     let at = record::inner::HEAD_WORDS + record::inner::slot_at(bit);
-    let end = at + fields::inner::size_of(bit);
+    let end = at + fields::inner::field_size(bit);
     crate::shows::show(bit, &rec[at..end])
 }
 
 // The words of a field that a record holds, copied to the front of out.
 fn copy_record(rec: &[u32], bit: u32, out: &mut [u32]) -> words::Length
     requires { ⌜ (length (now rec) ≡ recordWords) × (10 ≤ bit) × (bit ≤ 30) ⌝ }
-    ensures { λ r. ⌜ Meets measured (copyOf (heldIn bit (now (rec .entry))) (now (out .entry))) (now (out .entry)) r (now (out .exit)) ⌝ }
+    ensures { λ r. ⌜ Meets measured (copyOf (heldWordsIn bit (now (rec .entry))) (now (out .entry))) (now (out .entry)) r (now (out .exit)) ⌝ }
 {
-    let n = words::inner::when_so(is_held(rec, bit), fields::inner::size_of(bit));
+    let n = words::inner::when_so(is_held(rec, bit), fields::inner::field_size(bit));
     if out.len() < n {
         return words::Length::Refused(words::ROOM);
     }
@@ -42,7 +42,7 @@ fn copy_record(rec: &[u32], bit: u32, out: &mut [u32]) -> words::Length
 }
 
 // What the field of a bit shows in the record of a stream.
-pub fn read_at(table: &[u32], stream: usize, bit: u32) -> crate::Dial
+pub fn read_at(table: &[u32], stream: usize, bit: u32) -> crate::FieldReading
     requires { ⌜ (stream < 32) × Has stream (now table) × (10 ≤ bit) × (bit ≤ 30) ⌝ }
     ensures { λ r. ⌜ readingPaper r ≡ accepted (recordShows bit (recordAt stream (now (table .entry)))) ⌝ }
 {
@@ -54,7 +54,7 @@ pub fn read_at(table: &[u32], stream: usize, bit: u32) -> crate::Dial
 // The words of a field that a stream holds, copied to the front of out.
 pub fn copy_at(table: &[u32], stream: usize, bit: u32, out: &mut [u32]) -> words::Length
     requires { ⌜ (stream < 32) × Has stream (now table) × (10 ≤ bit) × (bit ≤ 30) ⌝ }
-    ensures { λ r. ⌜ Meets measured (copyOf (heldIn bit (recordAt stream (now (table .entry)))) (now (out .entry))) (now (out .entry)) r (now (out .exit)) ⌝ }
+    ensures { λ r. ⌜ Meets measured (copyOf (heldWordsIn bit (recordAt stream (now (table .entry)))) (now (out .entry))) (now (out .entry)) r (now (out .exit)) ⌝ }
 {
     let at = table::inner::record_at(stream);
     let end = at + record::inner::RECORD_WORDS;

@@ -14,30 +14,30 @@ fn is_frequency(bit: u32) -> bool
 }
 
 // What the field of a bit shows, by its words.
-pub fn show(bit: u32, ws: &[u32]) -> crate::Dial
+pub fn show(bit: u32, ws: &[u32]) -> crate::FieldReading
     ensures { λ r. ⌜ readingPaper r ≡ accepted (shownOf bit (now (ws .entry))) ⌝ }
 {
     let first = words::inner::word_at(ws, 0);
     if is_frequency(bit) {
         let low = words::inner::word_at(ws, 1);
-        return crate::Dial::Frequency {
+        return crate::FieldReading::Frequency {
             hertz: crate::values::whole_hertz(crate::values::units(first, low)),
             parts: low % 0x10_0000,
         };
     }
     if bit == 24 {
-        return crate::Dial::Level(crate::values::decibels(first % 0x1_0000));
+        return crate::FieldReading::Level(crate::values::decibels(first % 0x1_0000));
     }
     if bit == 23 {
         let lower = crate::values::decibels(first % 0x1_0000);
         let upper = crate::values::decibels(first / 0x1_0000 % 0x1_0000);
-        return crate::Dial::Gain(crate::Stages {
+        return crate::FieldReading::Gain(crate::Stages {
             stage1: lower,
             stage2: upper,
         });
     }
     if bit == 18 {
-        return crate::Dial::Temperature(crate::values::degrees(first % 0x1_0000));
+        return crate::FieldReading::Temperature(crate::values::degrees(first % 0x1_0000));
     }
-    crate::Dial::Other
+    crate::FieldReading::Other
 }

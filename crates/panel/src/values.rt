@@ -52,7 +52,7 @@ pub fn units(high: u32, low: u32) -> i64
 
 // What is to be taken off a quotient that was rounded towards zero, so that it is rounded down: 1 where the division left something below zero, and else 0.
 // -3 / 2 is -1 and leaves -1: rounded down it is -2.
-fn rounded_up(left: i64) -> i64
+fn taken_off(left: i64) -> i64
     ensures { λ r. ⌜ r ≡ pick (ltZ left (pos 0)) (pos 1) (pos 0) ⌝ }
 {
     if left < 0 {
@@ -65,5 +65,5 @@ fn rounded_up(left: i64) -> i64
 pub fn whole_hertz(z: i64) -> i64
     ensures { λ r. ⌜ r ≡ floorDiv z 1048576 ⌝ }
 {
-    z / 0x10_0000 - rounded_up(z % 0x10_0000)
+    z / 0x10_0000 - taken_off(z % 0x10_0000)
 }

@@ -3,7 +3,7 @@
 // 3, a sweep over every half of a word.
 mod decimal;
 
-use panel::Dial;
+use panel::FieldReading;
 use words::Length;
 
 // A frequency: whole hertz and parts of 2^20.
@@ -34,15 +34,15 @@ fn show_temperature(x: f32) {
 }
 
 // What a reading answers.
-fn show(answer: Dial) {
+fn show(answer: FieldReading) {
     match answer {
-        Dial::Frequency { hertz, parts } => show_frequency(hertz, parts),
-        Dial::Level(x) => show_level(x),
-        Dial::Gain(g) => show_gain(g.stage1, g.stage2),
-        Dial::Temperature(x) => show_temperature(x),
-        Dial::Other => wordio::inner::text(b" other"),
-        Dial::Absent => wordio::inner::text(b" absent"),
-        Dial::Refused(n) => wordio::inner::named(b"refused", n as u64),
+        FieldReading::Frequency { hertz, parts } => show_frequency(hertz, parts),
+        FieldReading::Level(x) => show_level(x),
+        FieldReading::Gain(g) => show_gain(g.stage1, g.stage2),
+        FieldReading::Temperature(x) => show_temperature(x),
+        FieldReading::Other => wordio::inner::text(b" other"),
+        FieldReading::Absent => wordio::inner::text(b" absent"),
+        FieldReading::Refused(n) => wordio::inner::named(b"refused", n as u64),
     }
 }
 

@@ -16,7 +16,7 @@ use Rattle.words.proofs.Cases.{le-or-lt}
 use Rattle.words.proofs.AllLaws.{all-at}
 use Rattle.payload_format.specs.declared.inner.Packing.{Packing}
 use Rattle.payload_format.specs.Format.{Legal}
-use Rattle.payload_format.specs.Field.{itemIn, eventIn, channelIn, unusedIn, made, fieldsOf, fitting, joined}
+use Rattle.payload_format.specs.Field.{itemIn, eventIn, channelIn, unusedIn, made, fieldsOf, fitting, anyBits}
 
 -- ---- a field that holds an item alone
 module _ (p : Packing) (l : Legal p) (i : ℕ) (h : i < 2 ^ p .item) where
@@ -107,20 +107,20 @@ fields-blank p j is es cs a b d =
 or-over : (a b : ℕ) → (a ≤ bitOr a b) × (b ≤ bitOr a b)
 or-over a b = (omega (arith, or-add-and a b, and-le-r a b), omega (arith, or-add-and a b, and-le-l a b))
 
-pub joined-none : (l : List ℕ) → 0 ≡ joined 0 l
-unfolding joined
+pub joined-none : (l : List ℕ) → 0 ≡ anyBits 0 l
+unfolding anyBits
 joined-none l = refl
 
-pub joined-more : (n : ℕ) (l : List ℕ) (x : ℕ) → x ≡ joined n l → bitOr x (getD l n 0) ≡ joined (n + 1) l
-unfolding joined
+pub joined-more : (n : ℕ) (l : List ℕ) (x : ℕ) → x ≡ anyBits n l → bitOr x (getD l n 0) ≡ anyBits (n + 1) l
+unfolding anyBits
 joined-more n l x e = rw (add-one n, e)
 
 -- all fit w bits exactly when the bits that any of them has do
-pub fitting-joined : (w n : ℕ) (l : List ℕ) → fitting w n l ≡ ltb (joined n l) (2 ^ w)
-unfolding fitting joined all
+pub fitting-joined : (w n : ℕ) (l : List ℕ) → fitting w n l ≡ ltb (anyBits n l) (2 ^ w)
+unfolding fitting anyBits all
 fitting-joined w zero l = sym (lt-ltb 0 (2 ^ w) (pow-pos w))
 fitting-joined w (suc n) l =
-    let a : ℕ = joined n l in
+    let a : ℕ = anyBits n l in
     let b : ℕ = getD l n 0 in
     let o = or-over a b in
     ap (λ (t : Bool). both t (ltb b (2 ^ w))) (fitting-joined w n l)

@@ -2,14 +2,14 @@
 use Rattle.words.specs.Kit.{ℕ, zero, suc, _+_, _-_, _*_, _/_, _%_, _^_, Bool, List, getD, ltb}
 use lib.Bits.{bitOr}
 use Rattle.words.specs.All.{all}
-use Rattle.bitstream.specs.Carried.{fieldOf}
+use Rattle.bitstream.specs.Carried.{packingField}
 use Rattle.payload_format.specs.declared.inner.Packing.{Packing}
 
 -- ---- reading
 
 -- packing field k of the words ws
 abbrev pub fieldIn : Packing → List ℕ → ℕ → ℕ
-fieldIn p ws k = fieldOf (p .carry) (p .field) ws k
+fieldIn p ws k = packingField (p .carry) (p .field) ws k
 
 -- "the item at its left"
 abbrev pub itemIn : Packing → ℕ → ℕ
@@ -41,6 +41,6 @@ unfoldable pub fitting : ℕ → ℕ → List ℕ → Bool
 fitting w n l = all n (λ k. ltb (getD l k 0) (2 ^ w))
 
 -- and the bits that any of them has, by which a call tests them all at once
-unfoldable pub joined : ℕ → List ℕ → ℕ
-joined zero l = 0
-joined (suc n) l = bitOr (joined n l) (getD l n 0)
+unfoldable pub anyBits : ℕ → List ℕ → ℕ
+anyBits zero l = 0
+anyBits (suc n) l = bitOr (anyBits n l) (getD l n 0)

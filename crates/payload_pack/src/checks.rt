@@ -1,7 +1,7 @@
 // The refusals of packing: FORMAT, COUNT, VALUE, ROOM.
 ghost use Rattle.words.specs.Kit.{_≡_, _≤_, _<_, length};
 ghost use Rattle.words.specs.Outcome.{checked};
-ghost use Rattle.payload_format.specs.Field.{fitting, joined};
+ghost use Rattle.payload_format.specs.Field.{fitting, anyBits};
 ghost use Rattle.payload_pack.specs.Pack.{packCheck};
 use payload_format::inner::count_bad;
 use payload_format::inner::format_bad;
@@ -11,7 +11,7 @@ use words::Check;
 
 // The bits that any of the items has.
 fn join_items(items: &[u64]) -> u64
-    ensures { λ r. ⌜ r ≡ joined (length (now (items .entry))) (now (items .entry)) ⌝ }
+    ensures { λ r. ⌜ r ≡ anyBits (length (now (items .entry))) (now (items .entry)) ⌝ }
 {
     let mut all: u64 = 0;
     let mut k = 0;
@@ -24,7 +24,7 @@ fn join_items(items: &[u64]) -> u64
 
 // The bits that any of the event tags has.
 fn join_events(events: &[u8]) -> u8
-    ensures { λ r. ⌜ r ≡ joined (length (now (events .entry))) (now (events .entry)) ⌝ }
+    ensures { λ r. ⌜ r ≡ anyBits (length (now (events .entry))) (now (events .entry)) ⌝ }
 {
     let mut all: u8 = 0;
     let mut k = 0;
@@ -37,7 +37,7 @@ fn join_events(events: &[u8]) -> u8
 
 // The bits that any of the channel tags has.
 fn join_channels(channels: &[u16]) -> u16
-    ensures { λ r. ⌜ r ≡ joined (length (now (channels .entry))) (now (channels .entry)) ⌝ }
+    ensures { λ r. ⌜ r ≡ anyBits (length (now (channels .entry))) (now (channels .entry)) ⌝ }
 {
     let mut all: u16 = 0;
     let mut k = 0;

@@ -2,7 +2,7 @@
 -- the next field is there (`reading-can`), is field k (`reading-field`), and leaves the same of field k + 1 (`reading-next`).
 use Rattle.words.proofs.Kit.{_≡_, List, ℕ, _+_, _-_, _*_, _/_, _^_, _≤_, _<_, arith, length}
 use native.Mathlib.Nat.{mul-add, mul-le-mul-left}
-use Rattle.bitstream.specs.Carried.{fieldOf}
+use Rattle.bitstream.specs.Carried.{packingField}
 use Rattle.bitstream.specs.declared.inner.accumulator.Held.{Held}
 use Rattle.bitstream.specs.declared.inner.accumulator.Taken.{Taken}
 use Rattle.bitstream.specs.Accumulator.{Ahead, AheadBy, Takeable, Took, TookItem, FieldTakeable, heldOf}
@@ -36,8 +36,8 @@ reading-can p n room ws s k u l r =
     }
 
 -- it is field k, and one more is taken
-pub reading-field : {c f : ℕ} {ws : List ℕ} {s : Held} {k : ℕ} {t : Taken} → Reading c f ws s k → Took c f s ws t → t .value ≡ fieldOf c f ws k
-unfolding fieldOf
+pub reading-field : {c f : ℕ} {ws : List ℕ} {s : Held} {k : ℕ} {t : Taken} → Reading c f ws s k → Took c f s ws t → t .value ≡ packingField c f ws k
+unfolding packingField
 reading-field {f = f} {k = k} r t = t .keeps (f * k) (r .ahead) .0
 
 pub reading-next : {c f : ℕ} {ws : List ℕ} {s : Held} {k : ℕ} {t : Taken} → Reading c f ws s k → Took c f s ws t → Reading c f ws (heldOf t) (k + 1)
@@ -73,8 +73,8 @@ items-can p n room u ws s k v l h m r =
     }
 
 pub items-value : {c f u : ℕ} {ws : List ℕ} {s : Held} {k : ℕ} {t : Taken} → ReadingItems c f u ws s k → TookItem c f u s ws t
-    → t .value ≡ fieldOf c f ws k / 2 ^ u
-unfolding fieldOf
+    → t .value ≡ packingField c f ws k / 2 ^ u
+unfolding packingField
 items-value {f = f} {k = k} r t = t .keeps (f * k) (r .few) (r .ahead) .0
 
 pub items-next : {c f u : ℕ} {ws : List ℕ} {s : Held} {k : ℕ} {t : Taken} → ReadingItems c f u ws s k → TookItem c f u s ws t

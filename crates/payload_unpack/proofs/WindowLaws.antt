@@ -6,7 +6,7 @@ use lib.ListN.{List·getD-eq-default}
 use lib.Pow.{shr-le, shr-lt, shr-shr}
 use Rattle.words.specs.Word.{highFirst}
 use Rattle.bitstream.specs.Stream.{span}
-use Rattle.bitstream.specs.Carried.{carried, fieldOf}
+use Rattle.bitstream.specs.Carried.{streamBits, packingField}
 use Rattle.bitstream.specs.Filled.{filled, filledFrom}
 use Rattle.bitstream.proofs.SpanLaws.{split, first, below, whole}
 use Rattle.bitstream.proofs.AccumulatorLaws.{append-below, appended, left}
@@ -62,35 +62,35 @@ module _ (g : ℕ → ℕ) (i m n o x y : ℕ) (size : n ≡ m * 32) (some : o �
 
 -- ---- bits of words, from bit b on
 module _ (ws : List ℕ) (small : (j : ℕ) → getD ws j 0 < 2 ^ 32) where
-  word-is : (j : ℕ) → getD ws j 0 ≡ carried 32 ws j
-  unfolding carried
+  word-is : (j : ℕ) → getD ws j 0 ≡ streamBits 32 ws j
+  unfolding streamBits
   word-is j = sym (div-one (getD ws j 0))
 
-  one-word : (i : ℕ) → getD ws i 0 ≡ span 32 (carried 32 ws) (i * 32) 32
-  one-word i = word-is i ∙ sym (whole 32 (carried 32 ws) i (subst (λ (z : ℕ). z < 2 ^ 32) (word-is i) (small i)))
+  one-word : (i : ℕ) → getD ws i 0 ≡ span 32 (streamBits 32 ws) (i * 32) 32
+  one-word i = word-is i ∙ sym (whole 32 (streamBits 32 ws) i (subst (λ (z : ℕ). z < 2 ^ 32) (word-is i) (small i)))
 
-  two-words : (i : ℕ) → highFirst (getD ws i 0) (getD ws (i + 1) 0) ≡ span 32 (carried 32 ws) (i * 32) 64
+  two-words : (i : ℕ) → highFirst (getD ws i 0) (getD ws (i + 1) 0) ≡ span 32 (streamBits 32 ws) (i * 32) 64
   two-words i =
       let e : (i + 1) * 32 ≡ i * 32 + 32 = omega arith in
-      ap₂ (λ (x y : ℕ). x * 2 ^ 32 + y) (one-word i) (one-word (i + 1) ∙ ap (λ (z : ℕ). span 32 (carried 32 ws) z 32) e)
-      ∙ sym (split 32 (carried 32 ws) (i * 32) 32 32)
+      ap₂ (λ (x y : ℕ). x * 2 ^ 32 + y) (one-word i) (one-word (i + 1) ∙ ap (λ (z : ℕ). span 32 (streamBits 32 ws) z 32) e)
+      ∙ sym (split 32 (streamBits 32 ws) (i * 32) 32 32)
 
   -- of m words, which are x, and the next, which is y
-  bits-from : (b m n x y : ℕ) → n ≡ m * 32 → b % 32 ≤ n → x ≡ span 32 (carried 32 ws) (b / 32 * 32) n → y ≡ getD ws (b / 32 + m) 0
-      → x * 2 ^ (b % 32) % 2 ^ n + y / 2 ^ (32 - b % 32) ≡ span 32 (carried 32 ws) b n
+  bits-from : (b m n x y : ℕ) → n ≡ m * 32 → b % 32 ≤ n → x ≡ span 32 (streamBits 32 ws) (b / 32 * 32) n → y ≡ getD ws (b / 32 + m) 0
+      → x * 2 ^ (b % 32) % 2 ^ n + y / 2 ^ (32 - b % 32) ≡ span 32 (streamBits 32 ws) b n
   bits-from b m n x y size some front next =
-      window (carried 32 ws) (b / 32) m n (b % 32) x y size some (omega arith) front (next ∙ word-is (b / 32 + m)) (rw next (small (b / 32 + m)))
-      ∙ ap (λ (z : ℕ). span 32 (carried 32 ws) z n) (div-add-mod' b 32)
+      window (streamBits 32 ws) (b / 32) m n (b % 32) x y size some (omega arith) front (next ∙ word-is (b / 32 + m)) (rw next (small (b / 32 + m)))
+      ∙ ap (λ (z : ℕ). span 32 (streamBits 32 ws) z n) (div-add-mod' b 32)
 
-  pub bits-are : (b r : ℕ) → r ≡ getD ws (b / 32) 0 * 2 ^ (b % 32) % 2 ^ 32 + getD ws (b / 32 + 1) 0 / 2 ^ (32 - b % 32) → r ≡ span 32 (carried 32 ws) b 32
+  pub bits-are : (b r : ℕ) → r ≡ getD ws (b / 32) 0 * 2 ^ (b % 32) % 2 ^ 32 + getD ws (b / 32 + 1) 0 / 2 ^ (32 - b % 32) → r ≡ span 32 (streamBits 32 ws) b 32
   bits-are b r e = e ∙ bits-from b 1 32 (getD ws (b / 32) 0) (getD ws (b / 32 + 1) 0) (omega arith) (omega arith) (one-word (b / 32)) refl
 
   pub bits-wide-are : (b x y r : ℕ) → x ≡ highFirst (getD ws (b / 32) 0) (getD ws (b / 32 + 1) 0) → y ≡ getD ws (b / 32 + 2) 0
-      → r ≡ x * 2 ^ (b % 32) % 2 ^ 64 + y / 2 ^ (32 - b % 32) → r ≡ span 32 (carried 32 ws) b 64
+      → r ≡ x * 2 ^ (b % 32) % 2 ^ 64 + y / 2 ^ (32 - b % 32) → r ≡ span 32 (streamBits 32 ws) b 64
   bits-wide-are b x y r front next e = e ∙ bits-from b 2 64 x y (omega arith) (omega arith) (front ∙ two-words (b / 32)) next
 
   -- b lies in the last word
-  bits-last-are : (b : ℕ) → b < length ws * 32 → length ws * 32 ≤ b + 32 → getD ws (length ws - 1) 0 * 2 ^ (b % 32) % 2 ^ 32 ≡ span 32 (carried 32 ws) b 32
+  bits-last-are : (b : ℕ) → b < length ws * 32 → length ws * 32 ≤ b + 32 → getD ws (length ws - 1) 0 * 2 ^ (b % 32) % 2 ^ 32 ≡ span 32 (streamBits 32 ws) b 32
   bits-last-are b inside last =
       let e : length ws - 1 ≡ b / 32 = omega arith in
       let x : ℕ = getD ws (b / 32) 0 * 2 ^ (b % 32) % 2 ^ 32 in
@@ -106,13 +106,13 @@ front-of g b n w h =
     ap (λ (z : ℕ). span 32 g b z / 2 ^ (n - w)) (sym e) ∙ first 32 g b w (n - w)
 
 -- v is n bits from the place of field k on
-module _ (p : Packing) (ws : List ℕ) (n k v : ℕ) (c : p .carry ≡ 32) (e : v ≡ span 32 (carried 32 ws) (k * p .field) n) where
+module _ (p : Packing) (ws : List ℕ) (n k v : ℕ) (c : p .carry ≡ 32) (e : v ≡ span 32 (streamBits 32 ws) (k * p .field) n) where
   front-field : p .field ≤ n → v / 2 ^ (n - p .field) ≡ fieldIn p ws k
-  unfolding fieldOf
+  unfolding packingField
   front-field l =
       rw c
-      (ap (λ (z : ℕ). z / 2 ^ (n - p .field)) (e ∙ ap (λ (z : ℕ). span 32 (carried 32 ws) z n) (mul-comm k (p .field)))
-      ∙ front-of (carried 32 ws) (p .field * k) n (p .field) l)
+      (ap (λ (z : ℕ). z / 2 ^ (n - p .field)) (e ∙ ap (λ (z : ℕ). span 32 (streamBits 32 ws) z n) (mul-comm k (p .field)))
+      ∙ front-of (streamBits 32 ws) (p .field * k) n (p .field) l)
 
   front-item : p .item ≤ p .field → p .field ≤ n → v / 2 ^ (n - p .item) ≡ itemIn p (fieldIn p ws k)
   front-item f l =
@@ -154,7 +154,7 @@ module _ {p : Packing} {n room : ℕ} {ws : List ℕ} (u : Placed p n ws room) w
     pub word-behind : k * p .field + 32 < length ws * 32
     word-behind = omega arith
 
-  module _ (k v : ℕ) (e : v ≡ span 32 (carried 32 ws) (k * p .field) 32) where
+  module _ (k v : ℕ) (e : v ≡ span 32 (streamBits 32 ws) (k * p .field) 32) where
     pub field-here : v / 2 ^ (32 - p .field) ≡ fieldIn p ws k
     field-here = front-field p ws 32 k v (u .whole) e (u .narrow)
 
@@ -164,7 +164,7 @@ module _ {p : Packing} {n room : ℕ} {ws : List ℕ} (u : Placed p n ws room) w
   -- a field that begins in the last word
   module _ (small : (j : ℕ) → getD ws j 0 < 2 ^ 32) (a k v : ℕ) (last : length ws * 32 ≤ a * p .field + 32) (from : a ≤ k) (turn : k < n) where
     module _ (e : v ≡ getD ws (length ws - 1) 0 * 2 ^ (k * p .field % 32) % 2 ^ 32) where
-      in-last : v ≡ span 32 (carried 32 ws) (k * p .field) 32
+      in-last : v ≡ span 32 (streamBits 32 ws) (k * p .field) 32
       in-last =
           e ∙ bits-last-are ws small (k * p .field)
           (omega (arith, all-there, mul-le-mul-right (p .field) turn, u .given .legal .item, u .given .legal .parts))
@@ -187,7 +187,7 @@ module _ {p : Packing} {n room : ℕ} {ws : List ℕ} (u : Placed p n ws room) w
 
 -- ---- fields of more than 32 bits
 module _ {p : Packing} {n room : ℕ} {ws : List ℕ} (u : Unpackable p n ws room) (wide : 32 < p .field) where
-  item-wide : (k v : ℕ) → v ≡ span 32 (carried 32 ws) (k * p .field) 64 → v / 2 ^ (64 - p .item) ≡ itemIn p (fieldIn p ws k)
+  item-wide : (k v : ℕ) → v ≡ span 32 (streamBits 32 ws) (k * p .field) 64 → v / 2 ^ (64 - p .item) ≡ itemIn p (fieldIn p ws k)
   item-wide k v e = front-item p ws 64 k v (u .legal .wide wide) e (omega (arith, u .legal .parts)) (u .legal .few)
 
   wide-there : (k : ℕ) → k ≤ n → k * p .field ≤ length ws * 32
@@ -208,11 +208,11 @@ module _ {p : Packing} {n room : ℕ} {ws : List ℕ} (u : Unpackable p n ws roo
       omega (arith, wide-there (n - 1 + 1) (omega arith), add-mul (n - 1) 1 (p .field))
 
   -- the items of the fields before the last, and then the last
-  pub items-wide : {k v : ℕ} {l l′ : List ℕ} → 0 < n → Fills 0 (n - 1) k (λ j. span 32 (carried 32 ws) (j * p .field) 64 / 2 ^ (64 - p .item)) l l′
-      → n - 1 ≤ k → v ≡ span 32 (carried 32 ws) ((n - 1) * p .field) 64
+  pub items-wide : {k v : ℕ} {l l′ : List ℕ} → 0 < n → Fills 0 (n - 1) k (λ j. span 32 (streamBits 32 ws) (j * p .field) 64 / 2 ^ (64 - p .item)) l l′
+      → n - 1 ≤ k → v ≡ span 32 (streamBits 32 ws) ((n - 1) * p .field) 64
       → set l′ (n - 1) (v / 2 ^ (64 - p .item)) ≡ filled n (λ j. itemIn p (fieldIn p ws j)) l
   items-wide {v = v} {l} {l′} some f q e =
       let z : n - 1 + 1 ≡ n = omega arith in
       filled-more (n - 1) _ l l′ _ (fills-all f q) (ap (λ (x : ℕ). x / 2 ^ (64 - p .item)) e)
-      ∙ ap (λ (x : ℕ). filled x (λ j. span 32 (carried 32 ws) (j * p .field) 64 / 2 ^ (64 - p .item)) l) z
+      ∙ ap (λ (x : ℕ). filled x (λ j. span 32 (streamBits 32 ws) (j * p .field) 64 / 2 ^ (64 - p .item)) l) z
       ∙ filled-same n _ _ l (λ j r. item-wide j _ refl)

@@ -15,7 +15,7 @@
 // (`bits_wide_last`).
 ghost use Rattle.words.specs.Kit.{_≡_, _+_, _*_, _/_, _%_, _-_, _^_, _<_, length};
 ghost use Rattle.bitstream.specs.Stream.{span};
-ghost use Rattle.bitstream.specs.Carried.{carried};
+ghost use Rattle.bitstream.specs.Carried.{streamBits};
 
 // A word without its first o bits, and behind it the first o bits of the next. Two shifts, since one by 32 is not allowed.
 fn join(high: u32, low: u32, o: usize) -> u32
@@ -36,7 +36,7 @@ fn join_wide(high: u64, low: u32, o: usize) -> u64
 // The 32 bits from bit b on. The word's number is worked out in 32 bits, which compiles to fewer instructions.
 pub fn bits(words: &[u32], b: usize) -> u32
     requires { ⌜ (b < 2 ^ 32) × (b + 32 < length (now words) * 32) ⌝ }
-    ensures { λ r. ⌜ r ≡ span 32 (carried 32 (now (words .entry))) b 32 ⌝ }
+    ensures { λ r. ⌜ r ≡ span 32 (streamBits 32 (now (words .entry))) b 32 ⌝ }
 {
     let i = (b as u32 / 32) as usize;
     join(words[i], words[i + 1], b % 32)
@@ -52,7 +52,7 @@ pub fn bits_last(word: u32, b: usize) -> u32
 // The 64 bits from bit b on.
 pub fn bits_wide(words: &[u32], b: usize) -> u64
     requires { ⌜ b + 64 < length (now words) * 32 ⌝ }
-    ensures { λ r. ⌜ r ≡ span 32 (carried 32 (now (words .entry))) b 64 ⌝ }
+    ensures { λ r. ⌜ r ≡ span 32 (streamBits 32 (now (words .entry))) b 64 ⌝ }
 {
     let i = b / 32;
     join_wide(
@@ -65,7 +65,7 @@ pub fn bits_wide(words: &[u32], b: usize) -> u64
 // The same where the third word may be past the last: its bits are then 0.
 pub fn bits_wide_last(words: &[u32], b: usize) -> u64
     requires { ⌜ b + 32 < length (now words) * 32 ⌝ }
-    ensures { λ r. ⌜ r ≡ span 32 (carried 32 (now (words .entry))) b 64 ⌝ }
+    ensures { λ r. ⌜ r ≡ span 32 (streamBits 32 (now (words .entry))) b 64 ⌝ }
 {
     let i = b / 32;
     let next = words::inner::word_at(words, i + 2);

@@ -24,8 +24,8 @@ use Rattle.play.specs.declared.Played.the-variants as Played
 use Rattle.play.specs.declared.run.Entry.{Entry}
 use Rattle.play.specs.declared.streams.Sought.{Sought}
 use Rattle.play.specs.declared.streams.Sought.the-variants.{Unknown}
-use Rattle.play.specs.Play.{tableList, soughtOf, heardOf, tableAfter, stepOf, madeOf, playOf, paper, soughtPaper}
-use Rattle.play.specs.Run.{goesOn, saidAt, leftAt, nextOf, Stepped, entryOf, entryAt, wordsOf}
+use Rattle.play.specs.Play.{tableList, soughtOf, heardOf, tableAfter, stepOf, madeOf, playOf, playedPaper, soughtPaper}
+use Rattle.play.specs.Run.{goesOn, saidAt, leftAt, nextOf, Stepped, entryOf, entryAt, wordsOfEntry}
 use Rattle.play.specs.Entered.{Headed, soughtIn, HeardAs, Entered, saidBy}
 use Rattle.play.proofs.StreamLaws.{sought-number}
 use Rattle.play.proofs.PlayLaws.{made-well, step-read, play-step}
@@ -68,12 +68,12 @@ said-whole t ws at w = rw (play-step t (drop at ws) w, ← first-word at ws) (st
 -- ---- an entry, by what is said
 
 module _ (size : ℕ) (x : Entry) where
-  entry-size : (o : Outcome Heard) → wordsOf x ≡ entryOf o size → x .size ≡ when (goesOn o) size
+  entry-size : (o : Outcome Heard) → wordsOfEntry x ≡ entryOf o size → x .size ≡ when (goesOn o) size
   unfolding entryOf
   entry-size (refused n) e = cc
   entry-size (accepted h) e = cc
 
-  entry-said : (o : Outcome Heard) → Whole o size → wordsOf x ≡ entryOf o size → saidBy x ≡ o
+  entry-said : (o : Outcome Heard) → Whole o size → wordsOfEntry x ≡ entryOf o size → saidBy x ≡ o
   unfolding entryOf
   entry-said (refused n) h e =
       let i : x .number ≡ n = cc in
@@ -86,7 +86,7 @@ module _ (size : ℕ) (x : Entry) where
       let m : x .missing ≡ a .missing = cc in
       rw (i, z, k, s, m)
 
-  entry-on : (o : Outcome Heard) → Whole o size → wordsOf x ≡ entryOf o size → not (eqb (x .size) 0) ≡ goesOn o
+  entry-on : (o : Outcome Heard) → Whole o size → wordsOfEntry x ≡ entryOf o size → not (eqb (x .size) 0) ≡ goesOn o
   entry-on (refused n) h e =
       let z = entry-size (refused n) e in
       ⊎-elim (λ i. rw (z, eq-eqb n STREAM i, ne-eqb size 0 (λ j. omega (arith, h .1 i)))) (λ i. rw (z, ne-eqb n STREAM i)) (same-or-not n STREAM)
@@ -163,7 +163,7 @@ module _ {t ws left : List ℕ} {at : ℕ} {x : Entry} (w : wellMade t ≡ true)
 -- ---- what play answers, by what the test of the table found, and what a step of a walk gives
 
 module _ (t ws : List ℕ) (made : Check) (e : checked made ≡ madeOf t) where
-  pub play-unmade : (n m : ℕ) → made ≡ Check.Refused n → m ≡ numberOf (checked made) → Meets paper (playOf t ws) t (Played.Refused m) t
+  pub play-unmade : (n m : ℕ) → made ≡ Check.Refused n → m ≡ numberOf (checked made) → Meets playedPaper (playOf t ws) t (Played.Refused m) t
   unfolding playOf madeOf
   play-unmade n m f i =
       let k : firstGiven (tableList t) (accepted (tt {0})) ≡ refused n = cc in
@@ -171,10 +171,11 @@ module _ (t ws : List ℕ) (made : Check) (e : checked made ≡ madeOf t) where
       let j : m ≡ n = cc in
       record { answer = rw (g, j); buffer = rw g }
 
-  pub play-made : (x : Entry) (r : Played) (left : List ℕ) → made ≡ Check.Fine → Entered t ws 0 x left → paper r ≡ saidBy x → Meets paper (playOf t ws) t r left
+  pub play-made : (x : Entry) (r : Played) (left : List ℕ) → made ≡ Check.Fine → Entered t ws 0 x left → playedPaper r ≡ saidBy x
+      → Meets playedPaper (playOf t ws) t r left
   unfolding saidAt leftAt
   play-made x r left f y i = record { answer = i ∙ said-by (made-well t (cc)) y; buffer = y .table }
 
-pub entered-stepped : (t ws left : List ℕ) (at : ℕ) (x : Entry) (answer : Played) → wellMade t ≡ true → Entered t ws at x left → paper answer ≡ saidBy x
+pub entered-stepped : (t ws left : List ℕ) (at : ℕ) (x : Entry) (answer : Played) → wellMade t ≡ true → Entered t ws at x left → playedPaper answer ≡ saidBy x
     → Stepped t ws at (record { answer = answer; on = not (eqb (x .size) 0); next = at + x .size }) left
 entered-stepped t ws left at x answer w y i = record { answer = i ∙ said-by w y; on = size-on w y; next = size-next w y; table = y .table }

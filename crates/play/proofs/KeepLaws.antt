@@ -54,7 +54,7 @@ module _ (t ws : List ℕ) (w : wellMade t ≡ true) (d : Done Heard (List ℕ))
   s = k .stream
 
   abbrev body : List ℕ
-  body = part (p .body) (p .length) ws
+  body = part (p .place) (p .length) ws
 
   abbrev new : List ℕ
   new = recordAfter (p .parts .kind) (p .parts .count) body (recordAt s t)

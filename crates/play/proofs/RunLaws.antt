@@ -27,7 +27,7 @@ use Rattle.play.specs.declared.run.Entry.{Entry}
 use Rattle.play.specs.declared.run.Reached.{Reached}
 use Rattle.play.specs.declared.run.Ran.the-variants as Ran
 use Rattle.play.specs.Play.{tableList, madeOf}
-use Rattle.play.specs.Run.{goesOn, saidAt, leftAt, nextOf, entryWords, entryOf, entryAt, wordsOf}
+use Rattle.play.specs.Run.{goesOn, saidAt, leftAt, nextOf, entryWords, entryOf, entryAt, wordsOfEntry}
 use Rattle.play.specs.Run.{Walk, ended, before, walkOf, wholeWalk, reachedOf, answersOf, WalkDone, runOf, runPaper}
 use Rattle.play.specs.Entered.{Entered}
 use Rattle.play.proofs.PlayLaws.{made-well}
@@ -48,9 +48,9 @@ at-length t ws at = entry-length (saidAt t ws at) (sizeOf (getD ws at 0))
 pub entry-stored : (ws : List ℕ) (a b c d e : ℕ) → length ws ≡ entryWords → set (set (set (set (set ws 0 a) 1 b) 2 c) 3 d) 4 e ≡ a ∷ b ∷ c ∷ d ∷ e ∷ []
 entry-stored ws a b c d e l = sets-all (a ∷ b ∷ c ∷ d ∷ e ∷ []) ws l
 
-pub entry-put : (at : ℕ) (x : Entry) (last answers : List ℕ) → last ≡ wordsOf x
-    → take at answers ++ (last ++ drop (at + entryWords - at) (drop at answers)) ≡ put at entryWords (wordsOf x) answers
-entry-put at x last answers e = rw e (lent at (at + entryWords) entryWords (wordsOf x) answers refl)
+pub entry-put : (at : ℕ) (x : Entry) (last answers : List ℕ) → last ≡ wordsOfEntry x
+    → take at answers ++ (last ++ drop (at + entryWords - at) (drop at answers)) ≡ put at entryWords (wordsOfEntry x) answers
+entry-put at x last answers e = rw e (lent at (at + entryWords) entryWords (wordsOfEntry x) answers refl)
 
 -- ---- the run
 
@@ -135,7 +135,7 @@ running-end {most} {from} {at} {n} {ws} {t₀} {buffer₀} {t} {buffer} p room =
 
 module _ (most from at n : ℕ) (ws t₀ buffer₀ t buffer : List ℕ) (p : Running most ws from t₀ buffer₀ t buffer n (walkOf (most - n) ws at t))
     (less : n < most) (room : most ≡ length buffer₀ / entryWords) (there : at < length ws) (x : Entry) (left written : List ℕ)
-    (y : Entered t (take (length ws - at) (drop at ws)) 0 x left) (w : written ≡ put (entryWords * n) entryWords (wordsOf x) buffer) where
+    (y : Entered t (take (length ws - at) (drop at ws)) 0 x left) (w : written ≡ put (entryWords * n) entryWords (wordsOfEntry x) buffer) where
   entered : Entered t ws at x left
   entered = entered-lent y
 
@@ -154,14 +154,14 @@ module _ (most from at n : ℕ) (ws t₀ buffer₀ t buffer : List ℕ) (p : Run
         few = omega arith;
         well = kept .well (p .well);
         same = kept .whole ∙ p .same;
-        long = ap length w ∙ put-length (entryWords * n) entryWords (wordsOf x) buffer (omega (arith, p .long)) refl ∙ p .long;
-        entries = p .entries ++ wordsOf x;
-        size = length-append (p .entries) (wordsOf x) ∙ omega (arith, p .size);
+        long = ap length w ∙ put-length (entryWords * n) entryWords (wordsOfEntry x) buffer (omega (arith, p .long)) refl ∙ p .long;
+        entries = p .entries ++ wordsOfEntry x;
+        size = length-append (p .entries) (wordsOfEntry x) ∙ omega (arith, p .size);
         wrote =
-            w ∙ ap (put (entryWords * n) entryWords (wordsOf x)) (p .wrote)
-            ∙ put-at (entryWords * n) entryWords (p .entries) (drop (entryWords * n) buffer₀) (wordsOf x) (p .size)
-            ∙ ap (λ (l : List ℕ). p .entries ++ (wordsOf x ++ l)) (drop-drop entryWords (entryWords * n) buffer₀ ∙ ap (λ (m : ℕ). drop m buffer₀) many)
-            ∙ sym (append-assoc (p .entries) (wordsOf x) (drop (entryWords * (n + 1)) buffer₀));
+            w ∙ ap (put (entryWords * n) entryWords (wordsOfEntry x)) (p .wrote)
+            ∙ put-at (entryWords * n) entryWords (p .entries) (drop (entryWords * n) buffer₀) (wordsOfEntry x) (p .size)
+            ∙ ap (λ (l : List ℕ). p .entries ++ (wordsOfEntry x ++ l)) (drop-drop entryWords (entryWords * n) buffer₀ ∙ ap (λ (m : ℕ). drop m buffer₀) many)
+            ∙ sym (append-assoc (p .entries) (wordsOfEntry x) (drop (entryWords * (n + 1)) buffer₀));
         is =
             p .is ∙ ap (onto n (p .entries)) (walk-more (most - n) (most - (n + 1)) ws at t k there)
             ∙ onto-before n (p .entries) (entryAt t ws at) more
@@ -200,7 +200,7 @@ module _ (t ws : List ℕ) (at : ℕ) where
   walk-one h = walk-more 1 0 ws at t refl h ∙ ap (before (entryAt t ws at)) (one-ended (goesOn (saidAt t ws at)) (nextOf t ws at) (leftAt t ws at))
 
   module _ (x : Entry) (r : Reached) (left : List ℕ) (w : wellMade t ≡ true) where
-    one-over : length ws ≤ at → WalkDone (wholeWalk t ws at blank) blank r left (wordsOf x) → Entered t ws at x left
+    one-over : length ws ≤ at → WalkDone (wholeWalk t ws at blank) blank r left (wordsOfEntry x) → Entered t ws at x left
     unfolding wholeWalk readOf
     one-over h d =
         let o = walk-over 1 ws at t h in
@@ -208,14 +208,14 @@ module _ (t ws : List ℕ) (at : ℕ) where
         let y : Entered t ws at (record { number = EMPTY; size = 0; kind = 0; stream = 0; missing = 0 }) t = entered-rest (rw e (unread t [] w EMPTY refl)) in
         record { entry = d .answers ∙ rw o (y .entry); table = d .table ∙ rw o (y .table) }
 
-    one-more : at < length ws → WalkDone (wholeWalk t ws at blank) blank r left (wordsOf x) → Entered t ws at x left
+    one-more : at < length ws → WalkDone (wholeWalk t ws at blank) blank r left (wordsOfEntry x) → Entered t ws at x left
     unfolding wholeWalk
     one-more h d =
         let o = walk-one h in
         record { entry = d .answers ∙ rw (o, append-nil (entryAt t ws at), at-length t ws at) (append-nil (entryAt t ws at)); table = d .table ∙ rw o }
 
     pub one-entered : (written : List ℕ) → WalkDone (wholeWalk t ws at (EMPTY ∷ 0 ∷ 0 ∷ 0 ∷ 0 ∷ [])) (EMPTY ∷ 0 ∷ 0 ∷ 0 ∷ 0 ∷ []) r left written
-        → wordsOf x ≡ written → Entered t ws at x left
+        → wordsOfEntry x ≡ written → Entered t ws at x left
     one-entered written d e = let d′ = rw (← e) at d in ⊎-elim (λ h. one-over h d′) (λ h. one-more h d′) (le-or-lt (length ws) at)
 
 -- ---- the answers of a run, by what the test of the table found

@@ -1,8 +1,8 @@
--- Two answers that meet the promise of a public call are equal, with the table that they leave: `paper` has a left inverse.
+-- Two answers that meet the promise of a public call are equal, with the table that they leave: `playedPaper` has a left inverse.
 use Rattle.words.proofs.Kit.{_≡_, refl, List, ℕ}
 use Rattle.words.specs.Outcome.{Outcome, refused, accepted, Meets}
 use Rattle.words.proofs.Once.{meets-once}
-use Rattle.play.specs.Play.{playOf, paper}
+use Rattle.play.specs.Play.{playOf, playedPaper}
 use Rattle.play.specs.Run.{runOf, runPaper}
 use Rattle.play.specs.declared.Heard.{Heard}
 use Rattle.play.specs.declared.Played.{Played}
@@ -15,14 +15,14 @@ playedBack : Outcome Heard → Played
 playedBack (refused n) = Refused n
 playedBack (accepted h) = Accepted h
 
-played-back : (r : Played) → playedBack (paper r) ≡ r
+played-back : (r : Played) → playedBack (playedPaper r) ≡ r
 unfolding playedBack
 played-back (Refused n) = refl
 played-back (Accepted h) = refl
 
-pub play-once : (t ws : List ℕ) {r s : Played} {after after′ : List ℕ} → Meets paper (playOf t ws) t r after → Meets paper (playOf t ws) t s after′
+pub play-once : (t ws : List ℕ) {r s : Played} {after after′ : List ℕ} → Meets playedPaper (playOf t ws) t r after → Meets playedPaper (playOf t ws) t s after′
     → (r ≡ s) × (after ≡ after′)
-play-once t ws = meets-once paper playedBack played-back
+play-once t ws = meets-once playedPaper playedBack played-back
 
 ranBack : Outcome Reached → Ran
 ranBack (refused n) = Run.Refused n

@@ -11,7 +11,7 @@ use Rattle.table.specs.Identifiers.{streamOf}
 use Rattle.play.specs.declared.Heard.{Heard}
 use Rattle.play.specs.declared.run.Entry.{Entry}
 use Rattle.play.specs.Play.{soughtOf, tableAfter}
-use Rattle.play.specs.Run.{leftAt, entryAt, wordsOf}
+use Rattle.play.specs.Run.{leftAt, entryAt, wordsOfEntry}
 
 -- the stream of an identifier; STREAM: "one not declared"
 abbrev pub declaredOf : ℕ → List ℕ → Outcome ℕ
@@ -33,7 +33,7 @@ pub record HeardAs (w s : ℕ) (ws t : List ℕ) (more : ℕ) (left : List ℕ) 
 
 -- the entry r of the packet at a place, played on a table that is well made, and the table afterwards
 pub record Entered (t ws : List ℕ) (at : ℕ) (r : Entry) (left : List ℕ) : Type 0 where
-  pub entry : wordsOf r ≡ entryAt t ws at
+  pub entry : wordsOfEntry r ≡ entryAt t ws at
   pub table : left ≡ leftAt t ws at
 
 -- what an entry says of its packet: it is heard where the number is 0

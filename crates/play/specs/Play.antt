@@ -24,7 +24,7 @@ heardOf p s t = record { size = p .size; kind = p .parts .kind; stream = s; miss
 
 -- the table after it; the packet's words are the first of ws
 unfoldable pub tableAfter : Packet → ℕ → List ℕ → List ℕ → List ℕ
-tableAfter p s ws t = withRecord s (recordAfter (p .parts .kind) (p .parts .count) (part (p .body) (p .length) ws) (recordAt s t)) t
+tableAfter p s ws t = withRecord s (recordAfter (p .parts .kind) (p .parts .count) (part (p .place) (p .length) ws) (recordAt s t)) t
 
 -- both together
 abbrev pub heardDone : Packet → ℕ → List ℕ → List ℕ → Done Heard (List ℕ)
@@ -66,9 +66,9 @@ playOf t ws = let p = packetOf (getD ws 0 0) ws in firstGiven (playList t ws) (a
 
 -- ---- the numbers and values of answers
 
-abbrev pub paper : Played → Outcome Heard
-paper (Refused n) = refused n
-paper (Accepted h) = accepted h
+abbrev pub playedPaper : Played → Outcome Heard
+playedPaper (Refused n) = refused n
+playedPaper (Accepted h) = accepted h
 
 abbrev pub soughtPaper : Sought → Outcome ℕ
 soughtPaper (Unknown n) = refused n

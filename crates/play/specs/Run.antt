@@ -12,7 +12,7 @@ use Rattle.play.specs.declared.run.Entry.{Entry}
 use Rattle.play.specs.declared.run.Reached.{Reached}
 use Rattle.play.specs.declared.run.Ran.{Ran}
 use Rattle.play.specs.declared.run.Ran.the-variants.{Accepted, Refused}
-use Rattle.play.specs.Play.{tableList, playOf, paper}
+use Rattle.play.specs.Play.{tableList, playOf, playedPaper}
 
 -- ---- one step
 
@@ -34,8 +34,8 @@ nextOf t ws at = at + when (goesOn (saidAt t ws at)) (sizeOf (getD ws at 0))
 
 -- a step's answer r, and the table afterwards
 pub record Stepped (t ws : List ℕ) (at : ℕ) (r : Happened) (left : List ℕ) : Type 0 where
-  pub answer : paper (r .answer) ≡ saidAt t ws at
-  pub on : r .on ≡ goesOn (saidAt t ws at)
+  pub answer : playedPaper (r .answer) ≡ saidAt t ws at
+  pub on : r .continues ≡ goesOn (saidAt t ws at)
   pub next : r .next ≡ nextOf t ws at
   pub table : left ≡ leftAt t ws at
 
@@ -52,8 +52,8 @@ entryOf (accepted h) size = 0 ∷ size ∷ h .kind ∷ h .stream ∷ h .missing 
 unfoldable pub entryAt : List ℕ → List ℕ → ℕ → List ℕ
 entryAt t ws at = entryOf (saidAt t ws at) (sizeOf (getD ws at 0))
 
-abbrev pub wordsOf : Entry → List ℕ
-wordsOf e = e .number ∷ e .size ∷ e .kind ∷ e .stream ∷ e .missing ∷ []
+abbrev pub wordsOfEntry : Entry → List ℕ
+wordsOfEntry e = e .number ∷ e .size ∷ e .kind ∷ e .stream ∷ e .missing ∷ []
 
 -- ---- many
 

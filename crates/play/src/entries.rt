@@ -3,7 +3,7 @@
 ghost use Rattle.words.specs.Kit.{_≡_, true, _<_};
 ghost use Rattle.packet.specs.Header.{typeOf, sizeOf};
 ghost use Rattle.table.specs.Well.{wellMade};
-ghost use Rattle.play.specs.Play.{paper};
+ghost use Rattle.play.specs.Play.{playedPaper};
 ghost use Rattle.play.specs.Entered.{Headed, Entered, saidBy};
 use crate::run::Entry;
 
@@ -88,7 +88,7 @@ pub fn enter(table: &mut [u32], given: &[u32]) -> Entry
 
 // What play answers, from an entry: the packet is heard where the number is 0.
 pub fn answer_of(e: Entry) -> crate::Played
-    ensures { λ r. ⌜ paper r ≡ saidBy e ⌝ }
+    ensures { λ r. ⌜ playedPaper r ≡ saidBy e ⌝ }
 {
     if e.number != 0 {
         return crate::Played::Refused(e.number);

@@ -6,7 +6,7 @@ ghost use Rattle.play.specs.Run.{Stepped};
 // What a step gives: play's answer, whether the walk goes on, and the place of the next packet.
 pub struct Happened {
     pub answer: crate::Played,
-    pub on: bool,
+    pub continues: bool,
     pub next: usize,
 }
 
@@ -18,7 +18,7 @@ pub fn step(table: &mut [u32], recording: &[u32], at: usize) -> Happened
     let e = crate::run::run_one(table, recording, at);
     Happened {
         answer: crate::entries::answer_of(e),
-        on: e.size != 0,
+        continues: e.size != 0,
         next: at + e.size,
     }
 }

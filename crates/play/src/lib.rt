@@ -7,7 +7,7 @@ mod streams;
 pub use run::Ran;
 pub use run::Reached;
 ghost use Rattle.words.specs.Outcome.{Meets};
-ghost use Rattle.play.specs.Play.{playOf, paper};
+ghost use Rattle.play.specs.Play.{playOf, playedPaper};
 ghost use Rattle.play.specs.Run.{runOf, runPaper};
 
 // What play says of an accepted packet: its size in words, its type, its stream's number, and what it added to missing.
@@ -27,7 +27,7 @@ pub enum Played {
 // Plays the packet at the front of the words: its type is counted in the record of its stream, and a Context packet's fields are held there. TABLE for a
 // table that is not well made, then what reading refuses, then STREAM. A refusal changes nothing; words past the table's layout are not looked at.
 pub fn play(table: &mut [u32], given: &[u32]) -> Played
-    ensures { λ r. ⌜ Meets paper (playOf (now (table .entry)) (now (given .entry))) (now (table .entry)) r (now (table .exit)) ⌝ }
+    ensures { λ r. ⌜ Meets playedPaper (playOf (now (table .entry)) (now (given .entry))) (now (table .entry)) r (now (table .exit)) ⌝ }
 {
     let made = streams::check_table(table);
     let words::Check::Fine = made else {

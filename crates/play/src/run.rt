@@ -3,7 +3,7 @@
 ghost use Rattle.words.specs.Kit.{_≡_, true, _+_, _^_, _≤_, _<_, length};
 ghost use Rattle.words.specs.Part.{put};
 ghost use Rattle.table.specs.Well.{wellMade};
-ghost use Rattle.play.specs.Run.{entryWords, wordsOf, wholeWalk, WalkDone};
+ghost use Rattle.play.specs.Run.{entryWords, wordsOfEntry, wholeWalk, WalkDone};
 ghost use Rattle.play.specs.Entered.{Entered};
 
 // The words that are written of each packet.
@@ -34,7 +34,7 @@ pub enum Ran {
 // Stores an entry.
 fn store(place: &mut [u32], e: Entry)
     requires { ⌜ (length (now place) ≡ entryWords) × (e .size < 2 ^ 16) ⌝ }
-    ensures { λ _. ⌜ now (place .exit) ≡ wordsOf e ⌝ }
+    ensures { λ _. ⌜ now (place .exit) ≡ wordsOfEntry e ⌝ }
 {
     place[0] = e.number;
     place[1] = e.size as u32;
@@ -45,7 +45,7 @@ fn store(place: &mut [u32], e: Entry)
 
 // The entry that words hold.
 fn load(entry: [u32; ENTRY_WORDS]) -> Entry
-    ensures { λ r. ⌜ wordsOf r ≡ entry ⌝ }
+    ensures { λ r. ⌜ wordsOfEntry r ≡ entry ⌝ }
 {
     Entry {
         number: entry[0],
@@ -59,7 +59,7 @@ fn load(entry: [u32; ENTRY_WORDS]) -> Entry
 // Stores an entry at a place of the answers.
 fn write_entry(answers: &mut [u32], at: usize, e: Entry)
     requires { ⌜ (at + entryWords ≤ length (now answers)) × (e .size < 2 ^ 16) ⌝ }
-    ensures { λ _. ⌜ now (answers .exit) ≡ put at entryWords (wordsOf e) (now (answers .entry)) ⌝ }
+    ensures { λ _. ⌜ now (answers .exit) ≡ put at entryWords (wordsOfEntry e) (now (answers .entry)) ⌝ }
 {
     let end = at + ENTRY_WORDS;
     store(&mut answers[at..end], e);

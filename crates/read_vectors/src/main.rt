@@ -27,11 +27,11 @@ fn show_fields(body: &[u32]) {
 
 // The lines of an accepted packet.
 fn show_packet(p: Packet, words: &[u32])
-    requires { ⌜ p .body + p .length ≤ length (now words) ⌝ }
+    requires { ⌜ p .place + p .length ≤ length (now words) ⌝ }
 {
     packet_lines::inner::show(p);
     let parts = p.parts;
-    let body = p.body;
+    let body = p.place;
     let end = body + p.length;
     if parts.kind == 4 {
         show_fields(&words[body..end]);

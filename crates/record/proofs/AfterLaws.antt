@@ -14,12 +14,12 @@ use Rattle.words.proofs.Cases.{le-or-lt, true-or-false, both-left, both-yes, bo
 use Rattle.words.proofs.BitLaws.{has-and, has-or, word-same}
 use Rattle.words.proofs.SetBitLaws.{above-agree}
 use Rattle.words.proofs.PartLaws.{seen, lent-to, part-length, put-length, part-put, part-put-before, part-put-after, part-set-before, getD-put-before}
-use Rattle.fields.specs.Sizes.{sizeOf, sizesOf}
+use Rattle.fields.specs.Sizes.{fieldSize, sizesOf}
 use Rattle.fields.specs.Layout.{indicatorOf, bodyWords, contextOf}
 use Rattle.fields.proofs.SizeLaws.{words-fixed}
 use Rattle.fields.proofs.BodyLaws.{context-fits, fromField, field-inside, field-length, place-fixed, field-fixed}
 use Rattle.record.specs.Held.{heldMask, holds, heldBits, slotAt}
-use Rattle.record.specs.Layout.{headWords, slotWords, recordWords, identifierOf, heldOf, countAt, countOf, slotIn, slotsOf, slotOf}
+use Rattle.record.specs.Layout.{headWords, slotWords, recordWords, identifierOf, heldOf, countAt, countWords, slotIn, slotsOf, slotOf}
 use Rattle.record.specs.Counts.{countedOf, countRecord}
 use Rattle.record.specs.After.{slotAfter, slotAfterBody, slotsAfter, heldAfter, holdRecord, refilled, Inside}
 use Rattle.record.proofs.SlotLaws.{in-order-same, in-order-length, in-order-at, held-small, held-low, held-high, held-all, slots-whole}
@@ -65,18 +65,18 @@ module _ (body : List ℕ) (ok : contextOf body ≡ accepted tt) where
       in-order-same 31 heldMask _ _
       (λ b h e.
       let place = masked-place (indicatorOf body) b (omega (arith, held-low b e)) in
-      let field = ap (λ (l : List ℕ). part (1 + sizesOf l) (sizeOf b) body) place ∙ sym (field-fixed b body (held-low b e)) in
+      let field = ap (λ (l : List ℕ). part (1 + sizesOf l) (fieldSize b) body) place ∙ sym (field-fixed b body (held-low b e)) in
       rw (masked-has (indicatorOf body) b e) (ap (λ (ws : List ℕ). pick (has (indicatorOf body) b) ws (slotIn b slots)) field))
 
   -- ---- the slots after a packet
 
   module _ (slots : List ℕ) (l : length slots ≡ slotWords) where
-    slot-sized : (b : ℕ) → holds b ≡ true → length (slotAfterBody b body (slotIn b slots)) ≡ sizeOf b
+    slot-sized : (b : ℕ) → holds b ≡ true → length (slotAfterBody b body (slotIn b slots)) ≡ fieldSize b
     unfolding slotAfter slotIn
     slot-sized b o =
         ⊎-elim
         (λ e. rw e (field-length b body (held-high b o) e (context-fits body ok) ∙ words-fixed b (fromField b body) (held-low b o)))
-        (λ e. rw e (part-length (slotAt b) (sizeOf b) slots (omega (arith, slot-inside b o))))
+        (λ e. rw e (part-length (slotAt b) (fieldSize b) slots (omega (arith, slot-inside b o))))
         (true-or-false (has (indicatorOf body) b))
 
     pub slots-length : length (slotsAfter body slots) ≡ slotWords
@@ -155,8 +155,8 @@ module _ (body r : List ℕ) (l : length r ≡ recordWords) (ok : contextOf body
       getD-set-other (put headWords slotWords new r) 1 0 _ 0 (λ e. omega arith)
       ∙ getD-put-before headWords slotWords new r fits new-slots 0 (omega arith)
 
-  pub hold-count : (k : ℕ) → k < 4 → countOf k (holdRecord body r) ≡ countOf k r
-  unfolding holdRecord countOf
+  pub hold-count : (k : ℕ) → k < 4 → countWords k (holdRecord body r) ≡ countWords k r
+  unfolding holdRecord countWords
   hold-count k h =
       part-set-before (countAt k) 3 1 _ (put headWords slotWords new r) (omega arith)
       ∙ part-put-before headWords slotWords new r fits new-slots (countAt k) 3 (omega arith)
@@ -169,7 +169,7 @@ held-bit indicator held b = has-or held (bitAnd indicator heldMask) b ∙ ap (pi
 -- ---- a record after a count
 
 module _ (k count : ℕ) (r : List ℕ) (l : length r ≡ recordWords) (h : k < 4) where
-  three : length (countedOf count (countOf k r)) ≡ 3
+  three : length (countedOf count (countWords k r)) ≡ 3
   unfolding countedOf
   three = refl
 
@@ -178,15 +178,15 @@ module _ (k count : ℕ) (r : List ℕ) (l : length r ≡ recordWords) (h : k < 
 
   pub count-length : length (countRecord k count r) ≡ recordWords
   unfolding countRecord
-  count-length = put-length (countAt k) 3 (countedOf count (countOf k r)) r within three ∙ l
+  count-length = put-length (countAt k) 3 (countedOf count (countWords k r)) r within three ∙ l
 
-  pub count-count : countOf k (countRecord k count r) ≡ countedOf count (countOf k r)
-  unfolding countRecord countOf
+  pub count-count : countWords k (countRecord k count r) ≡ countedOf count (countWords k r)
+  unfolding countRecord countWords
   count-count = part-put (countAt k) 3 (countedOf count (part (countAt k) 3 r)) r within three
 
   -- the counts of the other types are as they were
-  pub count-other : (j : ℕ) → j < 4 → (j ≡ k → ⊥) → countOf j (countRecord k count r) ≡ countOf j r
-  unfolding countRecord countOf
+  pub count-other : (j : ℕ) → j < 4 → (j ≡ k → ⊥) → countWords j (countRecord k count r) ≡ countWords j r
+  unfolding countRecord countWords
   count-other j g n =
       ⊎-elim (λ (i : j ≤ k). part-put-before (countAt k) 3 _ r within three (countAt j) 3 (omega arith))
       (λ (i : k < j). part-put-after (countAt k) 3 _ r within three (countAt j) 3 (omega arith)) (le-or-lt j k)
@@ -197,8 +197,8 @@ module _ (k count : ℕ) (r : List ℕ) (l : length r ≡ recordWords) (h : k < 
 
   pub count-held : heldOf (countRecord k count r) ≡ heldOf r
   unfolding countRecord
-  count-held = getD-put-before (countAt k) 3 (countedOf count (countOf k r)) r within three 1 (omega arith)
+  count-held = getD-put-before (countAt k) 3 (countedOf count (countWords k r)) r within three 1 (omega arith)
 
   pub count-identifier : identifierOf (countRecord k count r) ≡ identifierOf r
   unfolding countRecord
-  count-identifier = getD-put-before (countAt k) 3 (countedOf count (countOf k r)) r within three 0 (omega arith)
+  count-identifier = getD-put-before (countAt k) 3 (countedOf count (countWords k r)) r within three 0 (omega arith)

@@ -11,7 +11,7 @@ use Rattle.words.specs.Part.{part, put}
 use Rattle.words.proofs.Cases.{true-or-false, true-is-false}
 use Rattle.words.proofs.AllLaws.{all-at}
 use Rattle.words.proofs.PartLaws.{set-put, put-at, part-length}
-use Rattle.fields.specs.Sizes.{sizeOf}
+use Rattle.fields.specs.Sizes.{fieldSize}
 use Rattle.record.specs.Held.{holds}
 use Rattle.record.proofs.SlotLaws.{held-low, held-high}
 
@@ -59,11 +59,11 @@ few : ℕ → ℕ → Bool
 few b n = pick (ltb b 10) true (among n (1 ∷ 2 ∷ 11 ∷ 13 ∷ []))
 
 -- a held field has 1, 2, 11 or 13 words
-size-few : (b : ℕ) → 10 ≤ b → b < 31 → among (sizeOf b) (1 ∷ 2 ∷ 11 ∷ 13 ∷ []) ≡ true
-unfolding few sizeOf all
-size-few b h g = rw (le-ltb b 10 h) at (all-at (λ i. few i (sizeOf i)) 31 b g refl)
+size-few : (b : ℕ) → 10 ≤ b → b < 31 → among (fieldSize b) (1 ∷ 2 ∷ 11 ∷ 13 ∷ []) ≡ true
+unfolding few fieldSize all
+size-few b h g = rw (le-ltb b 10 h) at (all-at (λ i. few i (fieldSize i)) 31 b g refl)
 
-pub size-held : (b n : ℕ) → holds b ≡ true → n ≡ sizeOf b → among n (1 ∷ 2 ∷ 11 ∷ 13 ∷ []) ≡ true
+pub size-held : (b n : ℕ) → holds b ≡ true → n ≡ fieldSize b → among n (1 ∷ 2 ∷ 11 ∷ 13 ∷ []) ≡ true
 size-held b n o e = rw e (size-few b (held-low b o) (held-high b o))
 
 among-one : (n x : ℕ) → among n (x ∷ []) ≡ true → n ≡ x

@@ -6,7 +6,7 @@ use Rattle.words.specs.Tests.{among}
 use Rattle.words.proofs.Cases.{true-or-false, true-is-false}
 use Rattle.words.proofs.LaidLaws.{sets-all}
 use Rattle.words.proofs.PartLaws.{seen, lent-to, part-length}
-use Rattle.record.specs.Layout.{recordWords, orderOf, countAt, countOf, lastOf}
+use Rattle.record.specs.Layout.{recordWords, orderOf, countAt, countWords, lastOf}
 use Rattle.record.specs.Counts.{missedOf, addedOf, countedOf, countRecord, addedTo}
 
 -- ---- what a packet adds to missing
@@ -31,15 +31,15 @@ count-stored ws count more seen missing l e es em = sets-all (seen ∷ missing �
 -- ---- a record of which the count of order k is lent, from `at` on
 
 module _ (k at : ℕ) (r : List ℕ) (e : at ≡ countAt k) where
-  count-seen : take (at + 3 - at) (drop at r) ≡ countOf k r
-  unfolding countOf
+  count-seen : take (at + 3 - at) (drop at r) ≡ countWords k r
+  unfolding countWords
   count-seen = rw e (seen (countAt k) (countAt k + 3) 3 r refl)
 
   pub count-three : length r ≡ recordWords → k < 4 → length (take (at + 3 - at) (drop at r)) ≡ 3
-  unfolding countOf
+  unfolding countWords
   count-three l h = rw count-seen (part-length (countAt k) 3 r (omega arith))
 
-  pub count-small : lastOf (countOf k r) ≤ 16 → lastOf (take (at + 3 - at) (drop at r)) ≤ 16
+  pub count-small : lastOf (countWords k r) ≤ 16 → lastOf (take (at + 3 - at) (drop at r)) ≤ 16
   count-small h = rw count-seen h
 
   module _ (count : ℕ) where
@@ -49,7 +49,7 @@ module _ (k at : ℕ) (r : List ℕ) (e : at ≡ countAt k) where
 
     pub count-lent : (last : List ℕ) → last ≡ countedOf count (take (at + 3 - at) (drop at r))
         → take at r ++ (last ++ drop (at + 3 - at) (drop at r)) ≡ countRecord k count r
-    unfolding countRecord countOf
+    unfolding countRecord countWords
     count-lent last f = rw (← e) (lent-to at (at + 3) 3 (countedOf count) last r refl f)
 
 -- ---- the types other than 4 that are counted

@@ -16,13 +16,13 @@ use Rattle.words.proofs.Cases.{true-or-false, same-or-not, both-left, both-righ
 use Rattle.words.proofs.AllLaws.{all-none, all-more, all-end, all-fails, all-at, all-intro, all-same}
 use Rattle.words.proofs.BitLaws.{has-and, word-same}
 use Rattle.words.proofs.PartLaws.{seen, getD-part, part-part, part-length, part-whole}
-use Rattle.fields.specs.Sizes.{sizeOf}
+use Rattle.fields.specs.Sizes.{fieldSize}
 use Rattle.fields.specs.Rules.{ruleOf}
 use Rattle.fields.proofs.SizeLaws.{size-some}
 use Rattle.fields.specs.Layout.{indicatorOf, fieldOf, contextOf}
 use Rattle.fields.proofs.BodyLaws.{context-fits, field-rule}
 use Rattle.record.specs.Held.{heldMask, holds, slotAt}
-use Rattle.record.specs.Layout.{headWords, slotWords, recordWords, heldOf, countAt, countOf, seenOf, missingOf, lastOf, slotIn, slotsOf, slotOf}
+use Rattle.record.specs.Layout.{headWords, slotWords, recordWords, heldOf, countAt, countWords, seenOf, missingOf, lastOf, slotIn, slotsOf, slotOf}
 use Rattle.record.specs.Counts.{countedOf, countRecord}
 use Rattle.record.specs.After.{slotAfter, heldAfter, holdRecord}
 use Rattle.record.specs.Good.{zeros, countGood, countGoodAt, heldGood, slotGood, recordGood, GoodCount, Good}
@@ -33,15 +33,15 @@ use Rattle.record.proofs.AfterLaws.{hold-slot, hold-held, hold-count, h
 
 -- ---- the words of a count, where a program reads them
 
-count-word : (k i : ℕ) (r : List ℕ) → i < 3 → getD (countOf k r) i 0 ≡ getD r (countAt k + i) 0
-unfolding countOf
+count-word : (k i : ℕ) (r : List ℕ) → i < 3 → getD (countWords k r) i 0 ≡ getD r (countAt k + i) 0
+unfolding countWords
 count-word k i r h = getD-part (countAt k) 3 i r h
 
 pub counts-at : (r : List ℕ) (k : ℕ) → countGoodAt r k ≡ countGood (getD r (countAt k) 0) (getD r (countAt k + 1) 0) (getD r (countAt k + 2) 0)
 unfolding countGoodAt
 counts-at r k = rw (count-word k 0 r (omega arith), count-word k 1 r (omega arith), count-word k 2 r (omega arith), add-zero (countAt k))
 
-pub last-at : (r : List ℕ) → lastOf (countOf 2 r) ≡ getD r 10 0
+pub last-at : (r : List ℕ) → lastOf (countWords 2 r) ≡ getD r 10 0
 last-at r = count-word 2 2 r (omega arith)
 
 -- ---- a loop that tests f at each number below n: those below i pass
@@ -78,13 +78,13 @@ module _ (r : List ℕ) (k : ℕ) (p : Passing 4 (countGoodAt r) k) (h : k < 4) 
 
 -- the held indicator, by the count of type 4
 module _ (r : List ℕ) (at : ℕ) (e : at ≡ countAt 2) (t : Bool) (h : t ≡ heldGood (heldOf r) (getD r (at + 2) 0)) where
-  held-tested : t ≡ heldGood (heldOf r) (lastOf (countOf 2 r))
+  held-tested : t ≡ heldGood (heldOf r) (lastOf (countWords 2 r))
   held-tested = h ∙ rw (e, last-at r)
 
-  pub head-ill : not t ≡ true → false ≡ both (heldGood (heldOf r) (lastOf (countOf 2 r))) (all 4 (countGoodAt r))
+  pub head-ill : not t ≡ true → false ≡ both (heldGood (heldOf r) (lastOf (countWords 2 r))) (all 4 (countGoodAt r))
   head-ill o = rw (← held-tested, not-true t o)
 
-  pub head-counts : (s : Bool) → not t ≡ false → s ≡ all 4 (countGoodAt r) → s ≡ both (heldGood (heldOf r) (lastOf (countOf 2 r))) (all 4 (countGoodAt r))
+  pub head-counts : (s : Bool) → not t ≡ false → s ≡ all 4 (countGoodAt r) → s ≡ both (heldGood (heldOf r) (lastOf (countWords 2 r))) (all 4 (countGoodAt r))
   head-counts s o f = rw (← held-tested, not-false t o) f
 
 -- ---- the slot of a bit, as a program tests it: it stands from `at` on among the slots and has n words
@@ -94,13 +94,13 @@ pub slots-start : (r : List ℕ) → Passing 31 (slotGood r) 10
 unfolding slotGood
 slots-start r = record { most = omega arith; before = all-intro (slotGood r) 10 (λ b h. rw (held-not b h)) }
 
-pub slot-length : (b : ℕ) (r : List ℕ) → length r ≡ recordWords → holds b ≡ true → length (slotOf b r) ≡ sizeOf b
+pub slot-length : (b : ℕ) (r : List ℕ) → length r ≡ recordWords → holds b ≡ true → length (slotOf b r) ≡ fieldSize b
 unfolding slotOf slotIn slotsOf
 slot-length b r l o =
     let m : length (part headWords slotWords r) ≡ slotWords = part-length headWords slotWords r (omega arith) in
-    part-length (slotAt b) (sizeOf b) (part headWords slotWords r) (omega (arith, slot-inside b o))
+    part-length (slotAt b) (fieldSize b) (part headWords slotWords r) (omega (arith, slot-inside b o))
 
-module _ (r : List ℕ) (b at n : ℕ) (l : length r ≡ recordWords) (o : holds b ≡ true) (ea : at ≡ slotAt b) (en : n ≡ sizeOf b) where
+module _ (r : List ℕ) (b at n : ℕ) (l : length r ≡ recordWords) (o : holds b ≡ true) (ea : at ≡ slotAt b) (en : n ≡ fieldSize b) where
   pub slot-end : headWords + at + n ≤ length r
   slot-end = omega (arith, slot-inside b o)
 
@@ -110,7 +110,7 @@ module _ (r : List ℕ) (b at n : ℕ) (l : length r ≡ recordWords) (o : holds
   slot-seen : there ≡ slotOf b r
   unfolding slotOf slotIn slotsOf
   slot-seen =
-      seen (headWords + at) (headWords + at + n) n r refl ∙ rw (ea, en) (sym (part-part (slotAt b) (sizeOf b) headWords slotWords r (slot-inside b o)))
+      seen (headWords + at) (headWords + at + n) n r refl ∙ rw (ea, en) (sym (part-part (slotAt b) (fieldSize b) headWords slotWords r (slot-inside b o)))
 
   -- the slot has a word
   pub slot-there : 0 < length (take (headWords + at + n - (headWords + at)) (drop (headWords + at) r))
@@ -236,10 +236,10 @@ within-mask held h e =
     (λ b l. has-and held heldMask b ∙ ⊎-elim (λ t. rw t (e b t)) (λ t. rw t) (true-or-false (has held b)))
 
 -- the words before the slots, and then the slots: as a program tests a record
-module _ (r : List ℕ) (head : Bool) (e : head ≡ both (heldGood (heldOf r) (lastOf (countOf 2 r))) (all 4 (countGoodAt r))) where
+module _ (r : List ℕ) (head : Bool) (e : head ≡ both (heldGood (heldOf r) (lastOf (countWords 2 r))) (all 4 (countGoodAt r))) where
   good-tests : both head (all 31 (slotGood r)) ≡ recordGood r
   unfolding recordGood
-  good-tests = rw e (both-assoc (heldGood (heldOf r) (lastOf (countOf 2 r))) (all 4 (countGoodAt r)) (all 31 (slotGood r)))
+  good-tests = rw e (both-assoc (heldGood (heldOf r) (lastOf (countWords 2 r))) (all 4 (countGoodAt r)) (all 31 (slotGood r)))
 
   pub good-head-ill : head ≡ false → false ≡ recordGood r
   good-head-ill h = rw h at good-tests
@@ -251,7 +251,7 @@ module _ (r : List ℕ) (head : Bool) (e : head ≡ both (heldGood (heldOf r) (l
 pub good-of : (r : List ℕ) → length r ≡ recordWords → recordGood r ≡ true → Good r
 unfolding recordGood heldGood slotGood countGoodAt
 good-of r l e =
-    let held : Bool = heldGood (heldOf r) (lastOf (countOf 2 r)) in
+    let held : Bool = heldGood (heldOf r) (lastOf (countWords 2 r)) in
     let counts : Bool = all 4 (countGoodAt r) in
     let slots : Bool = all 31 (slotGood r) in
     let a = both-left held (both counts slots) e in
@@ -274,14 +274,14 @@ unfolding recordGood heldGood slotGood countGoodAt
 of-good r g =
     both-true _ _
     (both-true _ _ (eq-eqb _ _ (within-mask (heldOf r) (g .small) (g .bits)))
-    (pick-true (eqb (lastOf (countOf 2 r)) 0) (eqb (heldOf r) 0) (λ z. eq-eqb (heldOf r) 0 (g .started (eqb-true (lastOf (countOf 2 r)) 0 z)))))
+    (pick-true (eqb (lastOf (countWords 2 r)) 0) (eqb (heldOf r) 0) (λ z. eq-eqb (heldOf r) 0 (g .started (eqb-true (lastOf (countWords 2 r)) 0 z)))))
     (both-true _ _ (all-intro (countGoodAt r) 4 (λ k h. facts-count _ _ _ (g .counts k h)))
     (all-intro (slotGood r) 31 (λ b h. pick-true (holds b) _ (λ o. slot b o))))
   where
     slot : (b : ℕ) → holds b ≡ true → pick (has (heldOf r) b) (ruleOf b (slotOf b r)) (zeros (slotOf b r)) ≡ true
     slot b o =
         ⊎-elim (λ y. rw y (g .obeys b o y))
-        (λ n. ap (λ (t : Bool). pick t (ruleOf b (slotOf b r)) (zeros (slotOf b r))) n ∙ ap zeros (g .unheld b o n) ∙ zeros-good (sizeOf b))
+        (λ n. ap (λ (t : Bool). pick t (ruleOf b (slotOf b r)) (zeros (slotOf b r))) n ∙ ap zeros (g .unheld b o n) ∙ zeros-good (fieldSize b))
         (true-or-false (has (heldOf r) b))
 
 -- ---- a record of zeros but for its identifier is good
@@ -293,18 +293,18 @@ module _ (r : List ℕ) (l : length r ≡ recordWords) (z : (i : ℕ) → getD r
   blank-bit : (b : ℕ) → has (heldOf r) b ≡ false
   blank-bit b = ap (λ (n : ℕ). has n b) (z 0) ∙ ap (λ (n : ℕ). eqb (n % 2) 1) (zero-div (2 ^ b))
 
-  blank-count : (k i : ℕ) → i < 3 → getD (countOf k r) i 0 ≡ 0
+  blank-count : (k i : ℕ) → i < 3 → getD (countWords k r) i 0 ≡ 0
   blank-count k i h = count-word k i r h ∙ blank-word (countAt k + i) (omega arith)
 
-  blank-slot : (b : ℕ) → holds b ≡ true → slotOf b r ≡ replicate (sizeOf b) 0
+  blank-slot : (b : ℕ) → holds b ≡ true → slotOf b r ≡ replicate (fieldSize b) 0
   unfolding slotOf slotIn slotsOf
   blank-slot b o =
-      let m : length (part (slotAt b) (sizeOf b) (part headWords slotWords r)) ≡ sizeOf b = slot-length b r l o in
-      ext-getD 0 _ (replicate (sizeOf b) 0) (m ∙ sym (length-replicate (sizeOf b) 0))
+      let m : length (part (slotAt b) (fieldSize b) (part headWords slotWords r)) ≡ fieldSize b = slot-length b r l o in
+      ext-getD 0 _ (replicate (fieldSize b) 0) (m ∙ sym (length-replicate (fieldSize b) 0))
       (λ i h.
-      getD-part (slotAt b) (sizeOf b) i (part headWords slotWords r) (omega arith)
+      getD-part (slotAt b) (fieldSize b) i (part headWords slotWords r) (omega arith)
       ∙ getD-part headWords slotWords (slotAt b + i) r (omega (arith, slot-inside b o))
-      ∙ blank-word (headWords + (slotAt b + i)) (omega arith) ∙ sym (zero-at (sizeOf b) i))
+      ∙ blank-word (headWords + (slotAt b + i)) (omega arith) ∙ sym (zero-at (fieldSize b) i))
 
   pub blank-good : Good r
   blank-good = record {
@@ -334,19 +334,19 @@ slot-stays carried field slot e = rw e
 
 -- after a count
 module _ (k count : ℕ) (r : List ℕ) (l : length r ≡ recordWords) (h : k < 4) (small : count < 16) (g : Good r) where
-  counted-last : lastOf (countedOf count (countOf k r)) ≡ count + 1
+  counted-last : lastOf (countedOf count (countWords k r)) ≡ count + 1
   unfolding countedOf
   counted-last = refl
 
-  counted-good : GoodCount (seenOf (countedOf count (countOf k r))) (missingOf (countedOf count (countOf k r))) (lastOf (countedOf count (countOf k r)))
+  counted-good : let after = countedOf count (countWords k r) in GoodCount (seenOf after) (missingOf after) (lastOf after)
   counted-good = record { unstarted = λ z. absurd (omega (arith, counted-last)); most = omega (arith, counted-last) }
 
   -- type 4 has started where it had, or is the one counted
-  counted-started : lastOf (countOf 2 (countRecord k count r)) ≡ 0 → lastOf (countOf 2 r) ≡ 0
+  counted-started : lastOf (countWords 2 (countRecord k count r)) ≡ 0 → lastOf (countWords 2 r) ≡ 0
   counted-started z =
       ⊎-elim
       (λ (e : 2 ≡ k).
-      let y : lastOf (countOf k (countRecord k count r)) ≡ 0 = ap (λ (j : ℕ). lastOf (countOf j (countRecord k count r))) (sym e) ∙ z in
+      let y : lastOf (countWords k (countRecord k count r)) ≡ 0 = ap (λ (j : ℕ). lastOf (countWords j (countRecord k count r))) (sym e) ∙ z in
       absurd (omega (arith, y, counted-last, ap lastOf (count-count k count r l h))))
       (λ (n : 2 ≡ k → ⊥). sym (ap lastOf (count-other k count r l h 2 (omega arith) n)) ∙ z) (same-or-not 2 k)
 
@@ -364,7 +364,7 @@ module _ (k count : ℕ) (r : List ℕ) (l : length r ≡ recordWords) (h : k < 
       }
 
 -- after the fields of an accepted packet are held, type 4 having started
-module _ (body r : List ℕ) (l : length r ≡ recordWords) (ok : contextOf body ≡ accepted tt) (began : lastOf (countOf 2 r) ≡ 0 → ⊥) (g : Good r) where
+module _ (body r : List ℕ) (l : length r ≡ recordWords) (ok : contextOf body ≡ accepted tt) (began : lastOf (countWords 2 r) ≡ 0 → ⊥) (g : Good r) where
   abbrev ind : ℕ
   ind = indicatorOf body
 

@@ -11,7 +11,7 @@ use Rattle.words.proofs.Cases.{le-or-lt, same-or-not, both-right, both-no}
 use Rattle.words.proofs.BitLaws.{has-and}
 use Rattle.words.proofs.PartLaws.{part-length, put-length, part-put, part-put-before, part-put-after}
 use Rattle.words.proofs.SetBitLaws.{Head, bits-head, bits-trim, bits-none, bits-unset}
-use Rattle.fields.specs.Sizes.{sizeOf, sizesOf}
+use Rattle.fields.specs.Sizes.{fieldSize, sizesOf}
 use Rattle.fields.proofs.SizeLaws.{sizes-more}
 use Rattle.record.specs.Held.{heldMask, holds, heldBits, slotAt}
 use Rattle.record.specs.Layout.{slotWords, slotIn}
@@ -32,33 +32,33 @@ module _ (bits : ℕ) (within : bitAnd bits heldMask ≡ bits) where
 -- ---- slots
 
 -- a slot lies among the slots, and apart from the others
-pub slot-inside : (b : ℕ) → holds b ≡ true → slotAt b + sizeOf b ≤ slotWords
+pub slot-inside : (b : ℕ) → holds b ≡ true → slotAt b + fieldSize b ≤ slotWords
 unfolding slotAt heldBits holds
 slot-inside b e = rw slots-whole at (placed-inside 31 heldMask b (held-high b e) e)
 
-slots-apart : (b x : ℕ) → b < x → holds b ≡ true → holds x ≡ true → slotAt x + sizeOf x ≤ slotAt b
+slots-apart : (b x : ℕ) → b < x → holds b ≡ true → holds x ≡ true → slotAt x + fieldSize x ≤ slotAt b
 unfolding slotAt heldBits holds
 slots-apart b x h e f = placed-apart 31 heldMask b x h (held-high x f) e f
 
-module _ (b : ℕ) (ws slots : List ℕ) (l : length slots ≡ slotWords) (e : holds b ≡ true) (m : length ws ≡ sizeOf b) where
-  room : slotAt b + sizeOf b ≤ length slots
+module _ (b : ℕ) (ws slots : List ℕ) (l : length slots ≡ slotWords) (e : holds b ≡ true) (m : length ws ≡ fieldSize b) where
+  room : slotAt b + fieldSize b ≤ length slots
   room = omega (arith, slot-inside b e)
 
-  pub slot-put : slotIn b (put (slotAt b) (sizeOf b) ws slots) ≡ ws
+  pub slot-put : slotIn b (put (slotAt b) (fieldSize b) ws slots) ≡ ws
   unfolding slotIn
-  slot-put = part-put (slotAt b) (sizeOf b) ws slots room m
+  slot-put = part-put (slotAt b) (fieldSize b) ws slots room m
 
-  pub slot-put-other : (x : ℕ) → holds x ≡ true → (x ≡ b → ⊥) → slotIn x (put (slotAt b) (sizeOf b) ws slots) ≡ slotIn x slots
+  pub slot-put-other : (x : ℕ) → holds x ≡ true → (x ≡ b → ⊥) → slotIn x (put (slotAt b) (fieldSize b) ws slots) ≡ slotIn x slots
   unfolding slotIn
   slot-put-other x f n =
-      ⊎-elim (λ (g : x ≤ b). part-put-after (slotAt b) (sizeOf b) ws slots room m (slotAt x) (sizeOf x) (slots-apart x b (omega arith) f e))
-      (λ (g : b < x). part-put-before (slotAt b) (sizeOf b) ws slots room m (slotAt x) (sizeOf x) (slots-apart b x g e f)) (le-or-lt x b)
+      ⊎-elim (λ (g : x ≤ b). part-put-after (slotAt b) (fieldSize b) ws slots room m (slotAt x) (fieldSize x) (slots-apart x b (omega arith) f e))
+      (λ (g : b < x). part-put-before (slotAt b) (fieldSize b) ws slots room m (slotAt x) (fieldSize x) (slots-apart b x g e f)) (le-or-lt x b)
 
 -- ---- the loop: its head, start, turn and end
 
 -- the field of bit b, where the fields of these bits stand from a place of the words on
 abbrev pub fieldIn : ℕ → ℕ → List ℕ → ℕ → List ℕ
-fieldIn bits at ws b = part (at + placed 31 bits b) (sizeOf b) ws
+fieldIn bits at ws b = part (at + placed 31 bits b) (fieldSize b) ws
 
 -- the bits from `reached` up are done
 pub record Holding (bits at : ℕ) (ws slots₀ slots : List ℕ) (rest from : ℕ) : Type 0 where
@@ -100,11 +100,11 @@ module _ {bits at rest from : ℕ} {ws slots₀ slots : List ℕ} (p : Holding b
       let e : bitsOf (p .reached) bits ≡ b ∷ bitsOf b bits = sym (p .left) ∙ cut ∙ ap (λ (l : List ℕ). b ∷ l) (head .rest) in
       omega (arith, p .place, ap sizesOf e, sizes-more b (bitsOf b bits), placed-split 31 bits b (held-high b holding-holds) (head .set))
 
-  holding-field : from + sizeOf b ≤ length ws
+  holding-field : from + fieldSize b ≤ length ws
   holding-field = omega (arith, here, p .inside b (head .set))
 
   -- its slot and its field lie inside, as a copy asks
-  module _ (n : ℕ) (en : n ≡ sizeOf b) where
+  module _ (n : ℕ) (en : n ≡ fieldSize b) where
     pub copy-slot : (slot : ℕ) → slot ≡ slotAt b → slot + n ≤ length slots
     copy-slot slot es = omega (arith, p .same, slot-inside b holding-holds)
 
@@ -123,25 +123,25 @@ module _ {bits at rest from : ℕ} {ws slots₀ slots : List ℕ} (p : Holding b
       (λ (g : x < p .reached). rw (head .gap x h g, both-no (leb (p .reached) x), both-no (leb b x))) (le-or-lt (p .reached) x))
       (le-or-lt x b)
 
-  module _ (m : length (part from (sizeOf b) ws) ≡ sizeOf b) where
+  module _ (m : length (part from (fieldSize b) ws) ≡ fieldSize b) where
     abbrev filled : List ℕ
-    filled = put (slotAt b) (sizeOf b) (part from (sizeOf b) ws) slots
+    filled = put (slotAt b) (fieldSize b) (part from (fieldSize b) ws) slots
 
     turn-slot : (x : ℕ) → holds x ≡ true → slotIn x filled ≡ slotAfter (both (leb b x) (has bits x)) (fieldIn bits at ws x) (slotIn x slots₀)
     unfolding slotAfter
     turn-slot x f =
         ⊎-elim
         (λ (h : x ≡ b).
-        rw (h, le-leb b b (le-refl b), head .set) (slot-put b _ slots (p .same) holding-holds m ∙ ap (λ (z : ℕ). part z (sizeOf b) ws) here))
+        rw (h, le-leb b b (le-refl b), head .set) (slot-put b _ slots (p .same) holding-holds m ∙ ap (λ (z : ℕ). part z (fieldSize b) ws) here))
         (λ (h : x ≡ b → ⊥).
         slot-put-other b _ slots (p .same) holding-holds m x f h ∙ p .is x f
         ∙ ap (λ (t : Bool). pick t (fieldIn bits at ws x) (slotIn x slots₀)) (filled-same x h))
         (same-or-not x b)
 
-  pub holding-turn : (slot n : ℕ) (after : List ℕ) → slot ≡ slotAt b → n ≡ sizeOf b → after ≡ put slot n (part from n ws) slots
+  pub holding-turn : (slot n : ℕ) (after : List ℕ) → slot ≡ slotAt b → n ≡ fieldSize b → after ≡ put slot n (part from n ws) slots
       → Holding bits at ws slots₀ after rest′ (from + n)
   holding-turn slot n after es en e =
-      let m : length (part from (sizeOf b) ws) ≡ sizeOf b = part-length from (sizeOf b) ws holding-field in
+      let m : length (part from (fieldSize b) ws) ≡ fieldSize b = part-length from (fieldSize b) ws holding-field in
       let a : after ≡ filled m = e ∙ rw (es, en) in
       let cons : bitsOf (p .reached) bits ≡ b ∷ bitsOf b bits = sym (p .left) ∙ cut ∙ ap (λ (l : List ℕ). b ∷ l) (head .rest) in
       record {
@@ -149,7 +149,7 @@ module _ {bits at rest from : ℕ} {ws slots₀ slots : List ℕ} (p : Holding b
         top = omega (arith, head .low, p .top);
         left = head .rest;
         same =
-            ap length a ∙ put-length (slotAt b) (sizeOf b) (part from (sizeOf b) ws) slots (omega (arith, p .same, slot-inside b holding-holds)) m
+            ap length a ∙ put-length (slotAt b) (fieldSize b) (part from (fieldSize b) ws) slots (omega (arith, p .same, slot-inside b holding-holds)) m
             ∙ p .same;
         within = p .within;
         inside = p .inside;
@@ -167,8 +167,8 @@ unfolding refilled slotAfter slotIn slotAt heldBits holds
 holding-end {bits} {at} {rest} {from} {ws} {slots₀} {slots} p z =
     let none : bitsOf (p .reached) bits ≡ [] = sym (p .left) ∙ bits-none 32 rest (omega arith) in
     sym (in-order-parts 31 heldMask slots (p .same ∙ sym slots-whole))
-    ∙ in-order-same 31 heldMask (λ b. part (placed 31 heldMask b) (sizeOf b) slots)
-    (λ b. pick (has bits b) (fieldIn bits at ws b) (part (placed 31 heldMask b) (sizeOf b) slots₀))
+    ∙ in-order-same 31 heldMask (λ b. part (placed 31 heldMask b) (fieldSize b) slots)
+    (λ b. pick (has bits b) (fieldIn bits at ws b) (part (placed 31 heldMask b) (fieldSize b) slots₀))
     (λ b l e.
     p .is b e
-    ∙ ap (λ (t : Bool). pick t (fieldIn bits at ws b) (part (placed 31 heldMask b) (sizeOf b) slots₀)) (all-filled (p .reached) b bits none))
+    ∙ ap (λ (t : Bool). pick t (fieldIn bits at ws b) (part (placed 31 heldMask b) (fieldSize b) slots₀)) (all-filled (p .reached) b bits none))

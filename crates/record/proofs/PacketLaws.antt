@@ -6,7 +6,7 @@ use Rattle.words.specs.Outcome.{accepted}
 use Rattle.words.proofs.Cases.{same-or-not}
 use Rattle.fields.specs.Layout.{indicatorOf, contextOf}
 use Rattle.record.specs.Held.{holds}
-use Rattle.record.specs.Layout.{recordWords, identifierOf, heldOf, orderOf, countOf, lastOf, slotOf}
+use Rattle.record.specs.Layout.{recordWords, identifierOf, heldOf, orderOf, countWords, lastOf, slotOf}
 use Rattle.record.specs.Counts.{countedOf, countRecord, addedTo}
 use Rattle.record.specs.After.{slotAfterBody, heldAfter, holdRecord, recordAfter, addedBy}
 use Rattle.record.specs.Good.{recordGood, Good}
@@ -27,10 +27,10 @@ unfolding orderOf
 order-context kind e = rw e
 
 -- the last count of a good record is at most 15
-pub last-most : (r : List ℕ) (k : ℕ) → length r ≡ recordWords → k < 4 → recordGood r ≡ true → lastOf (countOf k r) ≤ 16
+pub last-most : (r : List ℕ) (k : ℕ) → length r ≡ recordWords → k < 4 → recordGood r ≡ true → lastOf (countWords k r) ≤ 16
 last-most r k l h g = good-of r l g .counts k h .most
 
-pub context-most : (r : List ℕ) → length r ≡ recordWords → recordGood r ≡ true → lastOf (countOf 2 r) ≤ 16
+pub context-most : (r : List ℕ) → length r ≡ recordWords → recordGood r ≡ true → lastOf (countWords 2 r) ≤ 16
 context-most r l g = last-most r 2 l (omega arith) g
 
 -- the body matters to type 4 alone
@@ -87,16 +87,16 @@ module _ (kind count : ℕ) (body r : List ℕ) (l : length r ≡ recordWords) (
       by-kind identifierOf (identifierOf r) (λ e. hold-identifier body counted whole (ok e) ∙ i) i
 
   -- its type is counted
-  pub after-count : countOf (orderOf kind) (recordAfter kind count body r) ≡ countedOf count (countOf (orderOf kind) r)
+  pub after-count : countWords (orderOf kind) (recordAfter kind count body r) ≡ countedOf count (countWords (orderOf kind) r)
   after-count =
       let i = count-count (orderOf kind) count r l (order-small kind) in
-      by-kind (countOf (orderOf kind)) _ (λ e. hold-count body counted whole (ok e) (orderOf kind) (order-small kind) ∙ i) i
+      by-kind (countWords (orderOf kind)) _ (λ e. hold-count body counted whole (ok e) (orderOf kind) (order-small kind) ∙ i) i
 
   -- the counts of the other types are as they were
-  pub after-other : (k : ℕ) → k < 4 → (k ≡ orderOf kind → ⊥) → countOf k (recordAfter kind count body r) ≡ countOf k r
+  pub after-other : (k : ℕ) → k < 4 → (k ≡ orderOf kind → ⊥) → countWords k (recordAfter kind count body r) ≡ countWords k r
   after-other k h n =
       let i = count-other (orderOf kind) count r l (order-small kind) k h n in
-      by-kind (countOf k) _ (λ e. hold-count body counted whole (ok e) k h ∙ i) i
+      by-kind (countWords k) _ (λ e. hold-count body counted whole (ok e) k h ∙ i) i
 
   -- a slot has the field's words where a Context packet carries it, and is else as it was
   pub after-slot : (b : ℕ) → holds b ≡ true → slotOf b (recordAfter kind count body r) ≡ pick (eqb kind 4) (slotAfterBody b body (slotOf b r)) (slotOf b r)
@@ -113,11 +113,11 @@ module _ (kind count : ℕ) (body r : List ℕ) (l : length r ≡ recordWords) (
       (λ n. rw (ne-eqb kind 4 n) (ap heldOf (after-data n) ∙ i)) (same-or-not kind 4)
 
   -- type 4 has started, once it is counted
-  began : kind ≡ 4 → lastOf (countOf 2 (countRecord (orderOf kind) count r)) ≡ 0 → ⊥
+  began : kind ≡ 4 → lastOf (countWords 2 (countRecord (orderOf kind) count r)) ≡ 0 → ⊥
   unfolding countedOf
   began e z =
-      let i : lastOf (countOf (orderOf kind) counted) ≡ count + 1 = ap lastOf (count-count (orderOf kind) count r l (order-small kind)) in
-      omega (arith, i, ap (λ (k : ℕ). lastOf (countOf k counted)) (order-context kind e))
+      let i : lastOf (countWords (orderOf kind) counted) ≡ count + 1 = ap lastOf (count-count (orderOf kind) count r l (order-small kind)) in
+      omega (arith, i, ap (λ (k : ℕ). lastOf (countWords k counted)) (order-context kind e))
 
   -- a good record stays good
   pub after-good : count < 16 → recordGood r ≡ true → recordGood (recordAfter kind count body r) ≡ true

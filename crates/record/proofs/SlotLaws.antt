@@ -16,7 +16,7 @@ use Rattle.words.proofs.AllLaws.{all-at, tabled-at}
 use Rattle.words.proofs.Cases.{le-or-lt, true-or-false, true-is-false}
 use Rattle.words.proofs.PartLaws.{part-is, part-front, part-past, part-drop}
 use Rattle.words.proofs.SetBitLaws.{has-above, bits-zero, bits-yes, bits-no, bits-split, above-none, above-kept}
-use Rattle.fields.specs.Sizes.{sizeOf, sizesOf}
+use Rattle.fields.specs.Sizes.{fieldSize, sizesOf}
 use Rattle.fields.proofs.SizeLaws.{sizes-none, sizes-more, sizes-append}
 use Rattle.fields.proofs.WalkLaws.{none-left}
 use Rattle.record.specs.Held.{heldMask, holds, heldBits, slotAt, inOrder}
@@ -31,7 +31,7 @@ placed k n b = sizesOf (above b (bitsOf k n))
 placed-first : (k n : ℕ) → placed (suc k) n k ≡ 0
 placed-first k n = ap sizesOf (above-none k (suc k) n (omega arith)) ∙ sizes-none
 
-placed-yes : (k n b : ℕ) → has n k ≡ true → b < k → placed (suc k) n b ≡ sizeOf k + placed k n b
+placed-yes : (k n b : ℕ) → has n k ≡ true → b < k → placed (suc k) n b ≡ fieldSize k + placed k n b
 unfolding bitsOf
 placed-yes k n b e h = ap sizesOf (above-kept (has n k) b k (bitsOf k n) h) ∙ rw e (sizes-more k (above b (bitsOf k n)))
 
@@ -39,15 +39,15 @@ placed-no : (k n b : ℕ) → has n k ≡ false → placed (suc k) n b ≡ place
 placed-no k n b e = ap (λ (l : List ℕ). sizesOf (above b l)) (bits-no k n e)
 
 -- the words of the bits below b stand after b's own
-pub placed-split : (k n b : ℕ) → b < k → has n b ≡ true → sizesOf (bitsOf k n) ≡ placed k n b + (sizeOf b + sizesOf (bitsOf b n))
+pub placed-split : (k n b : ℕ) → b < k → has n b ≡ true → sizesOf (bitsOf k n) ≡ placed k n b + (fieldSize b + sizesOf (bitsOf b n))
 placed-split k n b h e =
     ap sizesOf (bits-split k n b h e) ∙ sizes-append (above b (bitsOf k n)) (b ∷ bitsOf b n) ∙ ap (λ (m : ℕ). placed k n b + m) (sizes-more b (bitsOf b n))
 
-pub placed-inside : (k n b : ℕ) → b < k → has n b ≡ true → placed k n b + sizeOf b ≤ sizesOf (bitsOf k n)
+pub placed-inside : (k n b : ℕ) → b < k → has n b ≡ true → placed k n b + fieldSize b ≤ sizesOf (bitsOf k n)
 placed-inside k n b h e = omega (arith, placed-split k n b h e)
 
 -- those of a higher bit end before those of a lower one begin
-pub placed-apart : (k n b x : ℕ) → b < x → x < k → has n b ≡ true → has n x ≡ true → placed k n x + sizeOf x ≤ placed k n b
+pub placed-apart : (k n b x : ℕ) → b < x → x < k → has n b ≡ true → has n x ≡ true → placed k n x + fieldSize x ≤ placed k n b
 placed-apart k n b x h g e f = omega (arith, placed-split k n x g f, placed-split k n b (omega arith) e, placed-split x n b h e)
 
 -- ---- words in order
@@ -72,7 +72,7 @@ in-order-same (suc k) n f g h =
 
 -- each set bit has the words of its field
 abbrev pub Sized : ℕ → ℕ → (ℕ → List ℕ) → Type 0
-Sized k n f = (b : ℕ) → b < k → has n b ≡ true → length (f b) ≡ sizeOf b
+Sized k n f = (b : ℕ) → b < k → has n b ≡ true → length (f b) ≡ fieldSize b
 
 pub in-order-length : (k n : ℕ) (f : ℕ → List ℕ) → Sized k n f → length (inOrder (bitsOf k n) f) ≡ sizesOf (bitsOf k n)
 in-order-length zero n f h = rw (bits-zero n, in-order-none f, sizes-none)
@@ -84,47 +84,47 @@ in-order-length (suc k) n f h =
     (true-or-false (has n k))
 
 -- the words at a bit's place are its own
-pub in-order-at : (k n b : ℕ) (f : ℕ → List ℕ) → Sized k n f → b < k → has n b ≡ true → part (placed k n b) (sizeOf b) (inOrder (bitsOf k n) f) ≡ f b
+pub in-order-at : (k n b : ℕ) (f : ℕ → List ℕ) → Sized k n f → b < k → has n b ≡ true → part (placed k n b) (fieldSize b) (inOrder (bitsOf k n) f) ≡ f b
 in-order-at zero n b f h l e = absurd (omega arith)
 in-order-at (suc k) n b f h l e =
     ⊎-elim
     (λ (g : k ≤ b).
     let i : b ≡ k = omega arith in
     let e′ : has n k ≡ true = rw i at e in
-    rw (i, placed-first k n, bits-yes k n e′, in-order-more k (bitsOf k n) f) (part-front (sizeOf k) (f k) (inOrder (bitsOf k n) f) (h k (omega arith) e′)))
+    rw (i, placed-first k n, bits-yes k n e′, in-order-more k (bitsOf k n) f) (part-front (fieldSize k) (f k) (inOrder (bitsOf k n) f) (h k (omega arith) e′)))
     (λ (g : b < k).
     let rest = in-order-at k n b f (λ x m. h x (omega arith)) g e in
     ⊎-elim
     (λ t. rw (placed-yes k n b t g, bits-yes k n t, in-order-more k (bitsOf k n) f)
-    (part-past (sizeOf k) (placed k n b) (sizeOf b) (f k) (inOrder (bitsOf k n) f) (h k (omega arith) t) ∙ rest))
+    (part-past (fieldSize k) (placed k n b) (fieldSize b) (f k) (inOrder (bitsOf k n) f) (h k (omega arith) t) ∙ rest))
     (λ t. rw (placed-no k n b t, bits-no k n t) rest)
     (true-or-false (has n k)))
     (le-or-lt k b)
 
 -- words are what stands at the places of their bits
-pub in-order-parts : (k n : ℕ) (ws : List ℕ) → length ws ≡ sizesOf (bitsOf k n) → inOrder (bitsOf k n) (λ b. part (placed k n b) (sizeOf b) ws) ≡ ws
+pub in-order-parts : (k n : ℕ) (ws : List ℕ) → length ws ≡ sizesOf (bitsOf k n) → inOrder (bitsOf k n) (λ b. part (placed k n b) (fieldSize b) ws) ≡ ws
 in-order-parts zero n ws l =
     rw (bits-zero n) (in-order-none _ ∙ sym (none-left ws (omega (arith, l, ap sizesOf (bits-zero n), sizes-none))))
 in-order-parts (suc k) n ws l =
     ⊎-elim
     (λ t.
-    let m : length ws ≡ sizeOf k + sizesOf (bitsOf k n) = l ∙ ap sizesOf (bits-yes k n t) ∙ sizes-more k (bitsOf k n) in
-    let d : length (drop (sizeOf k) ws) ≡ sizesOf (bitsOf k n) = length-drop (sizeOf k) ws ∙ omega arith in
+    let m : length ws ≡ fieldSize k + sizesOf (bitsOf k n) = l ∙ ap sizesOf (bits-yes k n t) ∙ sizes-more k (bitsOf k n) in
+    let d : length (drop (fieldSize k) ws) ≡ sizesOf (bitsOf k n) = length-drop (fieldSize k) ws ∙ omega arith in
     ap (λ (l : List ℕ). inOrder l (at-place (suc k))) (bits-yes k n t)
     ∙ in-order-more k (bitsOf k n) (at-place (suc k))
-    ∙ ap (λ (z : ℕ). part z (sizeOf k) ws ++ inOrder (bitsOf k n) (at-place (suc k))) (placed-first k n)
-    ∙ ap (λ (z : List ℕ). part 0 (sizeOf k) ws ++ z)
-    (in-order-same k n (at-place (suc k)) (λ b. part (placed k n b) (sizeOf b) (drop (sizeOf k) ws))
-    (λ b g e. ap (λ (z : ℕ). part z (sizeOf b) ws) (placed-yes k n b t g) ∙ sym (part-drop (placed k n b) (sizeOf b) (sizeOf k) ws))
-    ∙ in-order-parts k n (drop (sizeOf k) ws) d)
-    ∙ ap (λ (z : List ℕ). z ++ drop (sizeOf k) ws) (part-is 0 (sizeOf k) ws) ∙ take-append-drop (sizeOf k) ws)
+    ∙ ap (λ (z : ℕ). part z (fieldSize k) ws ++ inOrder (bitsOf k n) (at-place (suc k))) (placed-first k n)
+    ∙ ap (λ (z : List ℕ). part 0 (fieldSize k) ws ++ z)
+    (in-order-same k n (at-place (suc k)) (λ b. part (placed k n b) (fieldSize b) (drop (fieldSize k) ws))
+    (λ b g e. ap (λ (z : ℕ). part z (fieldSize b) ws) (placed-yes k n b t g) ∙ sym (part-drop (placed k n b) (fieldSize b) (fieldSize k) ws))
+    ∙ in-order-parts k n (drop (fieldSize k) ws) d)
+    ∙ ap (λ (z : List ℕ). z ++ drop (fieldSize k) ws) (part-is 0 (fieldSize k) ws) ∙ take-append-drop (fieldSize k) ws)
     (λ t.
-    in-order-same (suc k) n (at-place (suc k)) (at-place k) (λ b g e. ap (λ (z : ℕ). part z (sizeOf b) ws) (placed-no k n b t))
+    in-order-same (suc k) n (at-place (suc k)) (at-place k) (λ b g e. ap (λ (z : ℕ). part z (fieldSize b) ws) (placed-no k n b t))
     ∙ rw (bits-no k n t) (in-order-parts k n ws (l ∙ ap sizesOf (bits-no k n t))))
     (true-or-false (has n k))
   where
     at-place : ℕ → ℕ → List ℕ
-    at-place m b = part (placed m n b) (sizeOf b) ws
+    at-place m b = part (placed m n b) (fieldSize b) ws
 
 -- ---- the held fields: bits 30 to 10
 
@@ -156,7 +156,7 @@ held-all b h g = rw (le-ltb b 10 h) at (all-at inside 31 b g refl)
 
 -- "Bits 30 to 10 are 21 fields of 74 words together"
 pub slots-whole : sizesOf heldBits ≡ slotWords
-unfolding heldBits heldMask bitsOf sizesOf sizeOf
+unfolding heldBits heldMask bitsOf sizesOf fieldSize
 slots-whole = refl
 
 -- the table of places has each slot's, by a test that computes once over the whole table
@@ -166,7 +166,7 @@ slotPlaces =
     ∷ 22 ∷ 20 ∷ 19 ∷ 18 ∷ 16 ∷ 14 ∷ 13 ∷ 12 ∷ 11 ∷ 9 ∷ 7 ∷ 5 ∷ 3 ∷ 1 ∷ 0 ∷ 0 ∷ []
 
 pub places-tabled : tabled 32 slotAt slotPlaces ≡ true
-unfolding slotAt heldBits heldMask bitsOf above sizesOf sizeOf all
+unfolding slotAt heldBits heldMask bitsOf above sizesOf fieldSize all
 places-tabled = refl
 
 module _ (places : List ℕ) (b : ℕ) (h : b < 32) (e : tabled 32 slotAt places ≡ true) where
@@ -174,7 +174,7 @@ module _ (places : List ℕ) (b : ℕ) (h : b < 32) (e : tabled 32 slotAt places
   place-is = tabled-at 32 places slotAt b e h
 
   pub place-most : getD places b 0 ≤ slotWords
-  unfolding slotAt heldBits heldMask bitsOf above sizesOf sizeOf all
+  unfolding slotAt heldBits heldMask bitsOf above sizesOf fieldSize all
   place-most = rw place-is (leb-true (slotAt b) slotWords (all-at (λ i. leb (slotAt i) slotWords) 32 b h refl))
 
   pub place-fits : getD places b 0 < 2 ^ 64

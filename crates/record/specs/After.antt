@@ -5,7 +5,7 @@ use Rattle.words.specs.Tests.{pick}
 use Rattle.words.specs.Word.{has}
 use Rattle.words.specs.Part.{part, put}
 use Rattle.words.specs.SetBits.{bitsOf, above}
-use Rattle.fields.specs.Sizes.{sizeOf, sizesOf}
+use Rattle.fields.specs.Sizes.{fieldSize, sizesOf}
 use Rattle.fields.specs.Layout.{indicatorOf, fieldOf}
 use Rattle.record.specs.Held.{heldMask, heldBits, inOrder}
 use Rattle.record.specs.Layout.{headWords, slotWords, heldOf, orderOf, slotIn, slotsOf}
@@ -42,11 +42,11 @@ addedBy kind count r = addedTo (orderOf kind) count r
 
 -- the slots where the fields of these bits stand in ws, one after the other from the place at on
 unfoldable pub refilled : ℕ → ℕ → List ℕ → List ℕ → List ℕ
-refilled bits at ws slots = inOrder heldBits (λ b. slotAfter (has bits b) (part (at + sizesOf (above b (bitsOf 31 bits))) (sizeOf b) ws) (slotIn b slots))
+refilled bits at ws slots = inOrder heldBits (λ b. slotAfter (has bits b) (part (at + sizesOf (above b (bitsOf 31 bits))) (fieldSize b) ws) (slotIn b slots))
 
 -- the field of each of these bits, where they stand so, lies inside the words
 abbrev pub Inside : ℕ → ℕ → List ℕ → Type 0
-Inside bits at ws = (b : ℕ) → has bits b ≡ true → at + sizesOf (above b (bitsOf 31 bits)) + sizeOf b ≤ length ws
+Inside bits at ws = (b : ℕ) → has bits b ≡ true → at + sizesOf (above b (bitsOf 31 bits)) + fieldSize b ≤ length ws
 
 -- the held words in field order, of slots: what stands of them in a page
 unfoldable pub heldWords : ℕ → List ℕ → List ℕ

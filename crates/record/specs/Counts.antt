@@ -3,7 +3,7 @@
 use Rattle.words.specs.Kit.{ℕ, _+_, _-_, _%_, _^_, List, [], _∷_, eqb}
 use Rattle.words.specs.Tests.{pick}
 use Rattle.words.specs.Part.{put}
-use Rattle.record.specs.Layout.{countAt, countOf, seenOf, missingOf, lastOf}
+use Rattle.record.specs.Layout.{countAt, countWords, seenOf, missingOf, lastOf}
 
 -- "(count - last - 1) modulo 16", with 16 more so that the difference does not fall below zero
 unfoldable pub missedOf : ℕ → ℕ → ℕ
@@ -23,7 +23,7 @@ countedOf count ws =
 
 -- a record after a packet of the type of order k is counted, and what that packet adds to missing
 unfoldable pub countRecord : ℕ → ℕ → List ℕ → List ℕ
-countRecord k count r = put (countAt k) 3 (countedOf count (countOf k r)) r
+countRecord k count r = put (countAt k) 3 (countedOf count (countWords k r)) r
 
 unfoldable pub addedTo : ℕ → ℕ → List ℕ → ℕ
-addedTo k count r = addedOf (lastOf (countOf k r)) count
+addedTo k count r = addedOf (lastOf (countWords k r)) count

@@ -7,10 +7,10 @@ use lib.ListN.{replicate}
 use Rattle.words.specs.Tests.{pick, both}
 use Rattle.words.specs.Word.{has}
 use Rattle.words.specs.All.{all}
-use Rattle.fields.specs.Sizes.{sizeOf}
+use Rattle.fields.specs.Sizes.{fieldSize}
 use Rattle.fields.specs.Rules.{ruleOf}
 use Rattle.record.specs.Held.{heldMask, holds}
-use Rattle.record.specs.Layout.{heldOf, countOf, seenOf, missingOf, lastOf, slotOf}
+use Rattle.record.specs.Layout.{heldOf, countWords, seenOf, missingOf, lastOf, slotOf}
 
 -- the words are zero
 unfoldable pub zeros : List ℕ → Bool
@@ -21,7 +21,7 @@ unfoldable pub countGood : ℕ → ℕ → ℕ → Bool
 countGood seen missing last = pick (eqb last 0) (both (eqb seen 0) (eqb missing 0)) (leb last 16)
 
 unfoldable pub countGoodAt : List ℕ → ℕ → Bool
-countGoodAt r k = countGood (seenOf (countOf k r)) (missingOf (countOf k r)) (lastOf (countOf k r))
+countGoodAt r k = countGood (seenOf (countWords k r)) (missingOf (countWords k r)) (lastOf (countWords k r))
 
 -- no bit is held but those of held fields; "no field held unless type 4 has started"
 unfoldable pub heldGood : ℕ → ℕ → Bool
@@ -33,7 +33,7 @@ slotGood r b = pick (holds b) (pick (has (heldOf r) b) (ruleOf b (slotOf b r)) (
 
 -- a record is good
 unfoldable pub recordGood : List ℕ → Bool
-recordGood r = both (heldGood (heldOf r) (lastOf (countOf 2 r))) (both (all 4 (countGoodAt r)) (all 31 (slotGood r)))
+recordGood r = both (heldGood (heldOf r) (lastOf (countWords 2 r))) (both (all 4 (countGoodAt r)) (all 31 (slotGood r)))
 
 -- ---- the same in facts
 
@@ -45,7 +45,7 @@ pub record Good (r : List ℕ) : Type 0 where
   -- a held bit is one of a held field
   pub bits : (b : ℕ) → has (heldOf r) b ≡ true → holds b ≡ true
   pub small : heldOf r < 2 ^ 31
-  pub started : lastOf (countOf 2 r) ≡ 0 → heldOf r ≡ 0
-  pub counts : (k : ℕ) → k < 4 → GoodCount (seenOf (countOf k r)) (missingOf (countOf k r)) (lastOf (countOf k r))
-  pub unheld : (b : ℕ) → holds b ≡ true → has (heldOf r) b ≡ false → slotOf b r ≡ replicate (sizeOf b) 0
+  pub started : lastOf (countWords 2 r) ≡ 0 → heldOf r ≡ 0
+  pub counts : (k : ℕ) → k < 4 → GoodCount (seenOf (countWords k r)) (missingOf (countWords k r)) (lastOf (countWords k r))
+  pub unheld : (b : ℕ) → holds b ≡ true → has (heldOf r) b ≡ false → slotOf b r ≡ replicate (fieldSize b) 0
   pub obeys : (b : ℕ) → holds b ≡ true → has (heldOf r) b ≡ true → ruleOf b (slotOf b r) ≡ true

@@ -3,7 +3,7 @@
 use Rattle.words.specs.Kit.{ℕ, _+_, _*_, List, eqb, getD}
 use Rattle.words.specs.Tests.{pick}
 use Rattle.words.specs.Part.{part}
-use Rattle.fields.specs.Sizes.{sizeOf}
+use Rattle.fields.specs.Sizes.{fieldSize}
 use Rattle.record.specs.Held.{slotAt}
 
 -- the words before the slots, those of the slots, and all
@@ -34,8 +34,8 @@ abbrev pub countAt : ℕ → ℕ
 countAt k = 2 + 3 * k
 
 -- its three words
-unfoldable pub countOf : ℕ → List ℕ → List ℕ
-countOf k r = part (countAt k) 3 r
+unfoldable pub countWords : ℕ → List ℕ → List ℕ
+countWords k r = part (countAt k) 3 r
 
 abbrev pub seenOf : List ℕ → ℕ
 seenOf count = getD count 0 0
@@ -49,7 +49,7 @@ lastOf count = getD count 2 0
 
 -- the slot of bit b among the slots, and in a record
 unfoldable pub slotIn : ℕ → List ℕ → List ℕ
-slotIn b slots = part (slotAt b) (sizeOf b) slots
+slotIn b slots = part (slotAt b) (fieldSize b) slots
 
 unfoldable pub slotsOf : List ℕ → List ℕ
 slotsOf r = part headWords slotWords r

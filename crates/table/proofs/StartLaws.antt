@@ -1,4 +1,4 @@
--- A fresh table. The idea: after s turns the first s records are fresh and the rest is as it was (`Writing`); the whole is well made, since a fresh record is
+-- A fresh table. The idea: after s turns the first s records are fresh and the rest is as it was (`Starting`); the whole is well made, since a fresh record is
 -- good and the list is that which was given.
 use Rattle.words.proofs.Kit.{_≡_, refl, sym, ap, _∙_, List, [], _∷_, _++_, Bool, true, false, not, ℕ, zero, suc, _+_, _-_, _*_, _≤_, _<_, arith}
 use Rattle.words.proofs.Kit.{lt-ltb, le-ltb, ltb-false, not-true, not-false, length, getD, take, drop, set}
@@ -77,16 +77,16 @@ reached-more ids t s h g =
     put-at (base s) recordWords (take 1 t ++ freshRecords (take s ids)) (drop (base s) t) (freshRecord (getD ids s 0)) (head-length ids t s i g)
     ∙ rw (drop-drop recordWords (base s) t, e, records-more ids s h) (simp append-assoc)
 
-pub record Writing (ids t₀ t : List ℕ) (s : ℕ) : Type 0 where
+pub record Starting (ids t₀ t : List ℕ) (s : ℕ) : Type 0 where
   pub few : s ≤ length ids
   pub same : length t ≡ length t₀
   pub is : t ≡ reached ids t₀ s
 
-pub writing-start : (ids t : List ℕ) → Writing ids t t 0
+pub writing-start : (ids t : List ℕ) → Starting ids t t 0
 writing-start ids t = record { few = omega arith; same = refl; is = reached-none ids t }
 
-pub writing-turn : (ids t₀ t last : List ℕ) (s : ℕ) → Writing ids t₀ t s → base (length ids) ≤ length t₀ → s < length ids
-    → last ≡ withRecord s (freshRecord (getD ids s 0)) t → Writing ids t₀ last (s + 1)
+pub writing-turn : (ids t₀ t last : List ℕ) (s : ℕ) → Starting ids t₀ t s → base (length ids) ≤ length t₀ → s < length ids
+    → last ≡ withRecord s (freshRecord (getD ids s 0)) t → Starting ids t₀ last (s + 1)
 writing-turn ids t₀ t last s w h g e =
     let k : Has s t = omega (arith, w .same) in
     let o : 1 ≤ length t₀ = omega arith in
@@ -96,7 +96,7 @@ writing-turn ids t₀ t last s w h g e =
       is = e ∙ ap (withRecord s (freshRecord (getD ids s 0))) (w .is) ∙ reached-more ids t₀ s g o;
     }
 
-pub writing-end : (ids t₀ t : List ℕ) (s : ℕ) → Writing ids t₀ t s → length ids ≤ s → t ≡ take 1 t₀ ++ (freshRecords ids ++ drop (base (length ids)) t₀)
+pub writing-end : (ids t₀ t : List ℕ) (s : ℕ) → Starting ids t₀ t s → length ids ≤ s → t ≡ take 1 t₀ ++ (freshRecords ids ++ drop (base (length ids)) t₀)
 writing-end ids t₀ t s w g =
     let e : s ≡ length ids = omega (arith, w .few) in
     let h : length ids ≤ length ids = omega arith in

@@ -7,9 +7,9 @@ use lib.Ieee.{Float}
 use Rattle.words.specs.Outcome.{refused, accepted}
 use Rattle.words.specs.Refusals.{Refusals}
 use Rattle.words.proofs.RefusalLaws.{first-passed, either-passed, first-refused, first-fine}
-use Rattle.panel.proofs.Dial.{the-type}
-use Rattle.panel.specs.declared.Dial.{Dial}
-use Rattle.panel.specs.declared.Dial.the-variants as dial
+use Rattle.panel.proofs.FieldReading.{the-type}
+use Rattle.panel.specs.declared.FieldReading.{FieldReading}
+use Rattle.panel.specs.declared.FieldReading.the-variants as dial
 use Rattle.panel.specs.Readings.{readingOf, readingPaper}
 use Rattle.vrt49.specs.declared.readings.Values.{Values}
 use Rattle.vrt49.specs.Answers.{Gives, front}
@@ -27,14 +27,14 @@ panel-room answer hertz levels e =
 abbrev shows : List ℕ
 shows = 0 ∷ 1 ∷ 2 ∷ 3 ∷ 4 ∷ 5 ∷ []
 
-pub no-refusal : (d : Dial) → OneOf shows (tagOf the-type d) → (n : ℕ) → d ≡ dial.Refused n → ⊥
-no-refusal d h n e = miss shows 6 tt (subst (λ (x : Dial). OneOf shows (tagOf the-type x)) e h)
+pub no-refusal : (d : FieldReading) → OneOf shows (tagOf the-type d) → (n : ℕ) → d ≡ dial.Refused n → ⊥
+no-refusal d h n e = miss shows 6 tt (subst (λ (x : FieldReading). OneOf shows (tagOf the-type x)) e h)
 
 -- the numbers of an answer that is known
-pub numbers-told : (d e : Dial) (v : Values) → v ≡ numbersShown (readingPaper e) → d ≡ e → v ≡ numbersShown (readingPaper d)
-numbers-told d e v f g = f ∙ ap (λ (x : Dial). numbersShown (readingPaper x)) (sym g)
+pub numbers-told : (d e : FieldReading) (v : Values) → v ≡ numbersShown (readingPaper e) → d ≡ e → v ≡ numbersShown (readingPaper d)
+numbers-told d e v f g = f ∙ ap (λ (x : FieldReading). numbersShown (readingPaper x)) (sym g)
 
-pub numbers-frequency : (d : Dial) (hertz z : ℤ) (parts : ℕ) → hertz ≡ z → d ≡ dial.Frequency z parts
+pub numbers-frequency : (d : FieldReading) (hertz z : ℤ) (parts : ℕ) → hertz ≡ z → d ≡ dial.Frequency z parts
     → record { kind = 1; parts = parts; hertz = hertz; first = zero; second = zero } ≡ numbersShown (readingPaper d)
 numbers-frequency d hertz z parts f g = rw (f, g)
 
@@ -65,11 +65,11 @@ module _ (t : List ℕ) (stream bit : ℕ) (p : Panel) where
     reading-refused k e = rw (room-there, e) (record { number = refl; buffers = refl })
 
     -- and of an answer d that is no refusal
-    pub reading-numbers : (d : Dial) (v : Values) (after : Panel) → readingPaper d ≡ readingOf t stream bit → ((n : ℕ) → d ≡ dial.Refused n → ⊥)
+    pub reading-numbers : (d : FieldReading) (v : Values) (after : Panel) → readingPaper d ≡ readingOf t stream bit → ((n : ℕ) → d ≡ dial.Refused n → ⊥)
         → v ≡ numbersShown (readingPaper d) → after ≡ shown v p → Gives (readingGives t stream bit p) p 0 after
     reading-numbers d v after e kept f g = rw (room-there, ← e, g, f) (told d kept)
       where
-        told : (d : Dial) → ((n : ℕ) → d ≡ dial.Refused n → ⊥) → Gives (readingShown p (readingPaper d)) p 0 (shown (numbersShown (readingPaper d)) p)
+        told : (d : FieldReading) → ((n : ℕ) → d ≡ dial.Refused n → ⊥) → Gives (readingShown p (readingPaper d)) p 0 (shown (numbersShown (readingPaper d)) p)
         told (dial.Frequency h q) kept = record { number = refl; buffers = refl }
         told (dial.Level x) kept = record { number = refl; buffers = refl }
         told (dial.Gain s) kept = record { number = refl; buffers = refl }

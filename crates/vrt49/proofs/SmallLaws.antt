@@ -21,7 +21,7 @@ use Rattle.payload_format.specs.Format.{carriedBits}
 use Rattle.payload_format.specs.Count.{countBad, wordsFor, neededList, neededOf}
 use Rattle.payload_pack.specs.Pack.{packList, packOf}
 use Rattle.payload_format.proofs.FormatLaws.{field-most, carry-most, count-few}
-use Rattle.fields.specs.Sizes.{sizeOf}
+use Rattle.fields.specs.Sizes.{fieldSize}
 use Rattle.record.specs.Held.{slotAt}
 use Rattle.record.specs.Layout.{headWords, slotWords, slotIn, slotsOf, slotOf}
 use Rattle.table.specs.Layout.{streamsOf, recordAt}
@@ -31,7 +31,7 @@ use Rattle.table.proofs.StartLaws.{start-well-made}
 use Rattle.play.specs.declared.Heard.{Heard}
 use Rattle.play.specs.declared.Played.{Played}
 use Rattle.play.specs.declared.Played.the-variants.{Accepted}
-use Rattle.play.specs.Play.{heardOf, playOf, paper}
+use Rattle.play.specs.Play.{heardOf, playOf, playedPaper}
 use Rattle.play.proofs.StreamLaws.{sought-below}
 use Rattle.play.proofs.KeepLaws.{play-taken}
 use Rattle.page.specs.Layout.{bodiesIn, pageLength}
@@ -39,7 +39,7 @@ use Rattle.page.specs.Save.{lengthList, saveList, lengthOf, saveOf}
 use Rattle.page.specs.PutBack.{putBackList, putBackOf}
 use Rattle.page.proofs.Exact.{ok-contents, page-tested}
 use Rattle.panel.specs.Readings.{isHeld}
-use Rattle.panel.specs.HeldWords.{heldIn, heldWordsList, heldWordsOf}
+use Rattle.panel.specs.HeldWords.{heldWordsIn, heldWordsList, heldWordsOf}
 use Rattle.vrt49.specs.Answers.{Small}
 use Rattle.vrt49.specs.Packets.{partsOf, wordsList, writeWordsOf}
 use Rattle.vrt49.proofs.AnswerLaws.{small-given, small-beside}
@@ -87,9 +87,10 @@ heard-few t ws d e =
     let p = k .1 in
     rw (← p .says) (size-small ws (p .packet) (p .reads), omega (arith, sought-below _ _ t (p .stream) (p .seeks), well-few t (k .0)))
 
-pub heard-small : (t ws left : List ℕ) (r : Played) (h : Heard) → Meets paper (playOf t ws) t r left → r ≡ Accepted h → (h .size ≤ 65535) × (h .stream ≤ 31)
+pub heard-small : (t ws left : List ℕ) (r : Played) (h : Heard) → Meets playedPaper (playOf t ws) t r left → r ≡ Accepted h
+    → (h .size ≤ 65535) × (h .stream ≤ 31)
 heard-small t ws left r h m e =
-    let d = meets-accepted m (ap paper e) in
+    let d = meets-accepted m (ap playedPaper e) in
     subst SmallHeard (d .says) (heard-few t ws (d .done) (d .wants))
 
 -- ---- packed samples
@@ -166,12 +167,12 @@ part-most a n xs = simp (length-take) (omega arith)
 
 held-few : (bit : ℕ) (r : List ℕ) (held : Bool) → length (pick held (slotOf bit r) []) ≤ slotWords
 unfolding slotOf slotIn slotsOf
-held-few bit r true = le-trans (part-inside (slotAt bit) (sizeOf bit) (slotsOf r)) (part-most headWords slotWords r)
+held-few bit r true = le-trans (part-inside (slotAt bit) (fieldSize bit) (slotsOf r)) (part-most headWords slotWords r)
 held-few bit r false = omega arith
 
 -- a field lies inside the slots
 held-fits : (t : List ℕ) (stream bit : ℕ) (out : List ℕ) (d : Done ℕ (List ℕ)) → heldWordsOf t stream bit out ≡ accepted d → d .says < 2 ^ 32
-unfolding heldWordsOf heldIn
+unfolding heldWordsOf heldWordsIn
 held-fits t stream bit out d e =
     let r = recordAt stream t in
     rw (← accepted-same (first-passed (heldWordsList t stream bit out) _ d e .1)) (omega (arith, held-few bit r (isHeld bit r)))

@@ -22,8 +22,8 @@ abbrev pub packetValues : Packet → List ℕ
 packetValues p =
     p .parts .kind ∷ when (p .parts .classed) 1 ∷ when (p .parts .trailed) 1 ∷ when (p .parts .tsm) 1 ∷ p .parts .tsi ∷ p .parts .tsf ∷ p .parts .count
     ∷ p .size
-    ∷ p .parts .identifier ∷ p .parts .oui ∷ p .parts .information ∷ p .parts .packet ∷ p .parts .seconds
-    ∷ p .parts .fraction / 2 ^ 32 ∷ p .parts .fraction % 2 ^ 32 ∷ p .body ∷ p .length ∷ p .parts .trailer ∷ []
+    ∷ p .parts .identifier ∷ p .parts .oui ∷ p .parts .information ∷ p .parts .code ∷ p .parts .seconds
+    ∷ p .parts .fraction / 2 ^ 32 ∷ p .parts .fraction % 2 ^ 32 ∷ p .place ∷ p .length ∷ p .parts .trailer ∷ []
 
 -- enables, indicators, E, associated count
 abbrev pub trailerValues : Trailer → List ℕ
@@ -49,7 +49,7 @@ partsOf ws = record {
   identifier = getD ws 7 0;
   oui = getD ws 8 0;
   information = getD ws 9 0;
-  packet = getD ws 10 0;
+  code = getD ws 10 0;
   seconds = getD ws 11 0;
   fraction = highFirst (getD ws 12 0) (getD ws 13 0);
   trailer = getD ws 14 0;

@@ -7,7 +7,7 @@ ghost use Rattle.vrt49.specs.Packets.{packetValues, wordsChecks, writeWo
 
 // Stores what reading says of a packet.
 fn store_packet(answer: &mut [u32], p: packet::Packet)
-    requires { ⌜ (18 ≤ length (now answer)) × (p .size ≤ 65535) × (p .body + p .length ≤ p .size) ⌝ }
+    requires { ⌜ (18 ≤ length (now answer)) × (p .size ≤ 65535) × (p .place + p .length ≤ p .size) ⌝ }
     ensures { λ _. ⌜ now (answer .exit) ≡ front (packetValues p) (now (answer .entry)) ⌝ }
 {
     let parts = p.parts;
@@ -23,11 +23,11 @@ fn store_packet(answer: &mut [u32], p: packet::Packet)
         parts.identifier,
         parts.oui,
         parts.information,
-        parts.packet,
+        parts.code,
         parts.seconds,
         (parts.fraction / 0x1_0000_0000) as u32,
         (parts.fraction % 0x1_0000_0000) as u32,
-        p.body as u32,
+        p.place as u32,
         p.length as u32,
         parts.trailer,
     ];

@@ -45,23 +45,23 @@ fn check_room(answer: usize, hertz: usize, levels: usize) -> words::Check
 }
 
 // The numbers of a reading; those of a refusal are not looked at.
-fn numbers_of(dial: panel::Dial) -> Values
+fn numbers_of(dial: panel::FieldReading) -> Values
     ensures { λ r. ⌜ r ≡ numbersShown (readingPaper dial) ⌝ }
 {
     match dial {
-        panel::Dial::Frequency { hertz, parts } => Values {
+        panel::FieldReading::Frequency { hertz, parts } => Values {
             kind: 1,
             parts,
             hertz,
             first: 0.0,
             second: 0.0,
         },
-        panel::Dial::Level(x) => levelled(2, x, 0.0),
-        panel::Dial::Gain(g) => levelled(3, g.stage1, g.stage2),
-        panel::Dial::Temperature(x) => levelled(4, x, 0.0),
-        panel::Dial::Other => levelled(5, 0.0, 0.0),
-        panel::Dial::Absent => levelled(6, 0.0, 0.0),
-        panel::Dial::Refused(_) => levelled(0, 0.0, 0.0),
+        panel::FieldReading::Level(x) => levelled(2, x, 0.0),
+        panel::FieldReading::Gain(g) => levelled(3, g.stage1, g.stage2),
+        panel::FieldReading::Temperature(x) => levelled(4, x, 0.0),
+        panel::FieldReading::Other => levelled(5, 0.0, 0.0),
+        panel::FieldReading::Absent => levelled(6, 0.0, 0.0),
+        panel::FieldReading::Refused(_) => levelled(0, 0.0, 0.0),
     }
 }
 
@@ -102,7 +102,7 @@ pub extern "C" fn vrt49_reading(
         return n;
     }
     let dial = panel::reading(table, stream, bit);
-    if let panel::Dial::Refused(n) = dial {
+    if let panel::FieldReading::Refused(n) = dial {
         return n;
     }
     store_numbers(answer, hertz, levels, numbers_of(dial));

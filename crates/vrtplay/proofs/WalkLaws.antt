@@ -51,7 +51,7 @@ module _ (t ws left : List ℕ) (at : ℕ) (r : Happened) (w : wellMade t ≡ tr
   unfolding leftAt
   turn-kept = let k = play-keeps t (drop at ws) in (ap length (m .table) ∙ k .whole, ap wellMade (m .table) ∙ k .well w)
 
-  pub turn-on : r .on ≡ true → at < r .next
+  pub turn-on : r .continues ≡ true → at < r .next
   turn-on e = rw (m .next) (next-on t ws at w (sym (m .on) ∙ e))
 
 -- ---- a table that has started

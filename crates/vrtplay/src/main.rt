@@ -66,7 +66,7 @@ fn walk(table: &mut [u32], words: &[u32], from: usize) -> usize
         let answer = s.answer;
         show_played(at, answer);
         at = s.next;
-        if !s.on {
+        if !s.continues {
             return at;
         }
     }

@@ -35,5 +35,5 @@ pub flipped : (v : ℤ) → SFits w64 v → ltZ (toZ w64 (ofZ w64 v)) (pos 0) �
     → T (nonNeg (toZ w64 (2 ^ 64 - 1 - ofZ w64 v))) × (natAbs (toZ w64 (2 ^ 64 - 1 - ofZ w64 v)) < 2 ^ 63)
 flipped v h e = flip v h (below-zero v h e)
 
-pub kept : (v : ℤ) → SFits w64 v → ltZ (toZ w64 (ofZ w64 v)) (pos 0) ≡ false → T (nonNeg (toZ w64 (ofZ w64 v))) × (natAbs (toZ w64 (ofZ w64 v)) < 2 ^ 63)
-kept v h e = keep v h (not-below v h e)
+pub sign-kept : (v : ℤ) → SFits w64 v → ltZ (toZ w64 (ofZ w64 v)) (pos 0) ≡ false → T (nonNeg (toZ w64 (ofZ w64 v))) × (natAbs (toZ w64 (ofZ w64 v)) < 2 ^ 63)
+sign-kept v h e = keep v h (not-below v h e)

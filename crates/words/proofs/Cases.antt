@@ -84,11 +84,11 @@ neither true b e = absurd (true-is-false e)
 neither false b e = (refl, e)
 
 -- two tests agree
-pub same-tests : (a b : Bool) → pick a b (not b) ≡ true → a ≡ b
-same-tests true true e = refl
-same-tests true false e = sym e
-same-tests false true e = e
-same-tests false false e = refl
+pub agreed : (a b : Bool) → pick a b (not b) ≡ true → a ≡ b
+agreed true true e = refl
+agreed true false e = sym e
+agreed false true e = e
+agreed false false e = refl
 
 -- ---- a test that matters only where another holds
 pub pick-true : (t a : Bool) → (t ≡ true → a ≡ true) → pick t a true ≡ true

@@ -112,7 +112,7 @@ fn write_again(answer: Parsed, words: &[u32], out: &mut [u32], at: usize) {
             wordio::inner::text(b"\n");
         }
         Parsed::Accepted(p) => {
-            let body = p.body;
+            let body = p.place;
             let length = p.length;
             if words.len() < body {
                 return;

@@ -1,6 +1,6 @@
 // An accumulator of bits: fields taken from words, and words made of fields.
 ghost use Rattle.words.specs.Kit.{_≡_, _+_, _^_, _≤_, _<_, length};
-ghost use Rattle.bitstream.specs.Carried.{carried};
+ghost use Rattle.bitstream.specs.Carried.{streamBits};
 ghost use Rattle.bitstream.specs.Accumulator.{Takeable, Refilled, Took, TookItem, FieldTakeable, Pushable, Pushed, FieldPushable, Finished};
 use crate::inner::low;
 
@@ -22,7 +22,7 @@ pub struct Taken {
 // The bits of a word that carry fields.
 fn carried_at(c: usize, words: &[u32], at: usize) -> u64
     requires { ⌜ (0 < c) × (c ≤ 32) × (at < length (now words)) ⌝ }
-    ensures { λ r. ⌜ (r ≡ carried c (now (words .entry)) at) × (r < 2 ^ c) ⌝ }
+    ensures { λ r. ⌜ (r ≡ streamBits c (now (words .entry)) at) × (r < 2 ^ c) ⌝ }
 {
     words[at] as u64 >> (32 - c)
 }

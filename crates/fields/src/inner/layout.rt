@@ -3,7 +3,7 @@ ghost use Rattle.words.specs.Kit.{_≡_, true, _^_, _+_, _≤_, _<_, drop};
 ghost use Rattle.words.specs.Tests.{both};
 ghost use Rattle.words.specs.SetBits.{bitsOf};
 ghost use Rattle.words.specs.All.{tabled};
-ghost use Rattle.fields.specs.Sizes.{sizeOf, wordsOf};
+ghost use Rattle.fields.specs.Sizes.{fieldSize, wordsOf};
 ghost use Rattle.fields.specs.Rules.{ruleOf};
 ghost use Rattle.fields.specs.Layout.{spanOf, obeyed};
 
@@ -15,7 +15,7 @@ pub struct Walked {
 
 // The walk past the field of a bit, which stands at the place that is reached. A field that has no rule is of fixed size.
 fn walk_field(sizes: &[u8; 32], bit: u32, body: &[u32], walked: Walked) -> Walked
-    requires { ⌜ (tabled 32 sizeOf (now sizes) ≡ true) × (bit < 32) × (walked .end < 2 ^ 40) ⌝ }
+    requires { ⌜ (tabled 32 fieldSize (now sizes) ≡ true) × (bit < 32) × (walked .end < 2 ^ 40) ⌝ }
     ensures { λ r. ⌜ (r .end ≡ walked .end + wordsOf bit (drop (walked .end) (now (body .entry)))) × (r .end ≤ walked .end + 2 ^ 33) ⌝ }
     ensures { λ r. ⌜ r .kept ≡ both (walked .kept) (ruleOf bit (drop (walked .end) (now (body .entry)))) ⌝ }
 {

@@ -1,7 +1,7 @@
 // How many words the field of each indicator bit takes.
 ghost use Rattle.words.specs.Kit.{_≡_, true, [], _∷_, _^_, _≤_, _<_, drop};
 ghost use Rattle.words.specs.All.{tabled};
-ghost use Rattle.fields.specs.Sizes.{sizeOf, asciiWords, listWords, wordsOf};
+ghost use Rattle.fields.specs.Sizes.{fieldSize, asciiWords, listWords, wordsOf};
 
 // Document 01, "Words for each bit": the fields of fixed size by their bit, 0 where a bit has none.
 pub const SIZES: [u8; 32] = [
@@ -41,16 +41,16 @@ pub const SIZES: [u8; 32] = [
 
 // The words of a field of fixed size, by the table, which a loop builds once and lends.
 pub fn size_in(sizes: &[u8; 32], bit: u32) -> usize
-    requires { ⌜ (tabled 32 sizeOf (now sizes) ≡ true) × (bit < 32) ⌝ }
-    ensures { λ r. ⌜ (r ≡ sizeOf bit) × (r ≤ 13) ⌝ }
+    requires { ⌜ (tabled 32 fieldSize (now sizes) ≡ true) × (bit < 32) ⌝ }
+    ensures { λ r. ⌜ (r ≡ fieldSize bit) × (r ≤ 13) ⌝ }
 {
     sizes[bit as usize] as usize
 }
 
 // The words of a field of fixed size.
-pub fn size_of(bit: u32) -> usize
+pub fn field_size(bit: u32) -> usize
     requires { ⌜ bit < 32 ⌝ }
-    ensures { λ r. ⌜ (r ≡ sizeOf bit) × (r ≤ 13) ⌝ }
+    ensures { λ r. ⌜ (r ≡ fieldSize bit) × (r ≤ 13) ⌝ }
 {
     let sizes = SIZES;
     size_in(&sizes, bit)
@@ -73,7 +73,7 @@ fn list_words(a: u32, b: u32) -> u32
 
 // The words of the field of a bit that stands at a place of a body, with the table lent.
 pub fn words_in(sizes: &[u8; 32], bit: u32, body: &[u32], at: usize) -> usize
-    requires { ⌜ (tabled 32 sizeOf (now sizes) ≡ true) × (bit < 32) × (at < 2 ^ 40) ⌝ }
+    requires { ⌜ (tabled 32 fieldSize (now sizes) ≡ true) × (bit < 32) × (at < 2 ^ 40) ⌝ }
     ensures { λ r. ⌜ (r ≡ wordsOf bit (drop at (now (body .entry)))) × (r ≤ 2 ^ 33) ⌝ }
 {
     if 9 < bit {

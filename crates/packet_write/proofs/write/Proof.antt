@@ -12,7 +12,7 @@ use Rattle.packet_write.proofs.write.Tie as tie
 module _ (p : Parts) (c t m : ℕ) (e : c ≡ bit (p .classed)) (f : t ≡ bit (p .trailed)) (g : m ≡ bit (p .tsm)) where
   written : (body out left : List ℕ) (at : ℕ) (r : Length)
       → Meets measured
-      (writeOf (partsIn (p .kind ∷ c ∷ t ∷ m ∷ p .tsi ∷ p .tsf ∷ p .count ∷ p .identifier ∷ p .oui ∷ p .information ∷ p .packet ∷ p .seconds
+      (writeOf (partsIn (p .kind ∷ c ∷ t ∷ m ∷ p .tsi ∷ p .tsf ∷ p .count ∷ p .identifier ∷ p .oui ∷ p .information ∷ p .code ∷ p .seconds
       ∷ p .fraction / 2 ^ 32 ∷ p .fraction % 2 ^ 32 ∷ p .trailer ∷ [])) body out at) out r left
       → Meets measured (writeOf p body out at) out r left
   written body out left at r w = rw (parts-again p c t m e f g) at w

@@ -22,17 +22,17 @@ partsIn q = record {
   identifier = getD q 7 0;
   oui = getD q 8 0;
   information = getD q 9 0;
-  packet = getD q 10 0;
+  code = getD q 10 0;
   seconds = getD q 11 0;
   fraction = highFirst (getD q 12 0) (getD q 13 0);
   trailer = getD q 14 0;
 }
 
 -- q are fifteen words, and w is a header word of their parts: it says T as they do, and where it says C, their class fits
-pub record Headed (w : ℕ) (q : List ℕ) : Type 0 where
+pub record HeaderFor (w : ℕ) (q : List ℕ) : Type 0 where
   pub long : length q ≡ 15
   pub trailer : trailed w ≡ partsIn q .trailed
-  pub class : classFits (classed w) (partsIn q .oui) (partsIn q .information) (partsIn q .packet) ≡ true
+  pub class : classFits (classed w) (partsIn q .oui) (partsIn q .information) (partsIn q .code) ≡ true
 
 -- SHORT, SIZE and TIME, and then what the body of a type 4 packet is refused for
 abbrev pub contentList : Parts → List ℕ → Refusals

@@ -1,7 +1,7 @@
 -- `show` is safe: the body of an accepted packet lies inside the words that were read.
 use Rattle.words.proofs.Kit.{_≡_, sym, ap, _∙_, arith, now, needs}
 use Rattle.words.specs.Outcome.{accepted}
-use Rattle.packet.specs.Read.{paper, readOf}
+use Rattle.packet.specs.Read.{parsedPaper, readOf}
 use Rattle.packet.proofs.ReadLaws.{body-inside, read-inside}
 use Rattle.read_vectors.proofs.show.Statement.{statement}
 use Rattle.read_vectors.proofs.show.Tie as tie
@@ -11,7 +11,7 @@ show-packet-requires c κs =
     let start : tie.Start = search in
     let ws = now (start .args .words) in
     let p = c .before .answer .given .0 .0 in
-    let e : readOf ws ≡ accepted p = sym (c .before .before .before .read .ensures) ∙ ap paper (c .before .answer .given .1) in
+    let e : readOf ws ≡ accepted p = sym (c .before .before .before .read .ensures) ∙ ap parsedPaper (c .before .answer .given .1) in
     omega (arith, body-inside ws p e, read-inside ws p e)
 
 pub show-spec : {M : Type 1} → statement M

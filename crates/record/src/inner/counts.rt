@@ -1,7 +1,7 @@
 // The counts of a record, one for each of types 1, 3, 4 and 5.
 ghost use Rattle.words.specs.Kit.{_≡_, true, [], _∷_, _+_, _*_, _≤_, _<_, length};
 ghost use Rattle.words.specs.Tests.{among};
-ghost use Rattle.record.specs.Layout.{recordWords, orderOf, countAt, countOf, lastOf};
+ghost use Rattle.record.specs.Layout.{recordWords, orderOf, countAt, countWords, lastOf};
 ghost use Rattle.record.specs.Counts.{addedOf, countedOf, countRecord, addedTo};
 
 // The order of type 4 among the types that are counted: 1, 3, 4, 5.
@@ -54,7 +54,7 @@ fn count_words(ws: &mut [u32], count: u32) -> u32
 
 // Counts a packet of the type of this order in a record. Gives the missing that it adds.
 pub fn count(rec: &mut [u32], order: usize, count: u32) -> u32
-    requires { ⌜ (length (now rec) ≡ recordWords) × (order < 4) × (count < 16) × (lastOf (countOf order (now rec)) ≤ 16) ⌝ }
+    requires { ⌜ (length (now rec) ≡ recordWords) × (order < 4) × (count < 16) × (lastOf (countWords order (now rec)) ≤ 16) ⌝ }
     ensures { λ r. ⌜ (r ≡ addedTo order count (now (rec .entry))) × (now (rec .exit) ≡ countRecord order count (now (rec .entry))) ⌝ }
 {
     let at = count_at(order);

@@ -3,10 +3,10 @@ ghost use Rattle.words.specs.Kit.{_≡_, true, [], _∷_, _+_, _≤_, _<_, leng
 ghost use Rattle.words.specs.Tests.{both, among};
 ghost use Rattle.words.specs.Part.{part};
 ghost use Rattle.words.specs.All.{all, tabled};
-ghost use Rattle.fields.specs.Sizes.{sizeOf};
+ghost use Rattle.fields.specs.Sizes.{fieldSize};
 ghost use Rattle.fields.specs.Rules.{ruleOf};
 ghost use Rattle.record.specs.Held.{holds, slotAt};
-ghost use Rattle.record.specs.Layout.{headWords, recordWords, heldOf, countOf, lastOf};
+ghost use Rattle.record.specs.Layout.{headWords, recordWords, heldOf, countWords, lastOf};
 ghost use Rattle.record.specs.Good.{zeros, countGood, countGoodAt, heldGood, slotGood, recordGood};
 
 // Whether the two words from a place on are zero.
@@ -110,7 +110,7 @@ fn rule_good(bit: u32, slot: &[u32]) -> bool
 
 // Whether the slot of a bit of a held field is good: zero where the field is not held, and else by the field's rule. The tables are lent.
 fn slot_good(rec: &[u32], bit: u32, sizes: &[u8; 32], places: &[u8; 32]) -> bool
-    requires { ⌜ (length (now rec) ≡ recordWords) × (holds bit ≡ true) × (tabled 32 sizeOf (now sizes) ≡ true) × (tabled 32 slotAt (now places) ≡ true) ⌝ }
+    requires { ⌜ (length (now rec) ≡ recordWords) × (holds bit ≡ true) × (tabled 32 fieldSize (now sizes) ≡ true) × (tabled 32 slotAt (now places) ≡ true) ⌝ }
     ensures { λ r. ⌜ r ≡ slotGood (now (rec .entry)) bit ⌝ }
 {
     let at = crate::inner::HEAD_WORDS + crate::inner::held::slot_in(places, bit);
@@ -143,7 +143,7 @@ fn slots_good(rec: &[u32]) -> bool
 // Whether the words before the slots are good, of a record or of a body: the held indicator, and the counts.
 pub fn head_good(rec: &[u32]) -> bool
     requires { ⌜ headWords ≤ length (now rec) ⌝ }
-    ensures { λ r. ⌜ r ≡ both (heldGood (heldOf (now (rec .entry))) (lastOf (countOf 2 (now (rec .entry))))) (all 4 (countGoodAt (now (rec .entry)))) ⌝ }
+    ensures { λ r. ⌜ r ≡ both (heldGood (heldOf (now (rec .entry))) (lastOf (countWords 2 (now (rec .entry))))) (all 4 (countGoodAt (now (rec .entry)))) ⌝ }
 {
     let context = crate::inner::counts::count_at(crate::inner::counts::CONTEXT_ORDER);
     let last = rec[context + crate::inner::counts::LAST];

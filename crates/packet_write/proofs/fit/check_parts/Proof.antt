@@ -20,7 +20,7 @@ module _ (p : Parts) (h : p .kind ≤ 5) (codes flags two : Bool) (c : codes ≡
   unfolding partsChecks partsFit
   numbers-refused e = rw (le-ltb 5 (p .kind) h, ← c, ← f, ← both-assoc codes flags _, ← b, not-true two e)
 
-  module _ (e : not two ≡ false) (class : Bool) (k : class ≡ classFits (p .classed) (p .oui) (p .information) (p .packet)) where
+  module _ (e : not two ≡ false) (class : Bool) (k : class ≡ classFits (p .classed) (p .oui) (p .information) (p .code)) where
     class-refused : class ≡ false → refused VALUE ≡ partsChecks p
     unfolding partsChecks partsFit
     class-refused off = rw (le-ltb 5 (p .kind) h, ← c, ← f, ← k, ← both-assoc codes flags class, ← b, not-false two e, off)

@@ -1,7 +1,7 @@
 -- `page_words` meets its promise. After s streams the length is the offset of body s (`Summing`); its laws carry the turn.
 use Rattle.words.proofs.Kit.{_-_, refl, needs}
 use Rattle.words.specs.All.{all}
-use Rattle.fields.specs.Sizes.{sizeOf}
+use Rattle.fields.specs.Sizes.{fieldSize}
 use Rattle.page.proofs.SaveLaws.{Summing, held-inside, summing-start, summing-turn, summing-small, summing-end, summing-within}
 use Rattle.page.proofs.bodies.page_words.Statement.{statement}
 use Rattle.page.proofs.bodies.page_words.Tie as tie
@@ -13,7 +13,7 @@ abbrev μ-loop : tie.MeasureT-loop
 μ-loop table sizes n length₀ s₀ length s = n - s
 
 sizes-lent : tie.Need-body-words-requires Inv-loop μ-loop
-unfolding sizeOf all
+unfolding fieldSize all
 sizes-lent c κs = refl
 
 pub page-words-spec : {M : Type 1} → statement M

@@ -1,7 +1,7 @@
 -- `pairs_good` meets its promise. While the pairs passed are right, the next body begins where the lengths say (`Paired`); its laws carry the turn.
 use Rattle.words.proofs.Kit.{_-_, refl, needs}
 use Rattle.words.specs.All.{all}
-use Rattle.fields.specs.Sizes.{sizeOf}
+use Rattle.fields.specs.Sizes.{fieldSize}
 use Rattle.page.proofs.GoodLaws.{Paired, paired-start, paired-fails, paired-turn, paired-end}
 use Rattle.page.proofs.good.pairs_good.Statement.{statement}
 use Rattle.page.proofs.good.pairs_good.Tie as tie
@@ -13,7 +13,7 @@ abbrev μ-loop : tie.MeasureT-loop
 μ-loop page n sizes at₀ s₀ at s = n - s
 
 pair-good-requires : tie.Need-pair-good-requires Inv-loop μ-loop
-unfolding sizeOf all
+unfolding fieldSize all
 pair-good-requires c κs = (search needs, search needs, search needs, refl)
 
 pub pairs-good-spec : {M : Type 1} → statement M

@@ -1,7 +1,7 @@
 -- `write_streams` meets its promise. The pairs and the bodies written so far are laid one behind the other (`Saving`); its laws carry the turn.
 use Rattle.words.proofs.Kit.{_-_, arith, needs}
 use Rattle.words.specs.All.{all}
-use Rattle.fields.specs.Sizes.{sizeOf}
+use Rattle.fields.specs.Sizes.{fieldSize}
 use Rattle.record.proofs.SlotLaws.{places-tabled}
 use Rattle.table.proofs.WellLaws.{well-whole}
 use Rattle.page.proofs.SaveLaws.{Saving, saving-start, saving-turn, saving-length, saving-end}
@@ -16,7 +16,7 @@ abbrev μ-loop : tie.MeasureT-loop
 μ-loop page₀ table sizes places n at₀ s₀ page at s = n - s
 
 write-body-requires : tie.Need-write-body-requires Inv-loop μ-loop
-unfolding sizeOf all
+unfolding fieldSize all
 write-body-requires c κs = search (record-long, record-held, body-placed, places-tabled)
 
 write-pair-requires : tie.Need-write-pair-requires Inv-loop μ-loop

@@ -1,5 +1,5 @@
 -- `items_fit` meets its promise: all items fit where the bits that any of them has do (`fitting-joined`).
-use Rattle.payload_format.specs.Field.{joined}
+use Rattle.payload_format.specs.Field.{anyBits}
 use Rattle.payload_format.proofs.FieldLaws.{fitting-joined, leb-ltb}
 use Rattle.words.proofs.Kit.{length, sym, _∙_, _^_, needs}
 use Rattle.payload_pack.proofs.checks.items_fit.Statement.{statement}
@@ -10,7 +10,7 @@ returns c =
     let a = c .before .before .before .args in
     let l = a .items .now in
     rw (c .before .join-items .ensures)
-    (leb-ltb (joined (length l) l) (c .ones .result) (2 ^ a .w) (c .ones .ensures) ∙ sym (fitting-joined (a .w) (length l) l))
+    (leb-ltb (anyBits (length l) l) (c .ones .result) (2 ^ a .w) (c .ones .ensures) ∙ sym (fitting-joined (a .w) (length l) l))
 
 pub items-fit-spec : {M : Type 1} → statement M
 items-fit-spec =

@@ -1,12 +1,12 @@
 -- `join_channels` meets its promise. The invariant: the bits that any of the first k has; `joined-more` carries the turn.
-use Rattle.payload_format.specs.Field.{joined}
+use Rattle.payload_format.specs.Field.{anyBits}
 use Rattle.payload_format.proofs.FieldLaws.{joined-none, joined-more}
 use Rattle.words.proofs.Kit.{length, _≡_, _-_, _≤_, arith, needs}
 use Rattle.payload_pack.proofs.checks.join_channels.Statement.{statement}
 use Rattle.payload_pack.proofs.checks.join_channels.Tie as tie
 
 abbrev Inv-loop : tie.InvT-loop
-Inv-loop channels all₀ k₀ all k = (k ≤ length channels) × (all ≡ joined k channels)
+Inv-loop channels all₀ k₀ all k = (k ≤ length channels) × (all ≡ anyBits k channels)
 
 abbrev μ-loop : tie.MeasureT-loop
 μ-loop channels all₀ k₀ all k = length channels - k

@@ -1,12 +1,12 @@
 -- `join_events` meets its promise. The invariant: the bits that any of the first k has; `joined-more` carries the turn.
-use Rattle.payload_format.specs.Field.{joined}
+use Rattle.payload_format.specs.Field.{anyBits}
 use Rattle.payload_format.proofs.FieldLaws.{joined-none, joined-more}
 use Rattle.words.proofs.Kit.{length, _≡_, _-_, _≤_, arith, needs}
 use Rattle.payload_pack.proofs.checks.join_events.Statement.{statement}
 use Rattle.payload_pack.proofs.checks.join_events.Tie as tie
 
 abbrev Inv-loop : tie.InvT-loop
-Inv-loop events all₀ k₀ all k = (k ≤ length events) × (all ≡ joined k events)
+Inv-loop events all₀ k₀ all k = (k ≤ length events) × (all ≡ anyBits k events)
 
 abbrev μ-loop : tie.MeasureT-loop
 μ-loop events all₀ k₀ all k = length events - k

@@ -1,12 +1,12 @@
 -- `join_items` meets its promise. The invariant: the bits that any of the first k has; `joined-more` carries the turn.
-use Rattle.payload_format.specs.Field.{joined}
+use Rattle.payload_format.specs.Field.{anyBits}
 use Rattle.payload_format.proofs.FieldLaws.{joined-none, joined-more}
 use Rattle.words.proofs.Kit.{length, _≡_, _-_, _≤_, arith, needs}
 use Rattle.payload_pack.proofs.checks.join_items.Statement.{statement}
 use Rattle.payload_pack.proofs.checks.join_items.Tie as tie
 
 abbrev Inv-loop : tie.InvT-loop
-Inv-loop items all₀ k₀ all k = (k ≤ length items) × (all ≡ joined k items)
+Inv-loop items all₀ k₀ all k = (k ≤ length items) × (all ≡ anyBits k items)
 
 abbrev μ-loop : tie.MeasureT-loop
 μ-loop items all₀ k₀ all k = length items - k

@@ -1,13 +1,13 @@
 -- `unpack_items` meets its promise. The invariant: k items are taken (`ReadingItems`), and stand in the first k places.
 use Rattle.words.proofs.Kit.{_-_, _/_, _^_, needs}
-use Rattle.bitstream.specs.Carried.{fieldOf}
+use Rattle.bitstream.specs.Carried.{packingField}
 use Rattle.bitstream.proofs.FilledLaws.{Fills, fills-none, fills-turn, fills-all}
 use Rattle.payload_unpack.proofs.ReadingLaws.{ReadingItems, items-start, item-some, items-can, items-value, items-next}
 use Rattle.payload_unpack.proofs.plain.unpack_items.Statement.{statement}
 use Rattle.payload_unpack.proofs.plain.unpack_items.Tie as tie
 
 abbrev Inv-loop : tie.InvT-loop
-Inv-loop n words items₀ c f up s₀ k₀ items s k = Fills 0 n k (λ j. fieldOf c f words j / 2 ^ up) items₀ items × ReadingItems c f up words s k
+Inv-loop n words items₀ c f up s₀ k₀ items s k = Fills 0 n k (λ j. packingField c f words j / 2 ^ up) items₀ items × ReadingItems c f up words s k
 
 abbrev μ-loop : tie.MeasureT-loop
 μ-loop n words items₀ c f up s₀ k₀ items s k = n - k

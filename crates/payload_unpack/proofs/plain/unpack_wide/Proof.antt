@@ -3,14 +3,14 @@
 use Rattle.words.proofs.Kit.{_-_, _*_, _/_, _^_, needs}
 use native.Mathlib.Nat.{le-refl}
 use Rattle.bitstream.specs.Stream.{span}
-use Rattle.bitstream.specs.Carried.{carried}
+use Rattle.bitstream.specs.Carried.{streamBits}
 use Rattle.bitstream.proofs.FilledLaws.{Fills, fills-none, fills-turn}
 use Rattle.payload_unpack.proofs.WindowLaws.{wide-small, words-behind, word-beside, shifted, items-wide}
 use Rattle.payload_unpack.proofs.plain.unpack_wide.Statement.{statement}
 use Rattle.payload_unpack.proofs.plain.unpack_wide.Tie as tie
 
 abbrev Inv-loop : tie.InvT-loop
-Inv-loop n words items₀ f down last k₀ items k = Fills 0 last k (λ j. span 32 (carried 32 words) (j * f) 64 / 2 ^ down) items₀ items
+Inv-loop n words items₀ f down last k₀ items k = Fills 0 last k (λ j. span 32 (streamBits 32 words) (j * f) 64 / 2 ^ down) items₀ items
 
 abbrev μ-loop : tie.MeasureT-loop
 μ-loop n words items₀ f down last k₀ items k = last - k

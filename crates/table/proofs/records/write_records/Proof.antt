@@ -1,11 +1,11 @@
--- `write_records` meets its promise. The invariant `Writing` says that the records passed are fresh and the rest is as it was.
+-- `write_records` meets its promise. The invariant `Starting` says that the records passed are fresh and the rest is as it was.
 use Rattle.words.proofs.Kit.{_-_, length, needs}
-use Rattle.table.proofs.StartLaws.{Writing, writing-start, writing-turn, writing-end}
+use Rattle.table.proofs.StartLaws.{Starting, writing-start, writing-turn, writing-end}
 use Rattle.table.proofs.records.write_records.Statement.{statement}
 use Rattle.table.proofs.records.write_records.Tie as tie
 
 abbrev Inv-loop : tie.InvT-loop
-Inv-loop table₀ ids s₀ table s = Writing ids table₀ table s
+Inv-loop table₀ ids s₀ table s = Starting ids table₀ table s
 
 abbrev μ-loop : tie.MeasureT-loop
 μ-loop table₀ ids s₀ table s = length ids - s

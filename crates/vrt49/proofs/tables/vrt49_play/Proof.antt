@@ -1,6 +1,6 @@
 -- `vrt49_play` meets its promise: ROOM, else what play answers and leaves.
 use Rattle.words.proofs.Kit.{ap, needs}
-use Rattle.play.specs.Play.{paper}
+use Rattle.play.specs.Play.{playedPaper}
 use Rattle.vrt49.specs.Tables.{playGives}
 use Rattle.vrt49.proofs.AnswerLaws.{beside-room, beside-refused, beside-values}
 use Rattle.vrt49.proofs.SmallLaws.{heard-small}
@@ -21,14 +21,14 @@ returns-2 : tie.Need-returns-2
 unfolding playGives
 returns-2 c =
     let k : tie.After-play = search in
-    beside-refused _ _ _ _ _ _ _ _ (k .before .before .if1 .left) (k .play .ensures) _ (ap paper (c .before .n .given .1))
+    beside-refused _ _ _ _ _ _ _ _ (k .before .before .if1 .left) (k .play .ensures) _ (ap playedPaper (c .before .n .given .1))
 
 returns-3 : tie.Need-returns-3
 unfolding playGives
 returns-3 c =
     let at-h : tie.After-h = search in
     let k : tie.After-play = search in
-    beside-values _ _ _ _ _ _ _ _ (k .before .before .if1 .left) (k .play .ensures) _ _ (ap paper (at-h .h .given .1))
+    beside-values _ _ _ _ _ _ _ _ (k .before .before .if1 .left) (k .play .ensures) _ _ (ap playedPaper (at-h .h .given .1))
     (c .before .before .store-heard .ensures)
 
 pub vrt49-play-spec : {M : Type 1} → statement M

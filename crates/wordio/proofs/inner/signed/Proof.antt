@@ -1,6 +1,6 @@
--- `signed` is safe: no cast of a magnitude loses a bit (`flipped`, `kept`).
+-- `signed` is safe: no cast of a magnitude loses a bit (`flipped`, `sign-kept`).
 use native.Mathlib.Omega.{arith}
-use Rattle.wordio.proofs.MagnitudeLaws.{flipped, kept}
+use Rattle.wordio.proofs.MagnitudeLaws.{flipped, sign-kept}
 use borrow.Author.Needs.{needs}
 use Rattle.wordio.proofs.inner.signed.Statement.{statement}
 use Rattle.wordio.proofs.inner.signed.Tie as tie
@@ -14,7 +14,7 @@ add-number c = let m = flipped (c .before .before .before .args .v) (c .before .
     record { fits = omega (arith, m .1) }
 
 cast-number-2 : tie.Need-cast-number-2
-cast-number-2 c = let m = kept (c .before .args .v) (c .before .fits .v) (c .if1 .left) in (m .0, record { fits = omega (arith, m .1) })
+cast-number-2 c = let m = sign-kept (c .before .args .v) (c .before .fits .v) (c .if1 .left) in (m .0, record { fits = omega (arith, m .1) })
 
 pub signed-spec : {M : Type 1} → statement M
 signed-spec =

@@ -2,7 +2,7 @@
 -- the span and the rules; its laws carry the turn.
 use Rattle.words.proofs.Kit.{refl, arith, needs}
 use Rattle.words.specs.All.{all}
-use Rattle.fields.specs.Sizes.{sizeOf}
+use Rattle.fields.specs.Sizes.{fieldSize}
 use Rattle.fields.proofs.WalkLaws.{Walking, walking-start, walking-turn, walking-end, walking-near}
 use Rattle.fields.proofs.inner.layout.walk.Statement.{statement}
 use Rattle.fields.proofs.inner.layout.walk.Tie as tie
@@ -14,7 +14,7 @@ abbrev μ-loop : tie.MeasureT-loop
 μ-loop bits body sizes rest₀ walked₀ rest walked = rest
 
 walk-field-requires : tie.Need-walk-field-requires Inv-loop μ-loop
-unfolding all sizeOf
+unfolding all fieldSize
 walk-field-requires c κs = (refl, search needs, search walking-near)
 
 pub walk-spec : {M : Type 1} → statement M

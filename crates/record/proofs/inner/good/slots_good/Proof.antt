@@ -1,7 +1,7 @@
 -- `slots_good` meets its promise: the slots of the bits passed are good, and those of bits below 10 are not looked at.
 use Rattle.words.proofs.Kit.{refl, _≤_, _-_, needs}
 use Rattle.words.specs.All.{all}
-use Rattle.fields.specs.Sizes.{sizeOf}
+use Rattle.fields.specs.Sizes.{fieldSize}
 use Rattle.record.specs.Good.{slotGood}
 use Rattle.record.proofs.SlotLaws.{held-all, places-tabled}
 use Rattle.record.proofs.GoodLaws.{Passing, passing-fails, passing-turn, passing-end, slots-start}
@@ -15,7 +15,7 @@ abbrev μ-loop : tie.MeasureT-loop
 μ-loop rec sizes places bit₀ bit = 31 - bit
 
 slot-good-requires : tie.Need-slot-good-requires Inv-loop μ-loop
-unfolding sizeOf all
+unfolding fieldSize all
 slot-good-requires c κs = (search, search held-all, refl, places-tabled)
 
 pub slots-good-spec : {M : Type 1} → statement M

@@ -2,7 +2,7 @@
 use Rattle.words.proofs.Kit.{refl, arith, needs}
 use native.Mathlib.Nat.{pos-of-ne-zero}
 use Rattle.words.specs.All.{all}
-use Rattle.fields.specs.Sizes.{sizeOf}
+use Rattle.fields.specs.Sizes.{fieldSize}
 use Rattle.record.proofs.SlotLaws.{places-tabled}
 use Rattle.record.proofs.HoldLaws.{Holding, holding-start, copy-slot, copy-source, copy-few, holding-turn, holding-end}
 use Rattle.record.proofs.inner.held.refill.Statement.{statement}
@@ -18,7 +18,7 @@ loop-holds : tie.Need-loop-holds Inv-loop μ-loop
 loop-holds c = let start : tie.Start Inv-loop μ-loop = search in search (holding-start, start .pre .2)
 
 size-in-requires : tie.Need-size-in-requires Inv-loop μ-loop
-unfolding sizeOf all
+unfolding fieldSize all
 size-in-requires c κs = (refl, search needs)
 
 add-from : tie.Need-add-from Inv-loop μ-loop
