@@ -177,5 +177,5 @@ module _ (t ws : List ℕ) (made : Check) (e : checked made ≡ madeOf t) where
   play-made x r left f y i = record { answer = i ∙ said-by (made-well t (cc)) y; buffer = y .table }
 
 pub entered-stepped : (t ws left : List ℕ) (at : ℕ) (x : Entry) (answer : Played) → wellMade t ≡ true → Entered t ws at x left → playedPaper answer ≡ saidBy x
-    → Stepped t ws at (record { answer = answer; on = not (eqb (x .size) 0); next = at + x .size }) left
+    → Stepped t ws at (record { answer = answer; continues = not (eqb (x .size) 0); next = at + x .size }) left
 entered-stepped t ws left at x answer w y i = record { answer = i ∙ said-by w y; on = size-on w y; next = size-next w y; table = y .table }
