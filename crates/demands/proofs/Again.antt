@@ -20,7 +20,7 @@ use Rattle.packet.specs.declared.Packet.{Packet}
 use Rattle.packet.specs.Header.{typeOf, classed, trailed, tsmOf, reservedOf, tsiOf, tsfOf, countOf, sizeOf}
 use Rattle.packet.specs.Parts.{streamed, hasSeconds, hasFraction, classAt, secondsAt, fractionAt, bodyAt, requiredOf, bodyLength, wordIf, classHigh, classLow}
 use Rattle.packet.specs.Parts.{fractionOf, partsOf, bodyOf, packetOf}
-use Rattle.packet.specs.Read.{headerList, prologueList, headerChecks, timeOver, prologueChecks, bodyChecks, readOf}
+use Rattle.packet.specs.Read.{headerList, prologueList, headerChecks, timeOver, classBad, prologueChecks, bodyChecks, readOf}
 use Rattle.packet_write.specs.Write.{bit, headerWidths, headerWord, sizeFor, given, classWord, leadingWords, classWords, timeWords, prologueWords, trailerWords}
 use Rattle.packet_write.specs.Write.{packetWords, codesFit, flagsFit, classFits, partsFit}
 use Rattle.packet_write.specs.Write.{writeList, partsChecks, measureChecks, roomChecks, writeChecks, writeOf}
@@ -132,8 +132,8 @@ module _ (ws : List ℕ) (small : (i : ℕ) → getD ws i 0 < 2 ^ 32) (p : Packe
   abbrev P : Parts
   P = partsOf w ws
 
-  passes : Passed w ws
-  passes = read-accepts ws p e .passes
+  passes : Passed false w ws
+  passes = read-accepts false ws p e .passes
 
   inside : sizeOf w ≤ length ws
   inside = sized w (length ws) (passes .size) .1
@@ -145,13 +145,13 @@ module _ (ws : List ℕ) (small : (i : ℕ) → getD ws i 0 < 2 ^ 32) (p : Packe
   fills = room w (sizeOf w) (sized w (length ws) (passes .size) .0) (le-refl (sizeOf w))
 
   class-clear : bits 31 24 (classHigh w ws) ≡ 0
-  unfolding prologueChecks
-  class-clear = eqb-true _ 0 (not-false _ (first-passed (prologueList w ws) _ tt (passes .prologue) .0 .0))
+  unfolding prologueChecks classBad
+  class-clear = eqb-true _ 0 (not-false _ (first-passed (prologueList false w ws) _ tt (passes .prologue) .0 .0))
 
   head-again : leadingWords w P ≡ take (classAt w) ws
   unfolding leadingWords partsOf classAt
   head-again =
-      ap (λ (l : List ℕ). l ++ given (streamed w) (wordIf (streamed w) 1 ws ∷ [])) (first-word ws (read-accepts ws p e .some))
+      ap (λ (l : List ℕ). l ++ given (streamed w) (wordIf (streamed w) 1 ws ∷ [])) (first-word ws (read-accepts false ws p e .some))
       ∙ one-more ws 1 (streamed w) (lies .identifier)
 
   class-words-again : take (classAt w) ws ++ classWords w P ≡ take (secondsAt w) ws
@@ -210,14 +210,14 @@ module _ (ws : List ℕ) (small : (i : ℕ) → getD ws i 0 < 2 ^ 32) (p : Packe
   pub packet-again : packetWords (p .parts) (part (p .place) (p .length) ws) ≡ take (p .size) ws
   unfolding packetWords packetOf bodyOf
   packet-again =
-      rw (← read-accepts ws p e .says)
+      rw (← read-accepts false ws p e .says)
       (ap (λ (h : ℕ). prologueWords h P ++ bodyOf w ws ++ trailerWords h P) (ap (headerWord P) size-again ∙ header-is)
       ∙ ap (λ (l : List ℕ). l ++ bodyOf w ws ++ trailerWords w P) prologue-again
       ∙ rest-again)
 
   time-passed : timeOver (tsfOf w) (fractionOf w ws) ≡ false
   unfolding prologueChecks
-  time-passed = first-passed (prologueList w ws) _ tt (passes .prologue) .0 .1 .0
+  time-passed = first-passed (prologueList false w ws) _ tt (passes .prologue) .0 .1 .0
 
   required-again : requiredOf (headerWord P 0) ≡ requiredOf w
   required-again = sym (required-is P (sizeOf w) kind-small (parts-fit P (parts-read w ws)) size-small) ∙ ap requiredOf header-is
@@ -248,6 +248,6 @@ module _ (ws : List ℕ) (small : (i : ℕ) → getD ws i 0 < 2 ^ 32) (p : Packe
       ≡ accepted (record { says = p .size; leaves = take at out ++ take (p .size) ws ++ drop (at + p .size) out })
   unfolding writeOf writeChecks packetOf bodyOf
   written-again out at h =
-      let says = read-accepts ws p e .says in
+      let says = read-accepts false ws p e .says in
       let words = rw (← says) at packet-again in
       rw (← says) (first-fine (writeList P (bodyOf w ws) (length out) at) tt tt _ (may-again (length out) at (rw (← says) at h)) ∙ rw (size-again, words))

@@ -16,7 +16,7 @@ use Rattle.packet.specs.declared.Parts.{Parts}
 use Rattle.packet.specs.Header.{classed, trailed, sizeOf}
 use Rattle.packet.specs.Parts.{streamed, hasSeconds, hasFraction, classAt, secondsAt, fractionAt, bodyAt, requiredOf, bodyLength, wordIf, classHigh, classLow}
 use Rattle.packet.specs.Parts.{fractionOf, partsOf, bodyOf, packetOf}
-use Rattle.packet.specs.Read.{headerChecks, sizeChecks, timeOver, prologueChecks, readOf}
+use Rattle.packet.specs.Read.{headerChecks, sizeChecks, timeOver, classBad, prologueChecks, readOf}
 use Rattle.packet_write.specs.Write.{headerWord, sizeFor, given, classWord, leadingWords}
 use Rattle.packet_write.specs.Write.{classWords, timeWords, prologueWords, trailerWords, packetWords, plainParts}
 use Rattle.packet_write.specs.Write.{classFits, writeList, writeChecks, writeOf}
@@ -185,8 +185,8 @@ module _ (p : Parts) (body more : List ℕ) (room at : ℕ) (may : Writable p bo
       let long : size ≤ length Ws = omega (arith, length-append (packetWords p body) more, packet-length p body room at may) in
       rw (size-of, le-ltb size (requiredOf W) whole, le-ltb (length Ws) size long)
 
-  prologue-passes : prologueChecks W Ws ≡ accepted tt
-  unfolding prologueChecks
+  prologue-passes : prologueChecks false W Ws ≡ accepted tt
+  unfolding prologueChecks classBad
   prologue-passes =
       let c = class-back (classed W) (p .oui) (p .information) (p .code) class-fits in
       rw (class-words-back .0, c .0, fraction-is, tsf-is p size (may .kind) fits (may .small), time-back (hasFraction W) (p .tsf) (p .fraction) (may .time))
@@ -195,7 +195,7 @@ module _ (p : Parts) (body more : List ℕ) (room at : ℕ) (may : Writable p bo
   unfolding bodyOf
   body-is = rw length-back body-back
 
-  pub checks-back : Passed W Ws
+  pub checks-back : Passed false W Ws
   checks-back = record {
     header = header-passes;
     size = size-passes;
@@ -208,7 +208,7 @@ module _ (p : Parts) (body more : List ℕ) (room at : ℕ) (may : Writable p bo
   unfolding packetOf
   read-back =
       let some : 0 < length Ws = omega (arith, length-append (packetWords p body) more, packet-length p body room at may, size-parts, body-past W) in
-      accepts-read Ws _ some (rw first-is checks-back) (rw (first-is, parts-back, size-of, length-back))
+      accepts-read false Ws _ some (rw first-is checks-back) (rw (first-is, parts-back, size-of, length-back))
 
 -- ---- what writing leaves, read from its place on
 pub written-back : (p : Parts) (body out : List ℕ) (at : ℕ) (d : Done ℕ (List ℕ)) → writeOf p body out at ≡ accepted d

@@ -50,7 +50,7 @@ types (suc (suc (suc (suc (suc (suc k)))))) h e = absurd (omega arith)
 read-type : (ws : List ℕ) (p : Packet) → readOf ws ≡ accepted p → p .parts .kind ≤ 5
 unfolding headerChecks packetOf partsOf
 read-type ws p e =
-    let k = read-accepts ws p e in
+    let k = read-accepts false ws p e in
     rw (← k .says) (ltb-false 5 (typeOf (getD ws 0 0)) (first-passed (headerList (getD ws 0 0)) _ tt (k .passes .header) .0 .0))
 
 pub heard-fine : (ids ws : List ℕ) (a : Arrival) → heardBy ids ws ≡ accepted a → Heeded ids a
@@ -63,9 +63,9 @@ heard-fine ids ws a e =
     rw (← accepted-same (x .1))
     (record {
       stream = leb-false (length ids) (placeIn ids (p .parts .identifier)) (y .1);
-      count = count-small ws p (k .1);
+      count = count-small false ws p (k .1);
       kind = types (p .parts .kind) (read-type ws p (k .1)) (y .0);
-      body = body-context ws p (k .1);
+      body = body-context false ws p (k .1);
     })
 
 -- ---- a table of a list

@@ -1,7 +1,7 @@
 -- Each call gives the first refusal of its list that applies, by its definition; and the numbers of the list are the document's, since they are numbers.
 use mathlib.Core.Path.{refl}
 use Rattle.fields.specs.Layout.{contextOf}
-use Rattle.packet.specs.Read.{readOf}
+use Rattle.packet.specs.Read.{readBy}
 use Rattle.packet_trailer.specs.Trailer.{trailerWordOf}
 use Rattle.packet_write.specs.Write.{writeOf}
 use Rattle.payload_format.specs.Count.{neededOf}
@@ -18,7 +18,7 @@ use Rattle.panel.specs.Readings.{readingOf}
 use Rattle.demands.specs.Refusals.{InOrder}
 
 pub in-order : InOrder
-unfolding readOf writeOf startOf playOf saveOf putBackOf readingOf packOf unpackOf signedOf contextOf neededOf trailerWordOf runOf lengthOf heldWordsOf
+unfolding readBy writeOf startOf playOf saveOf putBackOf readingOf packOf unpackOf signedOf contextOf neededOf trailerWordOf runOf lengthOf heldWordsOf
 in-order = record {
   read = λ ws. record { order = refl; first = refl };
   write = λ p body out at. record { order = refl; first = refl };

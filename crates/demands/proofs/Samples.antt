@@ -11,7 +11,7 @@ use Rattle.fields.specs.Layout.{spanOf, obeyed, bodyWords, lowBitsSet, otherLen
 use Rattle.packet.specs.Header.{trailed, tsmOf, reservedOf}
 use Rattle.packet.specs.Parts.{streamed, hasSeconds, hasFraction, classAt, secondsAt, fractionAt, bodyAt, requiredOf, bodyLength, wordIf, classHigh, classLow}
 use Rattle.packet.specs.Parts.{fractionOf, partsOf, bodyOf, packetOf}
-use Rattle.packet.specs.Read.{timeOver, readOf}
+use Rattle.packet.specs.Read.{timeOver, classBad, readBy}
 use Rattle.bitstream.specs.Stream.{bit, span}
 use Rattle.bitstream.specs.Carried.{streamBits, packingField, wordOf, needed}
 use Rattle.bitstream.specs.Filled.{filled}
@@ -28,10 +28,10 @@ use Rattle.demands.specs.Samples.{Hold, bench}
 use Rattle.demands.proofs.Listing.{_and_}
 
 pub samples : Hold bench
-unfolding bench part bitsOf above all fieldSize asciiWords listWords wordsOf codeKnown codeFits formatOk notNegative upperHalfZero deviceRule stateRule
+unfolding bench classBad part bitsOf above all fieldSize asciiWords listWords wordsOf codeKnown codeFits formatOk notNegative upperHalfZero deviceRule stateRule
     formatRule
     asciiRule listsRule ruleOf spanOf obeyed bodyWords lowBitsSet otherLength ruleBroken trailed tsmOf reservedOf streamed hasSeconds hasFraction classAt
-    secondsAt fractionAt bodyAt requiredOf bodyLength wordIf classHigh classLow fractionOf partsOf bodyOf packetOf timeOver readOf bit span streamBits
+    secondsAt fractionAt bodyAt requiredOf bodyLength wordIf classHigh classLow fractionOf partsOf bodyOf packetOf timeOver readBy bit span streamBits
     packingField
     wordOf needed filled wideProcessing formatBad carriedBits packingOf unitOf countBad wordsFor fitting packOf unpackOf twosComplement signedOf missedOf
     unitsOf lowerHalf share over isFrequency shownOf trailingZeros

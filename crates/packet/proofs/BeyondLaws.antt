@@ -12,7 +12,7 @@ use Rattle.words.proofs.PartLaws.{part-take}
 use Rattle.packet.specs.Header.{classed, trailed, sizeOf}
 use Rattle.packet.specs.Parts.{streamed, hasSeconds, hasFraction, classAt, secondsAt, fractionAt, wordIf, requiredOf, classHigh, classLow}
 use Rattle.packet.specs.Parts.{fractionOf, partsOf, bodyOf, packetOf}
-use Rattle.packet.specs.Read.{headerList, readOf}
+use Rattle.packet.specs.Read.{headerList, readBy}
 use Rattle.packet.proofs.RoomLaws.{Room, room}
 
 -- ---- words that agree on the first n
@@ -59,11 +59,11 @@ module _ (w : ℕ) (ws vs : List ℕ) (e : take (sizeOf w) ws ≡ take (sizeOf w
       let t = word-agree (sizeOf w) ws vs e (trailed w) (sizeOf w - 1) (r .trailer) in
       rw (c .0, c .1, f .0, f .1, i, s, t)
 
-pub read-beyond : (ws vs : List ℕ) → 0 < length ws → 0 < length vs → getD ws 0 0 ≡ getD vs 0 0
+pub read-beyond : (free : Bool) (ws vs : List ℕ) → 0 < length ws → 0 < length vs → getD ws 0 0 ≡ getD vs 0 0
     → sizeOf (getD ws 0 0) ≤ length ws → sizeOf (getD ws 0 0) ≤ length vs → take (sizeOf (getD ws 0 0)) ws ≡ take (sizeOf (getD ws 0 0)) vs
-    → readOf ws ≡ readOf vs
-unfolding readOf
-read-beyond ws vs a b w h g e =
+    → readBy free ws ≡ readBy free vs
+unfolding readBy
+read-beyond free ws vs a b w h g e =
     let c = getD ws 0 0 in
     rw (ne-eqb (length ws) 0 (omega arith), ne-eqb (length vs) 0 (omega arith), ← w, le-ltb (length ws) (sizeOf c) h, le-ltb (length vs) (sizeOf c) g)
     (first-same (headerList c) _ _ (λ _.

@@ -1,7 +1,7 @@
 -- What an accepted packet is: it passed every test of its list (`first-passed`), and so its parts lie inside the words, its body is as document 01 says, and
 -- nothing past its size is looked at. Callers of `read` use these laws and not the definitions' text.
 use Rattle.words.proofs.Kit.{_≡_, refl, ap, subst, _∙_, List, ℕ, zero, suc, _+_, _^_, _≤_, _<_, arith, needs, eq-eqb, ne-eqb, ltb-false, eqb, length}
-use Rattle.words.proofs.Kit.{getD, false}
+use Rattle.words.proofs.Kit.{getD, Bool, false}
 use native.Mathlib.Nat.{le-refl, mod-lt}
 use borrow.Author.Tests.{eqb-false}
 use Rattle.words.specs.Numbers.{STREAM}
@@ -13,7 +13,7 @@ use Rattle.fields.specs.Layout.{contextOf}
 use Rattle.packet.specs.declared.Packet.{Packet}
 use Rattle.packet.specs.Header.{typeOf, sizeOf}
 use Rattle.packet.specs.Parts.{requiredOf, partsOf, bodyOf, packetOf}
-use Rattle.packet.specs.Read.{headerList, sizeList, prologueList, bodyList, readList, headerChecks, sizeChecks, prologueChecks, bodyChecks, readOf}
+use Rattle.packet.specs.Read.{headerList, sizeList, prologueList, bodyList, listBy, headerChecks, sizeChecks, prologueChecks, bodyChecks, readBy}
 use Rattle.packet.proofs.RoomLaws.{Room, room}
 
 pub sized : (w n : ℕ) → sizeChecks w n ≡ accepted tt → (requiredOf w ≤ sizeOf w) × (sizeOf w ≤ n)
@@ -21,25 +21,25 @@ unfolding sizeChecks
 sized w n e = let s = first-passed (sizeList w n) _ tt e .0 in (ltb-false _ _ (s .0), ltb-false _ _ (s .1 .0))
 
 -- each group of checks found nothing
-pub record Passed (w : ℕ) (ws : List ℕ) : Type 0 where
+pub record Passed (free : Bool) (w : ℕ) (ws : List ℕ) : Type 0 where
   pub header : headerChecks w ≡ accepted tt
   pub size : sizeChecks w (length ws) ≡ accepted tt
-  pub prologue : prologueChecks w ws ≡ accepted tt
+  pub prologue : prologueChecks free w ws ≡ accepted tt
   pub body : bodyChecks (typeOf w) (bodyOf w ws) ≡ accepted tt
 
 -- ---- an accepted packet
 
 -- what reading accepts: there are words, the checks found nothing, and the packet is what its words say
-pub record Accepts (ws : List ℕ) (p : Packet) : Type 0 where
+pub record Accepts (free : Bool) (ws : List ℕ) (p : Packet) : Type 0 where
   pub some : 0 < length ws
-  pub passes : Passed (getD ws 0 0) ws
+  pub passes : Passed free (getD ws 0 0) ws
   pub says : packetOf (getD ws 0 0) ws ≡ p
 
-pub read-accepts : (ws : List ℕ) (p : Packet) → readOf ws ≡ accepted p → Accepts ws p
-unfolding readOf headerChecks sizeChecks prologueChecks bodyChecks
-read-accepts ws p e =
+pub read-accepts : (free : Bool) (ws : List ℕ) (p : Packet) → readBy free ws ≡ accepted p → Accepts free ws p
+unfolding readBy headerChecks sizeChecks prologueChecks bodyChecks
+read-accepts free ws p e =
     let w = getD ws 0 0 in
-    let a = first-passed (readList w ws) _ p e in
+    let a = first-passed (listBy free w ws) _ p e in
     let t = a .0 .1 in
     let s = t .1 .1 in
     let c = s .1 .1 in
@@ -48,7 +48,7 @@ read-accepts ws p e =
       passes = record {
         header = none-given (headerList w) _ (t .0, (t .1 .0, tt));
         size = none-given (sizeList w (length ws)) _ (s .0, (s .1 .0, tt));
-        prologue = none-given (prologueList w ws) _ (c .0, (c .1 .0, tt));
+        prologue = none-given (prologueList free w ws) _ (c .0, (c .1 .0, tt));
         body = none-given (bodyList (typeOf w) (bodyOf w ws)) _ (c .1 .1);
       };
       says = accepted-same (a .1);
@@ -59,62 +59,64 @@ read-accepts ws p e =
     nonzero (suc n) e = omega arith
 
 -- and the other way round: words that pass are accepted
-pub accepts-read : (ws : List ℕ) (p : Packet) → 0 < length ws → Passed (getD ws 0 0) ws → packetOf (getD ws 0 0) ws ≡ p → readOf ws ≡ accepted p
-unfolding readOf headerChecks sizeChecks prologueChecks bodyChecks
-accepts-read ws p h c e =
+pub accepts-read : (free : Bool) (ws : List ℕ) (p : Packet) → 0 < length ws → Passed free (getD ws 0 0) ws → packetOf (getD ws 0 0) ws ≡ p
+    → readBy free ws ≡ accepted p
+unfolding readBy headerChecks sizeChecks prologueChecks bodyChecks
+accepts-read free ws p h c e =
     let w = getD ws 0 0 in
     rw (ne-eqb (length ws) 0 (omega arith))
     (none-given (headerList w) _ (first-passed (headerList w) _ tt (c .header) .0)
     ∙ none-given (sizeList w (length ws)) _ (first-passed (sizeList w (length ws)) _ tt (c .size) .0)
-    ∙ none-given (prologueList w ws) _ (first-passed (prologueList w ws) _ tt (c .prologue) .0)
+    ∙ none-given (prologueList free w ws) _ (first-passed (prologueList free w ws) _ tt (c .prologue) .0)
     ∙ none-given (bodyList (typeOf w) (bodyOf w ws)) _ (first-passed (bodyList (typeOf w) (bodyOf w ws)) _ tt (c .body) .0)
     ∙ ap accepted e)
 
-module _ (ws : List ℕ) (p : Packet) (e : readOf ws ≡ accepted p) where
+module _ (free : Bool) (ws : List ℕ) (p : Packet) (e : readBy free ws ≡ accepted p) where
   read-room : Room (getD ws 0 0) (sizeOf (getD ws 0 0))
-  read-room = room _ _ (sized _ _ (read-accepts ws p e .passes .size) .0) (le-refl _)
+  read-room = room _ _ (sized _ _ (read-accepts free ws p e .passes .size) .0) (le-refl _)
 
   -- the packet lies inside the words
   pub read-inside : p .size ≤ length ws
   unfolding packetOf
-  read-inside = rw (← read-accepts ws p e .says) (sized _ _ (read-accepts ws p e .passes .size) .1)
+  read-inside = rw (← read-accepts free ws p e .says) (sized _ _ (read-accepts free ws p e .passes .size) .1)
 
   -- its body lies inside it
   pub body-inside : p .place + p .length ≤ p .size
   unfolding packetOf
-  body-inside = rw (← read-accepts ws p e .says) (read-room .body)
+  body-inside = rw (← read-accepts free ws p e .says) (read-room .body)
 
   -- it has a header
   pub size-some : 1 ≤ p .size
   unfolding packetOf
-  size-some = rw (← read-accepts ws p e .says) (read-room .header)
+  size-some = rw (← read-accepts free ws p e .says) (read-room .header)
 
   -- its count has four bits
   pub count-small : p .parts .count < 16
   unfolding packetOf partsOf
-  count-small = rw (← read-accepts ws p e .says) (mod-lt _ (omega arith))
+  count-small = rw (← read-accepts free ws p e .says) (mod-lt _ (omega arith))
 
   -- a type 4 body is as document 01 says: its layout and its rules hold
   pub body-context : p .parts .kind ≡ 4 → contextOf (part (p .place) (p .length) ws) ≡ accepted tt
   unfolding packetOf partsOf bodyOf bodyChecks contextOf
   body-context k =
-      let a = read-accepts ws p e in
+      let a = read-accepts free ws p e in
       let t : typeOf (getD ws 0 0) ≡ 4 = rw (← a .says) at k in
       rw (← a .says) (rw (eq-eqb _ _ t) at (a .passes .body))
 
   -- its size has sixteen bits
   pub size-small : p .size < 2 ^ 16
   unfolding packetOf
-  size-small = rw (← read-accepts ws p e .says) (mod-lt _ (omega arith))
+  size-small = rw (← read-accepts free ws p e .says) (mod-lt _ (omega arith))
 
   -- and is what its header says
   pub size-said : p .size ≡ sizeOf (getD ws 0 0)
   unfolding packetOf
-  size-said = rw (← read-accepts ws p e .says)
+  size-said = rw (← read-accepts free ws p e .says)
 
 -- ---- the numbers of reading
 
 -- a refusal's number is below STREAM's
-pub read-number : (ws : List ℕ) (n : ℕ) → readOf ws ≡ refused n → n < STREAM
-unfolding readOf
-read-number ws n e = subst (Numbered (λ k. k < STREAM)) e (number-among (λ k. k < STREAM) (readList (getD ws 0 0) ws) _ (search needs) tt)
+pub read-number : (free : Bool) (ws : List ℕ) (n : ℕ) → readBy free ws ≡ refused n → n < STREAM
+unfolding readBy
+read-number free ws n e =
+    subst (Numbered (λ k. k < STREAM)) e (number-among (λ k. k < STREAM) (listBy free (getD ws 0 0) ws) _ (search needs) tt)

@@ -1,6 +1,6 @@
 -- Document 01, 'Numbers given back': "The first that applies is given, in these orders. Read: 1 to 10 as listed; words beyond the size are
 -- ignored." w is the header word, ws the words that were handed in.
-use Rattle.words.specs.Kit.{ℕ, _^_, Bool, not, List, [], _∷_, _++_, eqb, ltb, leb, length, getD}
+use Rattle.words.specs.Kit.{ℕ, _^_, Bool, false, not, List, [], _∷_, _++_, eqb, ltb, leb, length, getD}
 use Rattle.words.specs.Numbers.{EMPTY, TYPE, BITS, SHORT, CUT, CLASS, TIME}
 use Rattle.words.specs.Tests.{both}
 use Rattle.words.specs.Word.{bits}
@@ -25,17 +25,21 @@ sizeList w given = (SHORT, ltb (sizeOf w) (requiredOf w)) ∷ (CUT, ltb given (s
 unfoldable pub timeOver : ℕ → ℕ → Bool
 timeOver tsf fraction = both (eqb tsf 2) (leb (10 ^ 12) fraction)
 
--- "top eight class bits not zero"; "TSF is 2 and the fraction is 10^12 or more"
-abbrev pub prologueList : ℕ → List ℕ → Refusals
-prologueList w ws = (CLASS, not (eqb (bits 31 24 (classHigh w ws)) 0)) ∷ (TIME, timeOver (tsfOf w) (fractionOf w ws)) ∷ []
+-- "top eight class bits not zero", of the class's first word, unless those bits are free
+unfoldable pub classBad : Bool → ℕ → Bool
+classBad free high = both (not free) (not (eqb (bits 31 24 high) 0))
+
+-- what the prologue is refused for; whether the top bits of the class's first word are free is its reader's to say
+abbrev pub prologueList : (free : Bool) → ℕ → List ℕ → Refusals
+prologueList free w ws = (CLASS, classBad free (classHigh w ws)) ∷ (TIME, timeOver (tsfOf w) (fractionOf w ws)) ∷ []
 
 -- of type 4, INDICATOR, LAYOUT and FIELD of the body
 abbrev pub bodyList : ℕ → List ℕ → Refusals
 bodyList kind body = onlyWhere (eqb kind 4) (contextList body)
 
 -- those that look at no body, of words whose header is w
-abbrev pub frontList : ℕ → List ℕ → Refusals
-frontList w ws = ((EMPTY, eqb (length ws) 0) ∷ []) ++ headerList w ++ sizeList w (length ws) ++ prologueList w ws
+abbrev pub frontList : (free : Bool) → ℕ → List ℕ → Refusals
+frontList free w ws = ((EMPTY, eqb (length ws) 0) ∷ []) ++ headerList w ++ sizeList w (length ws) ++ prologueList free w ws
 
 -- what each step of reading finds
 unfoldable pub headerChecks : ℕ → Outcome Unit
@@ -44,24 +48,32 @@ headerChecks w = firstGiven (headerList w) (accepted tt)
 unfoldable pub sizeChecks : ℕ → ℕ → Outcome Unit
 sizeChecks w given = firstGiven (sizeList w given) (accepted tt)
 
-unfoldable pub prologueChecks : ℕ → List ℕ → Outcome Unit
-prologueChecks w ws = firstGiven (prologueList w ws) (accepted tt)
+unfoldable pub prologueChecks : (free : Bool) → ℕ → List ℕ → Outcome Unit
+prologueChecks free w ws = firstGiven (prologueList free w ws) (accepted tt)
 
 unfoldable pub bodyChecks : ℕ → List ℕ → Outcome Unit
 bodyChecks kind body = firstGiven (bodyList kind body) (accepted tt)
 
-unfoldable pub headedChecks : ℕ → List ℕ → Outcome Unit
-headedChecks w ws = firstGiven (headerList w ++ sizeList w (length ws) ++ prologueList w ws) (accepted tt)
+unfoldable pub headedChecks : (free : Bool) → ℕ → List ℕ → Outcome Unit
+headedChecks free w ws = firstGiven (headerList w ++ sizeList w (length ws) ++ prologueList free w ws) (accepted tt)
 
-unfoldable pub frontChecks : List ℕ → Outcome Unit
-frontChecks ws = firstGiven (frontList (getD ws 0 0) ws) (accepted tt)
+unfoldable pub frontChecks : (free : Bool) → List ℕ → Outcome Unit
+frontChecks free ws = firstGiven (frontList free (getD ws 0 0) ws) (accepted tt)
 
--- what reading answers
+-- ---- what reading answers
+
+abbrev pub listBy : (free : Bool) → ℕ → List ℕ → Refusals
+listBy free w ws = frontList free w ws ++ bodyList (typeOf w) (bodyOf w ws)
+
+unfoldable pub readBy : (free : Bool) → List ℕ → Outcome Packet
+readBy free ws = firstGiven (listBy free (getD ws 0 0) ws) (accepted (packetOf (getD ws 0 0) ws))
+
+-- "The class's first word has eight zero bits (ours)": they are not free
 abbrev pub readList : ℕ → List ℕ → Refusals
-readList w ws = frontList w ws ++ bodyList (typeOf w) (bodyOf w ws)
+readList w ws = listBy false w ws
 
-unfoldable pub readOf : List ℕ → Outcome Packet
-readOf ws = firstGiven (readList (getD ws 0 0) ws) (accepted (packetOf (getD ws 0 0) ws))
+abbrev pub readOf : List ℕ → Outcome Packet
+readOf ws = readBy false ws
 
 -- the number and values of an answer
 abbrev pub parsedPaper : Parsed → Outcome Packet

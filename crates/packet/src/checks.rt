@@ -4,7 +4,7 @@ ghost use Rattle.words.specs.Word.{highFirst};
 ghost use Rattle.words.specs.Outcome.{checked};
 ghost use Rattle.packet.specs.Header.{typeOf, sizeOf};
 ghost use Rattle.packet.specs.Parts.{requiredOf, bodyOf};
-ghost use Rattle.packet.specs.Read.{headerChecks, sizeChecks, prologueChecks, bodyChecks, headedChecks, frontChecks};
+ghost use Rattle.packet.specs.Read.{classBad, headerChecks, sizeChecks, prologueChecks, bodyChecks, headedChecks, frontChecks};
 
 // TYPE and BITS.
 fn check_header(w: u32) -> words::Check
@@ -46,12 +46,22 @@ pub fn fraction_over(high: u32, low: u32) -> bool
     3_567_587_328 <= low
 }
 
-// CLASS and TIME.
-fn check_prologue(w: u32, words: &[u32]) -> words::Check
-    requires { ⌜ (requiredOf w ≤ sizeOf w) × (sizeOf w ≤ length (now words)) ⌝ }
-    ensures { λ r. ⌜ checked r ≡ prologueChecks w (now (words .entry)) ⌝ }
+// Whether the class's first word has a bit set that is to be zero. The top eight are, unless they are free.
+fn class_bad(free: bool, high: u32) -> bool
+    ensures { λ r. ⌜ r ≡ classBad free high ⌝ }
 {
-    if crate::prologue::class_high(w, words) / 0x100_0000 % 256 != 0 {
+    if free {
+        return false;
+    }
+    high / 0x100_0000 % 256 != 0
+}
+
+// CLASS and TIME.
+fn check_prologue(free: bool, w: u32, words: &[u32]) -> words::Check
+    requires { ⌜ (requiredOf w ≤ sizeOf w) × (sizeOf w ≤ length (now words)) ⌝ }
+    ensures { λ r. ⌜ checked r ≡ prologueChecks free w (now (words .entry)) ⌝ }
+{
+    if class_bad(free, crate::prologue::class_high(w, words)) {
         return words::Check::Refused(words::CLASS);
     }
     if crate::header::tsf_of(w) != 2 {
@@ -78,8 +88,8 @@ pub fn check_context(w: u32, words: &[u32]) -> words::Check
 }
 
 // TYPE, BITS, SHORT, CUT, CLASS and TIME, of words whose header is w.
-fn check_headed(w: u32, words: &[u32]) -> words::Check
-    ensures { λ r. ⌜ checked r ≡ headedChecks w (now (words .entry)) ⌝ }
+fn check_headed(free: bool, w: u32, words: &[u32]) -> words::Check
+    ensures { λ r. ⌜ checked r ≡ headedChecks free w (now (words .entry)) ⌝ }
 {
     let header = check_header(w);
     if let words::Check::Refused(n) = header {
@@ -89,15 +99,16 @@ fn check_headed(w: u32, words: &[u32]) -> words::Check
     if let words::Check::Refused(n) = size {
         return words::Check::Refused(n);
     }
-    check_prologue(w, words)
+    check_prologue(free, w, words)
 }
 
-// All that is refused before the body is looked at: EMPTY, and then TYPE, BITS, SHORT, CUT, CLASS and TIME.
-pub fn check_front(words: &[u32]) -> words::Check
-    ensures { λ r. ⌜ checked r ≡ frontChecks (now (words .entry)) ⌝ }
+// All that is refused before the body is looked at: EMPTY, and then TYPE, BITS, SHORT, CUT, CLASS and TIME; CLASS not where the top bits of the class's first
+// word are free.
+pub fn check_front(free: bool, words: &[u32]) -> words::Check
+    ensures { λ r. ⌜ checked r ≡ frontChecks free (now (words .entry)) ⌝ }
 {
     if words.len() == 0 {
         return words::Check::Refused(words::EMPTY);
     }
-    check_headed(words[0], words)
+    check_headed(free, words[0], words)
 }

@@ -47,7 +47,7 @@ pub enum Parsed {
 pub fn read(words: &[u32]) -> Parsed
     ensures { λ r. ⌜ parsedPaper r ≡ readOf (now (words .entry)) ⌝ }
 {
-    let front = checks::check_front(words);
+    let front = checks::check_front(false, words);
     if let words::Check::Refused(n) = front {
         return Parsed::Refused(n);
     }

@@ -1,5 +1,5 @@
 -- What the checks of the table and of a packet's front and body found, as a caller has it: the answer, what it ensures, and the case that it is.
-use Rattle.words.proofs.Kit.{_≡_, refl, true, List, ℕ, _≤_, _<_, length, getD}
+use Rattle.words.proofs.Kit.{_≡_, refl, true, false, List, ℕ, _≤_, _<_, length, getD}
 use Rattle.words.specs.declared.Check.{Check}
 use Rattle.words.specs.declared.Check.the-variants.{Fine, Refused}
 use Rattle.words.specs.Outcome.{refused, accepted, checked}
@@ -17,30 +17,30 @@ module _ (t : List ℕ) (made : Check) (e : checked made ≡ madeOf t) where
   pub is-well : made ≡ Fine → wellMade t ≡ true
   is-well f = made-well t (cc)
 
-module _ (ws : List ℕ) (front : Check) (e : checked front ≡ frontChecks ws) where
+module _ (ws : List ℕ) (front : Check) (e : checked front ≡ frontChecks false ws) where
   pub unread-front : (n : ℕ) → front ≡ Refused n → readOf ws ≡ refused n
-  unread-front n r = front-refuses ws n (cc)
+  unread-front n r = front-refuses false ws n (cc)
 
   module _ (fine : front ≡ Fine) where
-    accepts : frontChecks ws ≡ accepted tt
+    accepts : frontChecks false ws ≡ accepted tt
     accepts = cc
 
     pub has-header : 0 < length ws
-    has-header = front-some ws accepts
+    has-header = front-some false ws accepts
 
     pub has-body : requiredOf (getD ws 0 0) ≤ sizeOf (getD ws 0 0)
-    has-body = front-sized ws accepts .0
+    has-body = front-sized false ws accepts .0
 
     pub is-whole : sizeOf (getD ws 0 0) ≤ length ws
-    is-whole = front-sized ws accepts .1
+    is-whole = front-sized false ws accepts .1
 
     -- a packet of a type other than 4 has no body to check
     pub headed-data : (kind : ℕ) → kind ≡ typeOf (getD ws 0 0) → (kind ≡ 4 → ⊥) → Headed (getD ws 0 0) ws
-    headed-data kind k other = record { header = refl; reads = front-data ws accepts (λ four. other (cc)) }
+    headed-data kind k other = record { header = refl; reads = front-data false ws accepts (λ four. other (cc)) }
 
     module _ (body : Check) (b : checked body ≡ bodyChecks (typeOf (getD ws 0 0)) (bodyOf (getD ws 0 0) ws)) where
       pub unread-body : (n : ℕ) → body ≡ Refused n → readOf ws ≡ refused n
-      unread-body n r = body-refuses ws accepts n (cc)
+      unread-body n r = body-refuses false ws accepts n (cc)
 
       pub headed : body ≡ Fine → Headed (getD ws 0 0) ws
       headed f = body-headed ws accepts (cc)

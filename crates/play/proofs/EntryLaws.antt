@@ -15,7 +15,7 @@ use Rattle.fields.proofs.PlaceLaws.{rest-whole, first-word}
 use Rattle.packet.specs.declared.Packet.{Packet}
 use Rattle.packet.specs.Header.{typeOf, sizeOf}
 use Rattle.packet.specs.Parts.{partsOf, packetOf}
-use Rattle.packet.specs.Read.{readList, readOf}
+use Rattle.packet.specs.Read.{readList, readOf, readBy}
 use Rattle.packet.proofs.ReadLaws.{size-some, size-said, read-number}
 use Rattle.table.specs.Well.{wellMade}
 use Rattle.play.specs.declared.Heard.{Heard}
@@ -33,7 +33,7 @@ use Rattle.play.proofs.PlayLaws.{made-well, step-read, play-step}
 -- ---- a refusal of reading has a number
 
 read-some : (ws : List ℕ) (n : ℕ) → readOf ws ≡ refused n → 0 < n
-unfolding readOf
+unfolding readBy
 read-some ws n e = subst (Numbered (λ k. 0 < k)) e (number-among (λ k. 0 < k) (readList (getD ws 0 0) ws) _ (search needs) tt)
 
 -- ---- what is said of a packet of a size: a refusal has a number, and where a walk goes on the packet has a word
@@ -50,12 +50,12 @@ module _ (t ws : List ℕ) where
       → Whole (saidOf (onward o (done p))) (sizeOf (getD ws 0 0))
   unfolding heardOf
   whole-sought p e (refused n) f =
-      (omega (arith, sought-number (p .parts .kind) (p .parts .identifier) t n f), λ _. omega (arith, size-some ws p e, size-said ws p e))
-  whole-sought p e (accepted s) f = (size-said ws p e, omega (arith, size-some ws p e, size-said ws p e))
+      (omega (arith, sought-number (p .parts .kind) (p .parts .identifier) t n f), λ _. omega (arith, size-some false ws p e, size-said false ws p e))
+  whole-sought p e (accepted s) f = (size-said false ws p e, omega (arith, size-some false ws p e, size-said false ws p e))
 
   whole-read : (o : Outcome Packet) → readOf ws ≡ o
       → Whole (saidOf (onward o (λ p. onward (soughtOf (p .parts .kind) (p .parts .identifier) t) (done p)))) (sizeOf (getD ws 0 0))
-  whole-read (refused n) e = (read-some ws n e, λ i. absurd (omega (arith, i, read-number ws n e)))
+  whole-read (refused n) e = (read-some ws n e, λ i. absurd (omega (arith, i, read-number false ws n e)))
   whole-read (accepted p) e = whole-sought p e (soughtOf (p .parts .kind) (p .parts .identifier) t) refl
 
   step-whole : Whole (saidOf (stepOf t ws)) (sizeOf (getD ws 0 0))
@@ -101,7 +101,7 @@ module _ (t ws : List ℕ) (w : wellMade t ≡ true) where
   entered-refused n size e i = record { entry = rw (play-step t ws w, e, i); table = rw (play-step t ws w, e) }
 
   pub unread : (n : ℕ) → readOf ws ≡ refused n → Entered t ws 0 (record { number = n; size = 0; kind = 0; stream = 0; missing = 0 }) t
-  unread n e = entered-refused n 0 (rw (step-read, e)) (rw (ne-eqb n STREAM (λ i. omega (arith, read-number ws n e))))
+  unread n e = entered-refused n 0 (rw (step-read, e)) (rw (ne-eqb n STREAM (λ i. omega (arith, read-number false ws n e))))
 
   -- of a packet that a check refused
   pub entered-unread : (answer : Check) (n m : ℕ) (r : Entry) → answer ≡ Check.Refused n → m ≡ numberOf (checked answer) → readOf ws ≡ refused n

@@ -1,6 +1,6 @@
 -- What play keeps. The idea: an accepted packet replaces one record by a good one of the same identifier (`well-with`), so the table stays well made, with its
 -- list and the words past its layout.
-use Rattle.words.proofs.Kit.{_≡_, refl, sym, ap, _∙_, true, ⊎-elim, List, ℕ, _<_, not-false, length, drop}
+use Rattle.words.proofs.Kit.{_≡_, refl, sym, ap, _∙_, true, ⊎-elim, List, ℕ, _<_, not-false, length, drop, false}
 use Rattle.words.specs.Part.{part}
 use Rattle.words.specs.Outcome.{Outcome, refused, accepted, Done, leftOf}
 use Rattle.words.proofs.Cases.{true-or-false, onward-passed, accepted-same}
@@ -69,7 +69,7 @@ module _ (t ws : List ℕ) (w : wellMade t ≡ true) (d : Done Heard (List ℕ))
   old-length = record-length s t has-it
 
   fields-fine : p .parts .kind ≡ 4 → contextOf body ≡ accepted tt
-  fields-fine = body-context ws p (k .reads)
+  fields-fine = body-context false ws p (k .reads)
 
   new-length : length new ≡ recordWords
   new-length = after-length (p .parts .kind) (p .parts .count) body (recordAt s t) old-length fields-fine
@@ -85,7 +85,7 @@ module _ (t ws : List ℕ) (w : wellMade t ≡ true) (d : Done Heard (List ℕ))
   taken-well =
       ap wellMade leaves-is
       ∙ well-with s new t w below new-length new-identifier
-      (after-good (p .parts .kind) (p .parts .count) body (recordAt s t) old-length fields-fine (count-small ws p (k .reads)) (well-record t w s below))
+      (after-good (p .parts .kind) (p .parts .count) body (recordAt s t) old-length fields-fine (count-small false ws p (k .reads)) (well-record t w s below))
 
   taken-length : length (d .leaves) ≡ length t
   taken-length = ap length leaves-is ∙ with-length s new t has-it new-length

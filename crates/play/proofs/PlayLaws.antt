@@ -11,7 +11,7 @@ use Rattle.words.proofs.PartLaws.{seen, lent-to, part-length}
 use Rattle.fields.specs.Layout.{contextOf}
 use Rattle.packet.specs.Header.{typeOf, countOf}
 use Rattle.packet.specs.Parts.{bodyAt, bodyLength, partsOf, packetOf}
-use Rattle.packet.specs.Read.{readList, readOf}
+use Rattle.packet.specs.Read.{readList, readOf, readBy}
 use Rattle.packet.proofs.ReadLaws.{read-inside, body-inside, body-context}
 use Rattle.record.specs.Layout.{recordWords}
 use Rattle.record.specs.After.{recordAfter, addedBy}
@@ -61,7 +61,7 @@ module _ (w from to : ℕ) (ws : List ℕ) (p : Headed w ws) (f : from ≡ bodyA
 
   pub body-ends : to ≤ length ws
   unfolding packetOf
-  body-ends = rw g (le-trans (body-inside ws (packetOf w ws) (p .reads)) (read-inside ws (packetOf w ws) (p .reads)))
+  body-ends = rw g (le-trans (body-inside false ws (packetOf w ws) (p .reads)) (read-inside false ws (packetOf w ws) (p .reads)))
 
   body-seen : take (to - from) (drop from ws) ≡ part (bodyAt w) (bodyLength w) ws
   body-seen = rw (f, g) (seen (bodyAt w) (bodyAt w + bodyLength w) (bodyLength w) ws refl)
@@ -69,7 +69,7 @@ module _ (w from to : ℕ) (ws : List ℕ) (p : Headed w ws) (f : from ≡ bodyA
   module _ (k : typeOf w ≡ 4) where
     pub body-good : contextOf (take (to - from) (drop from ws)) ≡ accepted tt
     unfolding packetOf partsOf
-    body-good = ap contextOf body-seen ∙ body-context ws (packetOf w ws) (p .reads) k
+    body-good = ap contextOf body-seen ∙ body-context false ws (packetOf w ws) (p .reads) k
 
     -- the packet, heard by stream s
     pub heard-context : (at s : ℕ) (t : List ℕ) (count more : ℕ) (last : List ℕ) → at ≡ base s → count ≡ countOf w
@@ -96,7 +96,7 @@ heard-data w s more ws t left p n m l = record {
 
 pub step-read : (t ws : List ℕ)
     → stepOf t ws ≡ onward (readOf ws) (λ p. onward (soughtOf (p .parts .kind) (p .parts .identifier) t) (λ s. accepted (heardDone p s t ws)))
-unfolding stepOf readOf soughtOf
+unfolding stepOf readBy soughtOf
 step-read t ws =
     let p = packetOf (getD ws 0 0) ws in
     let list = readList (getD ws 0 0) ws in

@@ -19,7 +19,7 @@ use Rattle.words.proofs.LaidLaws.{sets-all}
 use Rattle.words.proofs.PartLaws.{lent, put-at, put-length}
 use Rattle.fields.proofs.WalkLaws.{none-left}
 use Rattle.packet.specs.Header.{sizeOf}
-use Rattle.packet.specs.Read.{readOf}
+use Rattle.packet.specs.Read.{readBy}
 use Rattle.table.specs.Layout.{base}
 use Rattle.table.specs.Well.{wellMade}
 use Rattle.play.specs.declared.Heard.{Heard}
@@ -201,7 +201,7 @@ module _ (t ws : List ℕ) (at : ℕ) where
 
   module _ (x : Entry) (r : Reached) (left : List ℕ) (w : wellMade t ≡ true) where
     one-over : length ws ≤ at → WalkDone (wholeWalk t ws at blank) blank r left (wordsOfEntry x) → Entered t ws at x left
-    unfolding wholeWalk readOf
+    unfolding wholeWalk readBy
     one-over h d =
         let o = walk-over 1 ws at t h in
         let e : drop at ws ≡ [] = none-left (drop at ws) (omega (arith, length-drop at ws)) in

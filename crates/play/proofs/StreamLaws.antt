@@ -111,13 +111,13 @@ sought-data kind identifier t s h n e =
 -- ---- an accepted packet, whose header is w
 
 -- words that pass both steps
-pub body-headed : (ws : List ℕ) → frontChecks ws ≡ accepted tt → bodyChecks (typeOf (getD ws 0 0)) (bodyOf (getD ws 0 0) ws) ≡ accepted tt
+pub body-headed : (ws : List ℕ) → frontChecks false ws ≡ accepted tt → bodyChecks (typeOf (getD ws 0 0)) (bodyOf (getD ws 0 0) ws) ≡ accepted tt
     → Headed (getD ws 0 0) ws
-body-headed ws f b = record { header = refl; reads = body-accepted ws f b }
+body-headed ws f b = record { header = refl; reads = body-accepted false ws f b }
 
 module _ (w : ℕ) (ws : List ℕ) (p : Headed w ws) where
-  headed-passed : Passed w ws
-  headed-passed = rw (p .header) (read-accepts ws (packetOf w ws) (p .reads) .passes)
+  headed-passed : Passed false w ws
+  headed-passed = rw (p .header) (read-accepts false ws (packetOf w ws) (p .reads) .passes)
 
   -- its words are there
   pub headed-sized : requiredOf w ≤ sizeOf w

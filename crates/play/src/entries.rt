@@ -71,7 +71,7 @@ pub fn enter(table: &mut [u32], given: &[u32]) -> Entry
     requires { ⌜ wellMade (now table) ≡ true ⌝ }
     ensures { λ r. ⌜ Entered (now (table .entry)) (now (given .entry)) 0 r (now (table .exit)) ⌝ }
 {
-    let front = packet::inner::check_front(given);
+    let front = packet::inner::check_front(false, given);
     let words::Check::Fine = front else {
         return entry_refused(crate::streams::number_of_check(front), 0);
     };

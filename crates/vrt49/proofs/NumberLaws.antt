@@ -6,7 +6,7 @@ use Rattle.words.specs.Outcome.{Outcome, refused, accepted, onward, numberOf, D
 use Rattle.words.specs.Refusals.{Refusals, firstGiven}
 use Rattle.words.proofs.RefusalLaws.{Numbers, Numbered, number-among}
 use Rattle.fields.specs.Layout.{contextList, contextOf}
-use Rattle.packet.specs.Read.{readList, readOf}
+use Rattle.packet.specs.Read.{readList, readBy}
 use Rattle.packet_write.specs.Write.{writeList, writeOf}
 use Rattle.packet_trailer.specs.Trailer.{trailerList, trailerWordOf}
 use Rattle.payload_unpack.specs.Unpack.{Buffers, unpackList, unpackOf}
@@ -58,7 +58,7 @@ module _ {A B : Type 0} (n : ℕ) (values : A → List B) where
 
 -- ---- the calls for C
 pub read-numbered : (ws answer : List ℕ) → Numbered notZero (readGives ws answer)
-unfolding readGives readOf
+unfolding readGives readBy
 read-numbered ws answer = answered _ _ _ answer (by-list (readList (getD ws 0 0) ws) _ (search needs))
 
 pub write-numbered : (ws body out : List ℕ) (at : ℕ) (answer : List ℕ) → Numbered notZero (writeGives ws body out at answer)

@@ -51,7 +51,7 @@ pub size-small : (ws : List ℕ) (p : Packet) → readOf ws ≡ accepted p → p
 unfolding packetOf
 size-small ws p e =
     let h : getD ws 0 0 % 65536 < 65536 = mod-lt (getD ws 0 0) (omega arith) in
-    rw (← read-accepts ws p e .says) (omega arith)
+    rw (← read-accepts false ws p e .says) (omega arith)
 
 -- and so has that of one that was written
 written-few : (ws body out : List ℕ) (at : ℕ) (d : Done ℕ (List ℕ)) → writeWordsOf ws body out at ≡ accepted d → d .says < 2 ^ 32

@@ -1,6 +1,6 @@
 -- Why a walk ends. The idea: reading refuses with a number of 1 to 10, so a step that goes on behind a refusal goes on behind STREAM, of a packet that was
 -- read; and a packet that was read has at least its header.
-use Rattle.words.proofs.Kit.{_≡_, refl, sym, ap, _∙_, true, List, ℕ, _≤_, _<_, arith, eqb-true, length, drop, getD}
+use Rattle.words.proofs.Kit.{_≡_, refl, sym, ap, _∙_, true, List, ℕ, _≤_, _<_, arith, eqb-true, length, drop, getD, false}
 use native.Mathlib.Nat.{add-zero}
 use lib.Seq.{getD-drop}
 use Rattle.words.specs.Numbers.{STREAM}
@@ -27,10 +27,10 @@ said-on : (o : Outcome Packet) (t ws : List ℕ) → readOf ws ≡ o → goesOn 
 said-on (accepted p) t ws e g = (p, e)
 said-on (refused n) t ws e g =
     let i : n ≡ STREAM = eqb-true n STREAM (rw (step-read, e) at g) in
-    absurd (omega (arith, read-number ws n e, i))
+    absurd (omega (arith, read-number false ws n e, i))
 
 read-size : (ws : List ℕ) (p : Packet) → readOf ws ≡ accepted p → 1 ≤ sizeOf (getD ws 0 0)
-read-size ws p e = rw (size-said ws p e) at (size-some ws p e)
+read-size ws p e = rw (size-said false ws p e) at (size-some false ws p e)
 
 said-step : (t ws : List ℕ) (at : ℕ) → wellMade t ≡ true → goesOn (saidAt t ws at) ≡ true → goesOn (saidOf (stepOf t (drop at ws))) ≡ true
 unfolding saidAt

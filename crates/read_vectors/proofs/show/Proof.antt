@@ -1,5 +1,5 @@
 -- `show` is safe: the body of an accepted packet lies inside the words that were read.
-use Rattle.words.proofs.Kit.{_≡_, sym, ap, _∙_, arith, now, needs}
+use Rattle.words.proofs.Kit.{_≡_, sym, ap, _∙_, arith, now, needs, false}
 use Rattle.words.specs.Outcome.{accepted}
 use Rattle.packet.specs.Read.{parsedPaper, readOf}
 use Rattle.packet.proofs.ReadLaws.{body-inside, read-inside}
@@ -12,7 +12,7 @@ show-packet-requires c κs =
     let ws = now (start .args .words) in
     let p = c .before .answer .given .0 .0 in
     let e : readOf ws ≡ accepted p = sym (c .before .before .before .read .ensures) ∙ ap parsedPaper (c .before .answer .given .1) in
-    omega (arith, body-inside ws p e, read-inside ws p e)
+    omega (arith, body-inside false ws p e, read-inside false ws p e)
 
 pub show-spec : {M : Type 1} → statement M
 show-spec =

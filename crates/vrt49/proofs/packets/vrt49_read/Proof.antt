@@ -1,5 +1,5 @@
 -- `vrt49_read` meets its promise: ROOM, else what reading answers.
-use Rattle.words.proofs.Kit.{sym, ap, _∙_, arith, needs}
+use Rattle.words.proofs.Kit.{sym, ap, _∙_, arith, needs, false}
 use Rattle.packet.specs.Read.{parsedPaper}
 use Rattle.vrt49.proofs.SmallLaws.{size-small}
 use Rattle.packet.proofs.ReadLaws.{body-inside}
@@ -16,7 +16,7 @@ store-packet-requires : tie.Need-store-packet-requires
 store-packet-requires c κs =
     let k : tie.After-read = search in
     let e = sym (k .read .ensures) ∙ ap parsedPaper (c .before .before .p .given .1) in
-    (k .before .if1 .left, size-small _ _ e, body-inside _ _ e)
+    (k .before .if1 .left, size-small _ _ e, body-inside false _ _ e)
 
 returns-2 : tie.Need-returns-2
 unfolding readGives
