@@ -45,7 +45,7 @@ fn next_parts() -> Parts {
     let identifier = wordio::inner::word();
     let oui = wordio::inner::word();
     let information = wordio::inner::word();
-    let packet = wordio::inner::word();
+    let code = wordio::inner::word();
     let seconds = wordio::inner::word();
     let high = wordio::inner::word();
     let low = wordio::inner::word();
@@ -61,7 +61,7 @@ fn next_parts() -> Parts {
         identifier,
         oui,
         information,
-        packet,
+        code,
         seconds,
         fraction: words::inner::high_first(high, low),
         trailer,
