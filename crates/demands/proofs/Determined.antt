@@ -42,11 +42,11 @@ same-word i r q h g e =
 
 -- ---- what is held or not
 
-same-held : (x y : Bool) (v w : List ℕ) → pick x (some v) none ≡ pick y (some w) none → x ≡ y
-same-held true true v w e = refl
-same-held true false v w e = absurd (Option·none-ne-some v (sym e))
-same-held false true v w e = absurd (Option·none-ne-some w e)
-same-held false false v w e = refl
+some-same : (x y : Bool) (v w : List ℕ) → pick x (some v) none ≡ pick y (some w) none → x ≡ y
+some-same true true v w e = refl
+some-same true false v w e = absurd (Option·none-ne-some v (sym e))
+some-same false true v w e = absurd (Option·none-ne-some w e)
+some-same false false v w e = refl
 
 same-value : (x y : Bool) (v w : List ℕ) → x ≡ true → pick x (some v) none ≡ pick y (some w) none → v ≡ w
 same-value true true v w t e = Option·some-injective v w e
@@ -65,7 +65,7 @@ module _ (r q : List ℕ) (lr : length r ≡ recordWords) (lq : length q ≡ rec
   Q = good-of q lq gq
 
   same-bit : (b : ℕ) → has (heldOf r) b ≡ has (heldOf q) b
-  same-bit b = same-held (has (heldOf r) b) (has (heldOf q) b) (slotOf b r) (slotOf b q) (held b)
+  same-bit b = some-same (has (heldOf r) b) (has (heldOf q) b) (slotOf b r) (slotOf b q) (held b)
 
   same-held : heldOf r ≡ heldOf q
   same-held = word-same 31 (heldOf r) (heldOf q) (R .small) (Q .small) (λ b h. same-bit b)

@@ -14,7 +14,7 @@ use Rattle.packet.specs.declared.Packet.{Packet}
 use Rattle.packet.specs.Header.{trailed, tsmOf, reservedOf}
 use Rattle.packet.specs.Parts.{streamed, hasSeconds, hasFraction, classAt, secondsAt, fractionAt, bodyAt, requiredOf, bodyLength, wordIf, classHigh, classLow}
 use Rattle.packet.specs.Parts.{fractionOf, partsOf, bodyOf, packetOf}
-use Rattle.packet.specs.Read.{timeOver, readOf}
+use Rattle.packet.specs.Read.{timeOver, readOf, classBad, readBy}
 use Rattle.record.specs.Layout.{orderOf, countWords, seenOf}
 use Rattle.record.specs.Counts.{missedOf}
 use Rattle.table.specs.Layout.{recordAt}
@@ -56,7 +56,7 @@ record Computed : Type 0 where
 
 computed : Computed
 unfolding heardBy arrivalOf placeIn firstOf trailed tsmOf reservedOf streamed hasSeconds hasFraction classAt secondsAt fractionAt bodyAt requiredOf bodyLength
-    wordIf classHigh classLow fractionOf partsOf bodyOf packetOf part timeOver readOf lowBitsSet otherLength ruleBroken bodyWords spanOf obeyed ruleOf wordsOf
+    wordIf classHigh classLow fractionOf partsOf bodyOf packetOf part timeOver classBad readBy lowBitsSet otherLength ruleBroken bodyWords spanOf obeyed ruleOf wordsOf
     fieldSize bitsOf above placeOf fieldOf
 computed = record {
   read3 = (_, refl, refl);
