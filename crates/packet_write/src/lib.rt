@@ -3,6 +3,7 @@ mod fit;
 pub mod inner;
 mod laying;
 mod parts;
+mod writing;
 
 ghost use mathlib.Core.Path.{_≡_};
 ghost use Rattle.words.specs.Outcome.{measured, Meets};
@@ -38,5 +39,5 @@ pub fn write(parts: packet::Parts, body: &[u32], out: &mut [u32], at: usize) -> 
         (fraction % 0x1_0000_0000) as u32,
         parts.trailer,
     ];
-    inner::write_parts(&q, body, out, at)
+    writing::write_parts(&q, body, out, at)
 }

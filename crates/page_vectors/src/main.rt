@@ -7,20 +7,20 @@ use words::Length;
 
 // A page to be put back: the answer, the table, and the page that is saved of it again.
 fn put_case(words: &[u32], table: &mut [u32], page: &mut [u32]) {
-    wordio::inner::pattern(table);
-    wordio::inner::pattern(page);
+    lines::inner::pattern(table);
+    lines::inner::pattern(page);
     match page::put_back(words, table) {
         Length::Accepted(length) => {
-            wordio::inner::named(b"put", length as u64);
+            lines::inner::named(b"put", length as u64);
             showing::end_line();
             showing::show_words(b"table", table);
             let answer = page::save(table, page);
-            wordio::inner::text(b" ");
+            lines::inner::text(b" ");
             showing::show_saved(answer, page);
             showing::end_line();
         }
         Length::Refused(n) => {
-            wordio::inner::named(b"refused", n as u64);
+            lines::inner::named(b"refused", n as u64);
             showing::end_line();
             showing::show_words(b"table", table);
         }
@@ -29,46 +29,46 @@ fn put_case(words: &[u32], table: &mut [u32], page: &mut [u32]) {
 
 // A table to be saved: the answer, the buffer, and the page's length.
 fn save_case(words: &[u32], page: &mut [u32]) {
-    wordio::inner::pattern(page);
+    lines::inner::pattern(page);
     match page::save(words, page) {
-        Length::Accepted(length) => wordio::inner::named(b"saved", length as u64),
-        Length::Refused(n) => wordio::inner::named(b"refused", n as u64),
+        Length::Accepted(length) => lines::inner::named(b"saved", length as u64),
+        Length::Refused(n) => lines::inner::named(b"refused", n as u64),
     }
     showing::end_line();
     showing::show_words(b"page", page);
-    wordio::inner::text(b" ");
+    lines::inner::text(b" ");
     match page::page_length(words) {
-        Length::Accepted(length) => wordio::inner::named(b"length", length as u64),
-        Length::Refused(n) => wordio::inner::named(b"length refused", n as u64),
+        Length::Accepted(length) => lines::inner::named(b"length", length as u64),
+        Length::Refused(n) => lines::inner::named(b"length refused", n as u64),
     }
     showing::end_line();
 }
 
 // The room and the words of a page to be put back.
 fn read_put(words: &mut [u32], table: &mut [u32], page: &mut [u32]) {
-    let room = wordio::inner::word() as usize;
-    let n = wordio::inner::word() as usize;
+    let room = lines::inner::word() as usize;
+    let n = lines::inner::word() as usize;
     if words.len() < n {
         return;
     }
     if table.len() < room {
         return;
     }
-    wordio::inner::fill(&mut words[0..n]);
+    lines::inner::fill(&mut words[0..n]);
     put_case(&words[0..n], &mut table[0..room], page);
 }
 
 // The room and the words of a table to be saved.
 fn read_save(words: &mut [u32], page: &mut [u32]) {
-    let room = wordio::inner::word() as usize;
-    let n = wordio::inner::word() as usize;
+    let room = lines::inner::word() as usize;
+    let n = lines::inner::word() as usize;
     if words.len() < n {
         return;
     }
     if page.len() < room {
         return;
     }
-    wordio::inner::fill(&mut words[0..n]);
+    lines::inner::fill(&mut words[0..n]);
     save_case(&words[0..n], &mut page[0..room]);
 }
 
@@ -104,11 +104,11 @@ fn one_case(
     page: &mut [u32],
     words: &mut [u32],
 ) -> bool {
-    let next = wordio::inner::next_word();
-    let wordio::inner::Input::Word(kind) = next else {
+    let next = lines::inner::next_word();
+    let lines::inner::Input::Word(kind) = next else {
         return false;
     };
-    wordio::inner::number(k);
+    lines::inner::number(k);
     asked(kind, ids, table, second, page, words);
     true
 }

@@ -12,16 +12,16 @@ pub struct Walk {
 fn fold_answer(y: u32, answer: Played) -> u32 {
     match answer {
         Played::Accepted(h) => {
-            let size = wordio::inner::folded(wordio::inner::folded(y, 0), h.size as u64);
-            let kind = wordio::inner::folded(size, h.kind as u64);
-            let stream = wordio::inner::folded(kind, h.stream as u64);
-            wordio::inner::folded(stream, h.missing as u64)
+            let size = lines::inner::folded(lines::inner::folded(y, 0), h.size as u64);
+            let kind = lines::inner::folded(size, h.kind as u64);
+            let stream = lines::inner::folded(kind, h.stream as u64);
+            lines::inner::folded(stream, h.missing as u64)
         }
         Played::Refused(n) => {
-            let size = wordio::inner::folded(wordio::inner::folded(y, n as u64), 0);
-            let kind = wordio::inner::folded(size, 0);
-            let stream = wordio::inner::folded(kind, 0);
-            wordio::inner::folded(stream, 0)
+            let size = lines::inner::folded(lines::inner::folded(y, n as u64), 0);
+            let kind = lines::inner::folded(size, 0);
+            let stream = lines::inner::folded(kind, 0);
+            lines::inner::folded(stream, 0)
         }
     }
 }
@@ -59,12 +59,12 @@ fn play_part(table: &mut [u32], words: &[u32], from: Walk, packets: u32) -> Walk
 fn resume(page: &[u32], table: &mut [u32], words: &[u32], walk: Walk, packets: u32) {
     match page::put_back(page, table) {
         Length::Accepted(length) => {
-            wordio::inner::named(b"put", length as u64);
+            lines::inner::named(b"put", length as u64);
             let end = play_part(table, words, walk, packets);
-            wordio::inner::named(b"answers", end.answers as u64);
+            lines::inner::named(b"answers", end.answers as u64);
             crate::showing::show_table(length, table);
         }
-        Length::Refused(n) => wordio::inner::named(b"put refused", n as u64),
+        Length::Refused(n) => lines::inner::named(b"put refused", n as u64),
     }
 }
 
@@ -114,12 +114,12 @@ fn one_cut(
     words: &[u32],
     packets: u32,
 ) {
-    let cut = wordio::inner::word();
-    wordio::inner::text(b" ");
-    wordio::inner::named(b"cut", cut as u64);
-    wordio::inner::pattern(first);
-    wordio::inner::pattern(page);
-    wordio::inner::pattern(second);
+    let cut = lines::inner::word();
+    lines::inner::text(b" ");
+    lines::inner::named(b"cut", cut as u64);
+    lines::inner::pattern(first);
+    lines::inner::pattern(page);
+    lines::inner::pattern(second);
     table::start(ids, first);
     play_cut(first, page, second, words, cut, packets);
     crate::showing::end_line();
@@ -134,7 +134,7 @@ fn all_cuts(
     words: &[u32],
     packets: u32,
 ) {
-    let cuts = wordio::inner::word();
+    let cuts = lines::inner::word();
     let mut c = 0;
     while c < cuts {
         one_cut(ids, first, page, second, words, packets);
@@ -150,12 +150,12 @@ fn read_packets(
     second: &mut [u32],
     words: &mut [u32],
 ) {
-    let packets = wordio::inner::word();
-    let n = wordio::inner::word() as usize;
+    let packets = lines::inner::word();
+    let n = lines::inner::word() as usize;
     if words.len() < n {
         return;
     }
-    wordio::inner::fill(&mut words[0..n]);
+    lines::inner::fill(&mut words[0..n]);
     all_cuts(ids, first, page, second, &words[0..n], packets);
 }
 
@@ -167,11 +167,11 @@ fn read_list(
     second: &mut [u32],
     words: &mut [u32],
 ) {
-    let n = wordio::inner::word() as usize;
+    let n = lines::inner::word() as usize;
     if ids.len() < n {
         return;
     }
-    wordio::inner::fill(&mut ids[0..n]);
+    lines::inner::fill(&mut ids[0..n]);
     read_packets(&ids[0..n], first, page, second, words);
 }
 
@@ -183,9 +183,9 @@ pub fn recording(
     second: &mut [u32],
     words: &mut [u32],
 ) {
-    wordio::inner::text(b" recording\n");
-    let room = wordio::inner::word() as usize;
-    let other = wordio::inner::word() as usize;
+    lines::inner::text(b" recording\n");
+    let room = lines::inner::word() as usize;
+    let other = lines::inner::word() as usize;
     if first.len() < room {
         return;
     }

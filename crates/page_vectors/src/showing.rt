@@ -3,36 +3,36 @@ use words::Length;
 
 // Ends a line.
 pub fn end_line() {
-    wordio::inner::text(b"\n");
+    lines::inner::text(b"\n");
 }
 
 // The line of a buffer: all its words where they are at most 200, and else their check number.
 pub fn show_words(name: &[u8], words: &[u32]) {
-    wordio::inner::text(b"  ");
+    lines::inner::text(b"  ");
     if words.len() <= 200 {
-        wordio::inner::text(name);
-        wordio::inner::list(words);
+        lines::inner::text(name);
+        lines::inner::list(words);
     } else {
-        wordio::inner::text(b"fold ");
-        wordio::inner::number(wordio::inner::fold_of(words) as u64);
+        lines::inner::text(b"fold ");
+        lines::inner::number(lines::inner::fold_of(words) as u64);
     }
     end_line();
 }
 
 // A page that was saved: its length, and the check number of its words.
 fn show_page(length: usize, page: &[u32]) {
-    wordio::inner::named(b"saved", length as u64);
+    lines::inner::named(b"saved", length as u64);
     if page.len() < length {
         return;
     }
-    wordio::inner::named(b"fold", wordio::inner::fold_of(&page[0..length]) as u64);
+    lines::inner::named(b"fold", lines::inner::fold_of(&page[0..length]) as u64);
 }
 
 // What saving answered, and the page.
 pub fn show_saved(answer: Length, page: &[u32]) {
     match answer {
         Length::Accepted(length) => show_page(length, page),
-        Length::Refused(n) => wordio::inner::named(b"saved refused", n as u64),
+        Length::Refused(n) => lines::inner::named(b"saved refused", n as u64),
     }
 }
 
@@ -41,6 +41,6 @@ pub fn show_table(length: usize, table: &[u32]) {
     if table.len() < length {
         return;
     }
-    wordio::inner::named(b"table", wordio::inner::fold_of(&table[0..length]) as u64);
-    wordio::inner::named(b"past", wordio::inner::sum_of(&table[length..]) as u64);
+    lines::inner::named(b"table", lines::inner::fold_of(&table[0..length]) as u64);
+    lines::inner::named(b"past", lines::inner::sum_of(&table[length..]) as u64);
 }

@@ -48,7 +48,7 @@ fn print_places(n: u32, places: usize)
         digit(n, 10),
         digit(n, 1),
     ];
-    wordio::inner::text(&digits[0..places + 1]);
+    lines::inner::text(&digits[0..places + 1]);
 }
 
 // Writes a sign and some 128ths.
@@ -56,9 +56,9 @@ fn print_parts(minus: bool, n: u32, places: usize)
     requires { ⌜ places ≤ 7 ⌝ }
 {
     if minus {
-        wordio::inner::text(b"-");
+        lines::inner::text(b"-");
     }
-    wordio::inner::number((n / 128) as u64);
+    lines::inner::number((n / 128) as u64);
     print_places(n % 128 * 78125, places);
 }
 
@@ -67,13 +67,13 @@ pub fn print(x: f32, places: usize)
     requires { ⌜ places ≤ 7 ⌝ }
 {
     if x != x {
-        wordio::inner::text(b"nan");
+        lines::inner::text(b"nan");
         return;
     }
     let pattern = f32::to_bits(x);
     let parts = parts_of(pattern % 0x8000_0000);
     match parts {
         Parts::Exact(n) => print_parts(0x8000_0000 <= pattern, n, places),
-        Parts::Inexact => wordio::inner::text(b"inexact"),
+        Parts::Inexact => lines::inner::text(b"inexact"),
     }
 }

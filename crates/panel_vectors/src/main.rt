@@ -8,28 +8,28 @@ use words::Length;
 
 // A frequency: whole hertz and parts of 2^20.
 fn show_frequency(hertz: i64, parts: u32) {
-    wordio::inner::text(b" frequency ");
-    wordio::inner::signed(hertz);
-    wordio::inner::named(b"parts", parts as u64);
+    lines::inner::text(b" frequency ");
+    lines::inner::signed(hertz);
+    lines::inner::named(b"parts", parts as u64);
 }
 
 // A gain: both stages.
 fn show_gain(stage1: f32, stage2: f32) {
-    wordio::inner::text(b" gain ");
+    lines::inner::text(b" gain ");
     decimal::print(stage1, 7);
-    wordio::inner::text(b" ");
+    lines::inner::text(b" ");
     decimal::print(stage2, 7);
 }
 
 // A level, a multiple of 1/128.
 fn show_level(x: f32) {
-    wordio::inner::text(b" level ");
+    lines::inner::text(b" level ");
     decimal::print(x, 7);
 }
 
 // A temperature, a multiple of 1/64.
 fn show_temperature(x: f32) {
-    wordio::inner::text(b" temperature ");
+    lines::inner::text(b" temperature ");
     decimal::print(x, 6);
 }
 
@@ -40,59 +40,59 @@ fn show(answer: FieldReading) {
         FieldReading::Level(x) => show_level(x),
         FieldReading::Gain(g) => show_gain(g.stage1, g.stage2),
         FieldReading::Temperature(x) => show_temperature(x),
-        FieldReading::Other => wordio::inner::text(b" other"),
-        FieldReading::Absent => wordio::inner::text(b" absent"),
-        FieldReading::Refused(n) => wordio::inner::named(b"refused", n as u64),
+        FieldReading::Other => lines::inner::text(b" other"),
+        FieldReading::Absent => lines::inner::text(b" absent"),
+        FieldReading::Refused(n) => lines::inner::named(b"refused", n as u64),
     }
 }
 
 // The reading of a table that was read.
 fn ask_reading(k: u64, table: &[u32]) {
-    let stream = wordio::inner::word() as usize;
-    let bit = wordio::inner::word();
-    wordio::inner::number(k);
+    let stream = lines::inner::word() as usize;
+    let bit = lines::inner::word();
+    lines::inner::number(k);
     show(panel::reading(table, stream, bit));
-    wordio::inner::text(b"\n");
+    lines::inner::text(b"\n");
 }
 
 // The line of `held_words`: how many, or the refusal.
 fn show_copied(k: u64, answer: Length) {
-    wordio::inner::number(k);
+    lines::inner::number(k);
     match answer {
-        Length::Accepted(n) => wordio::inner::named(b"held", n as u64),
-        Length::Refused(n) => wordio::inner::named(b"refused", n as u64),
+        Length::Accepted(n) => lines::inner::named(b"held", n as u64),
+        Length::Refused(n) => lines::inner::named(b"refused", n as u64),
     }
-    wordio::inner::text(b"\n");
+    lines::inner::text(b"\n");
 }
 
 // The held words of a table that was read, in a buffer of the room that is asked for.
 fn ask_words(k: u64, table: &[u32], out: &mut [u32]) {
-    let stream = wordio::inner::word() as usize;
-    let bit = wordio::inner::word();
-    let room = wordio::inner::word() as usize;
+    let stream = lines::inner::word() as usize;
+    let bit = lines::inner::word();
+    let room = lines::inner::word() as usize;
     if out.len() < room {
         return;
     }
-    wordio::inner::pattern(&mut out[0..room]);
+    lines::inner::pattern(&mut out[0..room]);
     show_copied(k, panel::held_words(table, stream, bit, &mut out[0..room]));
-    wordio::inner::text(b"  words");
-    wordio::inner::list(&out[0..room]);
-    wordio::inner::text(b"\n");
+    lines::inner::text(b"  words");
+    lines::inner::list(&out[0..room]);
+    lines::inner::text(b"\n");
 }
 
 // The line of a half in the sweep: the three readings of its table.
 fn show_half(h: u32, table: &[u32; 89]) {
-    wordio::inner::number(h as u64);
+    lines::inner::number(h as u64);
     show(panel::reading(table, 0, 24));
     show(panel::reading(table, 0, 23));
     show(panel::reading(table, 0, 18));
-    wordio::inner::text(b"\n");
+    lines::inner::text(b"\n");
 }
 
 // Every half as a level and a temperature, and as the first stage of a gain beside another half. The table has one stream, 7, which holds fields 24, 23 and 18.
 fn sweep(k: u64) {
-    wordio::inner::number(k);
-    wordio::inner::text(b" sweep\n");
+    lines::inner::number(k);
+    lines::inner::text(b" sweep\n");
     let mut table = [0u32; 89];
     table[0] = 1;
     table[1] = 7;
@@ -111,11 +111,11 @@ fn sweep(k: u64) {
 
 // A case that asks something of a table: reads the table first.
 fn ask(k: u64, asked: u32, table: &mut [u32], out: &mut [u32]) {
-    let n = wordio::inner::word() as usize;
+    let n = lines::inner::word() as usize;
     if table.len() < n {
         return;
     }
-    wordio::inner::fill(&mut table[0..n]);
+    lines::inner::fill(&mut table[0..n]);
     if asked == 1 {
         ask_reading(k, &table[0..n]);
     } else {
@@ -125,8 +125,8 @@ fn ask(k: u64, asked: u32, table: &mut [u32], out: &mut [u32]) {
 
 // Case k; whether there was one.
 fn one_case(k: u64, table: &mut [u32], out: &mut [u32]) -> bool {
-    let next = wordio::inner::next_word();
-    let wordio::inner::Input::Word(asked) = next else {
+    let next = lines::inner::next_word();
+    let lines::inner::Input::Word(asked) = next else {
         return false;
     };
     if asked == 3 {

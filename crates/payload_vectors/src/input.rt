@@ -5,7 +5,7 @@ ghost use Rattle.words.specs.Kit.{_≡_, _≤_, length};
 pub fn count() -> usize
     ensures { λ r. ⌜ r ≤ 4096 ⌝ }
 {
-    let n = wordio::inner::word();
+    let n = lines::inner::word();
     if n <= 4096 {
         return n as usize;
     }
@@ -20,7 +20,7 @@ pub fn read_words(n: usize) -> [u32; 4096]
     let mut out = [0u32; 4096];
     let mut k = 0;
     while k < n {
-        out[k] = wordio::inner::word();
+        out[k] = lines::inner::word();
         k += 1;
     }
     out
@@ -34,8 +34,8 @@ pub fn read_items(n: usize) -> [u64; 4096]
     let mut out = [0u64; 4096];
     let mut k = 0;
     while k < n {
-        let high = wordio::inner::word();
-        out[k] = words::inner::high_first(high, wordio::inner::word());
+        let high = lines::inner::word();
+        out[k] = words::inner::high_first(high, lines::inner::word());
         k += 1;
     }
     out
@@ -49,7 +49,7 @@ pub fn read_events(n: usize) -> [u8; 4096]
     let mut out = [0u8; 4096];
     let mut k = 0;
     while k < n {
-        out[k] = (wordio::inner::word() % 0x100) as u8;
+        out[k] = (lines::inner::word() % 0x100) as u8;
         k += 1;
     }
     out
@@ -63,7 +63,7 @@ pub fn read_channels(n: usize) -> [u16; 4096]
     let mut out = [0u16; 4096];
     let mut k = 0;
     while k < n {
-        out[k] = (wordio::inner::word() % 0x1_0000) as u16;
+        out[k] = (lines::inner::word() % 0x1_0000) as u16;
         k += 1;
     }
     out

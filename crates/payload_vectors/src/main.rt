@@ -23,9 +23,9 @@ use words::Length;
 
 // Op 1: first, second, n, the room of each buffer, m, then m words.
 fn unpack_case(k: u64) {
-    let first = wordio::inner::word();
-    let second = wordio::inner::word();
-    let n = wordio::inner::word() as usize;
+    let first = lines::inner::word();
+    let second = lines::inner::word();
+    let n = lines::inner::word() as usize;
     let room_items = count();
     let room_events = count();
     let room_channels = count();
@@ -54,8 +54,8 @@ fn unpack_case(k: u64) {
 
 // Op 2: first, second, how many items, event tags and channel tags, the room, then the three lists.
 fn pack_case(k: u64) {
-    let first = wordio::inner::word();
-    let second = wordio::inner::word();
+    let first = lines::inner::word();
+    let second = lines::inner::word();
     let ni = count();
     let ne = count();
     let nc = count();
@@ -81,9 +81,9 @@ fn pack_case(k: u64) {
 
 // Op 3: width, and the item as two words, high first.
 fn signed_case(k: u64) {
-    let width = wordio::inner::word();
-    let high = wordio::inner::word();
-    let low = wordio::inner::word();
+    let width = lines::inner::word();
+    let high = lines::inner::word();
+    let low = lines::inner::word();
     let r = payload_format::signed(width, words::inner::high_first(high, low));
     match r {
         Shown::Value(v) => print_signed(k, v),
@@ -93,9 +93,9 @@ fn signed_case(k: u64) {
 
 // Op 4: first, second, n.
 fn needed_case(k: u64) {
-    let first = wordio::inner::word();
-    let second = wordio::inner::word();
-    let n = wordio::inner::word() as usize;
+    let first = lines::inner::word();
+    let second = lines::inner::word();
+    let n = lines::inner::word() as usize;
     let r = payload_format::words_needed(first, second, n);
     match r {
         Length::Accepted(w) => print_accepted(k, b" words ", w as u64),
@@ -120,8 +120,8 @@ fn run_case(op: u32, k: u64) {
 fn main() {
     let mut k: u64 = 0;
     while k < 0x1_0000_0000 {
-        let got = wordio::inner::next_word();
-        let wordio::inner::Input::Word(op) = got else {
+        let got = lines::inner::next_word();
+        let lines::inner::Input::Word(op) = got else {
             return;
         };
         run_case(op, k);

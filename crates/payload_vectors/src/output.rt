@@ -31,10 +31,10 @@ pub fn blank_words() -> [u32; 4096]
 
 // The case's number, a text and a number, as a line.
 pub fn print_accepted(k: u64, text: &[u8], n: u64) {
-    wordio::inner::number(k);
-    wordio::inner::text(text);
-    wordio::inner::number(n);
-    wordio::inner::text(b"\n");
+    lines::inner::number(k);
+    lines::inner::text(text);
+    lines::inner::number(n);
+    lines::inner::text(b"\n");
 }
 
 // The case's number and the number of its refusal, as a line.
@@ -44,16 +44,16 @@ pub fn print_refused(k: u64, e: u32) {
 
 // The case's number and its signed value, as a line.
 pub fn print_signed(k: u64, v: i64) {
-    wordio::inner::number(k);
-    wordio::inner::text(b" value ");
-    wordio::inner::signed(v);
-    wordio::inner::text(b"\n");
+    lines::inner::number(k);
+    lines::inner::text(b" value ");
+    lines::inner::signed(v);
+    lines::inner::text(b"\n");
 }
 
 // A number, after a space.
 fn print_number(n: u64) {
-    wordio::inner::text(b" ");
-    wordio::inner::number(n);
+    lines::inner::text(b" ");
+    lines::inner::number(n);
 }
 
 // An event tag as a wider number.
@@ -75,50 +75,50 @@ fn of_word(x: u32) -> u64 {
 pub fn print_items(n: usize, items: &[u64; 4096])
     requires { ⌜ n ≤ 4096 ⌝ }
 {
-    wordio::inner::text(b"  items");
+    lines::inner::text(b"  items");
     let mut k = 0;
     while k < n {
         print_number(items[k]);
         k += 1;
     }
-    wordio::inner::text(b"\n");
+    lines::inner::text(b"\n");
 }
 
 // The first n event tags, as a line.
 pub fn print_events(n: usize, events: &[u8; 4096])
     requires { ⌜ n ≤ 4096 ⌝ }
 {
-    wordio::inner::text(b"  events");
+    lines::inner::text(b"  events");
     let mut k = 0;
     while k < n {
         print_number(of_event(events[k]));
         k += 1;
     }
-    wordio::inner::text(b"\n");
+    lines::inner::text(b"\n");
 }
 
 // The first n channel tags, as a line.
 pub fn print_channels(n: usize, channels: &[u16; 4096])
     requires { ⌜ n ≤ 4096 ⌝ }
 {
-    wordio::inner::text(b"  channels");
+    lines::inner::text(b"  channels");
     let mut k = 0;
     while k < n {
         print_number(of_channel(channels[k]));
         k += 1;
     }
-    wordio::inner::text(b"\n");
+    lines::inner::text(b"\n");
 }
 
 // The first n words, as a line.
 pub fn print_words(n: usize, words: &[u32; 4096])
     requires { ⌜ n ≤ 4096 ⌝ }
 {
-    wordio::inner::text(b"  words");
+    lines::inner::text(b"  words");
     let mut k = 0;
     while k < n {
         print_number(of_word(words[k]));
         k += 1;
     }
-    wordio::inner::text(b"\n");
+    lines::inner::text(b"\n");
 }

@@ -7,7 +7,7 @@ use Rattle.words.specs.Outcome.{Outcome, refused, accepted, Done, saidOf, leftO
 use Rattle.words.specs.Refusals.{firstGiven}
 use Rattle.packet.specs.Header.{sizeOf}
 use Rattle.play.specs.declared.Heard.{Heard}
-use Rattle.play.specs.declared.inner.Happened.{Happened}
+use Rattle.play.specs.declared.step.Happened.{Happened}
 use Rattle.play.specs.declared.run.Entry.{Entry}
 use Rattle.play.specs.declared.run.Reached.{Reached}
 use Rattle.play.specs.declared.run.Ran.{Ran}

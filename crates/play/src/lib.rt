@@ -2,6 +2,7 @@
 mod entries;
 pub mod inner;
 mod run;
+mod step;
 mod streams;
 
 pub use run::Ran;

@@ -8,9 +8,9 @@ fn show_table(table: &[u32], length: usize) {
     if table.len() < length {
         return;
     }
-    wordio::inner::text(b"  table");
-    wordio::inner::list(&table[0..length]);
-    wordio::inner::text(b"\n");
+    lines::inner::text(b"  table");
+    lines::inner::list(&table[0..length]);
+    lines::inner::text(b"\n");
 }
 
 // The line of the words past a place: their sum, modulo 2^32.
@@ -18,25 +18,25 @@ fn show_past(table: &[u32], from: usize) {
     if table.len() < from {
         return;
     }
-    wordio::inner::text(b"  past ");
-    wordio::inner::number(wordio::inner::sum_of(&table[from..]) as u64);
-    wordio::inner::text(b"\n");
+    lines::inner::text(b"  past ");
+    lines::inner::number(lines::inner::sum_of(&table[from..]) as u64);
+    lines::inner::text(b"\n");
 }
 
 // The line of packet j.
 fn show_played(j: u64, answer: Played) {
-    wordio::inner::text(b"  ");
-    wordio::inner::number(j);
+    lines::inner::text(b"  ");
+    lines::inner::number(j);
     match answer {
         Played::Accepted(h) => {
-            wordio::inner::named(b"type", h.kind as u64);
-            wordio::inner::named(b"stream", h.stream as u64);
-            wordio::inner::named(b"missing", h.missing as u64);
-            wordio::inner::named(b"size", h.size as u64);
+            lines::inner::named(b"type", h.kind as u64);
+            lines::inner::named(b"stream", h.stream as u64);
+            lines::inner::named(b"missing", h.missing as u64);
+            lines::inner::named(b"size", h.size as u64);
         }
-        Played::Refused(n) => wordio::inner::named(b"refused", n as u64),
+        Played::Refused(n) => lines::inner::named(b"refused", n as u64),
     }
-    wordio::inner::text(b"\n");
+    lines::inner::text(b"\n");
 }
 
 // Stores a word at a place, where there is one.
@@ -50,19 +50,19 @@ fn store_one(table: &mut [u32], at: usize, w: u32) {
 fn store(table: &mut [u32], stores: u32) {
     let mut i = 0;
     while i < stores {
-        let at = wordio::inner::word() as usize;
-        store_one(table, at, wordio::inner::word());
+        let at = lines::inner::word() as usize;
+        store_one(table, at, lines::inner::word());
         i += 1;
     }
 }
 
 // Plays the next packet of the input.
 fn play_next(j: u64, table: &mut [u32], words: &mut [u32]) {
-    let n = wordio::inner::word() as usize;
+    let n = lines::inner::word() as usize;
     if words.len() < n {
         return;
     }
-    wordio::inner::fill(&mut words[0..n]);
+    lines::inner::fill(&mut words[0..n]);
     show_played(j, play::play(table, &words[0..n]));
 }
 
@@ -79,7 +79,7 @@ fn play_all(table: &mut [u32], words: &mut [u32], packets: u32) {
 fn skip(n: u32) {
     let mut i = 0;
     while i < n {
-        wordio::inner::word();
+        lines::inner::word();
         i += 1;
     }
 }
@@ -88,41 +88,41 @@ fn skip(n: u32) {
 fn skip_packets(packets: u32) {
     let mut j = 0;
     while j < packets {
-        skip(wordio::inner::word());
+        skip(lines::inner::word());
         j += 1;
     }
 }
 
 // A recording whose table was started: stores, packets, and the table afterwards.
 fn play_recording(length: usize, table: &mut [u32], words: &mut [u32]) {
-    wordio::inner::named(b"started", length as u64);
-    wordio::inner::text(b"\n");
-    store(table, wordio::inner::word());
-    play_all(table, words, wordio::inner::word());
+    lines::inner::named(b"started", length as u64);
+    lines::inner::text(b"\n");
+    store(table, lines::inner::word());
+    play_all(table, words, lines::inner::word());
     show_table(table, length);
     show_past(table, length);
 }
 
 // A recording whose table was refused.
 fn pass_over(n: u32, table: &[u32]) {
-    wordio::inner::named(b"refused", n as u64);
-    wordio::inner::text(b"\n");
+    lines::inner::named(b"refused", n as u64);
+    lines::inner::text(b"\n");
     show_past(table, 0);
-    let stores = wordio::inner::word();
+    let stores = lines::inner::word();
     if stores < 0x8000_0000 {
         skip(2 * stores);
     }
-    skip_packets(wordio::inner::word());
+    skip_packets(lines::inner::word());
 }
 
 // Starts a table for the next identifiers of the input, and plays the recording.
 fn recording(table: &mut [u32], ids: &mut [u32], words: &mut [u32]) {
-    let n = wordio::inner::word() as usize;
+    let n = lines::inner::word() as usize;
     if ids.len() < n {
         return;
     }
-    wordio::inner::fill(&mut ids[0..n]);
-    wordio::inner::pattern(table);
+    lines::inner::fill(&mut ids[0..n]);
+    lines::inner::pattern(table);
     match table::start(&ids[0..n], table) {
         Length::Accepted(length) => play_recording(length, table, words),
         Length::Refused(number) => pass_over(number, table),
@@ -131,15 +131,15 @@ fn recording(table: &mut [u32], ids: &mut [u32], words: &mut [u32]) {
 
 // Plays recording k; whether there was one.
 fn one_case(k: u64, table: &mut [u32], ids: &mut [u32], words: &mut [u32]) -> bool {
-    let next = wordio::inner::next_word();
-    let wordio::inner::Input::Word(w) = next else {
+    let next = lines::inner::next_word();
+    let lines::inner::Input::Word(w) = next else {
         return false;
     };
     let room = w as usize;
     if table.len() < room {
         return false;
     }
-    wordio::inner::number(k);
+    lines::inner::number(k);
     recording(&mut table[0..room], ids, words);
     true
 }

@@ -9,11 +9,11 @@ fn show_field(body: &[u32], bit: u32) {
     let fields::Found::At(at, n) = found else {
         return;
     };
-    wordio::inner::text(b"  field ");
-    wordio::inner::number(bit as u64);
-    wordio::inner::named(b"at", at as u64);
-    wordio::inner::named(b"words", n as u64);
-    wordio::inner::text(b"\n");
+    lines::inner::text(b"  field ");
+    lines::inner::number(bit as u64);
+    lines::inner::named(b"at", at as u64);
+    lines::inner::named(b"words", n as u64);
+    lines::inner::text(b"\n");
 }
 
 // The lines of a type 4 body's fields, highest bit first.
@@ -29,7 +29,7 @@ fn show_fields(body: &[u32]) {
 fn show_packet(p: Packet, words: &[u32])
     requires { ⌜ p .place + p .length ≤ length (now words) ⌝ }
 {
-    packet_lines::inner::show(p);
+    lines::inner::show_packet(p);
     let parts = p.parts;
     let body = p.place;
     let end = body + p.length;
@@ -40,28 +40,28 @@ fn show_packet(p: Packet, words: &[u32])
 
 // The lines of case k.
 fn show(k: u64, words: &[u32]) {
-    wordio::inner::number(k);
+    lines::inner::number(k);
     let answer = packet::read(words);
     match answer {
         Parsed::Accepted(p) => show_packet(p, words),
         Parsed::Refused(n) => {
-            wordio::inner::named(b"refused", n as u64);
-            wordio::inner::text(b"\n");
+            lines::inner::named(b"refused", n as u64);
+            lines::inner::text(b"\n");
         }
     }
 }
 
 // Reads case k into the buffer and writes its lines; whether there was one.
 fn one_case(k: u64, buffer: &mut [u32]) -> bool {
-    let next = wordio::inner::next_word();
-    let wordio::inner::Input::Word(w) = next else {
+    let next = lines::inner::next_word();
+    let lines::inner::Input::Word(w) = next else {
         return false;
     };
     let n = w as usize;
     if buffer.len() < n {
         return false;
     }
-    let whole = wordio::inner::fill(&mut buffer[0..n]);
+    let whole = lines::inner::fill(&mut buffer[0..n]);
     if whole {
         show(k, &buffer[0..n]);
     }

@@ -1,6 +1,7 @@
 // The table of streams: a fresh one, and whether one is well made.
 mod identifiers;
 pub mod inner;
+mod layout;
 mod records;
 
 ghost use mathlib.Core.Path.{_≡_};
@@ -17,7 +18,7 @@ pub fn start(ids: &[u32], table: &mut [u32]) -> words::Length
     if !identifiers::list_good(ids, 0, 1, n) {
         return words::Length::Refused(words::LIST);
     }
-    let length = inner::layout_words(n);
+    let length = layout::layout_words(n);
     if table.len() < length {
         return words::Length::Refused(words::ROOM);
     }
@@ -30,8 +31,8 @@ pub fn start(ids: &[u32], table: &mut [u32]) -> words::Length
 pub fn well_made(table: &[u32]) -> bool
     ensures { λ r. ⌜ r ≡ wellMade (now (table .entry)) ⌝ }
 {
-    let n = inner::streams(table);
-    if table.len() < inner::layout_words(n) {
+    let n = layout::streams(table);
+    if table.len() < layout::layout_words(n) {
         return false;
     }
     if !identifiers::list_good(table, 1, record::inner::RECORD_WORDS, n) {

@@ -12,7 +12,7 @@ fn write_record(table: &mut [u32], s: usize, identifier: u32)
 {
     let mut rec = [0u32; record::inner::RECORD_WORDS];
     rec[0] = identifier;
-    let at = crate::inner::record_at(s);
+    let at = crate::layout::record_at(s);
     words::inner::copy_part(table, at, &rec, 0, record::inner::RECORD_WORDS);
 }
 
@@ -33,7 +33,7 @@ fn record_good_at(table: &[u32], s: usize) -> bool
     requires { ⌜ (s < 32) × Has s (now table) ⌝ }
     ensures { λ r. ⌜ r ≡ recordGoodAt (now (table .entry)) s ⌝ }
 {
-    let at = crate::inner::record_at(s);
+    let at = crate::layout::record_at(s);
     let end = at + record::inner::RECORD_WORDS;
     record::inner::record_good(&table[at..end])
 }

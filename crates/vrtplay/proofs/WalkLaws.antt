@@ -15,7 +15,7 @@ use Rattle.words.specs.declared.Length.the-variants.{Accepted}
 use Rattle.table.specs.Well.{wellMade}
 use Rattle.table.specs.Start.{startOf}
 use Rattle.table.proofs.StartLaws.{start-well-made}
-use Rattle.play.specs.declared.inner.Happened.{Happened}
+use Rattle.play.specs.declared.step.Happened.{Happened}
 use Rattle.play.specs.Play.{stepOf}
 use Rattle.play.specs.Run.{goesOn, saidAt, leftAt, nextOf, Stepped}
 use Rattle.play.proofs.PlayLaws.{step-read, play-step}

@@ -12,32 +12,27 @@ fn words_of(words: &mut [u32], bytes: &[u8])
     let mut i = 0;
     while i < words.len() {
         let at = 4 * i;
-        words[i] = wordio::inner::big_endian(
-            bytes[at],
-            bytes[at + 1],
-            bytes[at + 2],
-            bytes[at + 3],
-        );
+        words[i] = lines::inner::big_endian(bytes[at], bytes[at + 1], bytes[at + 2], bytes[at + 3]);
         i += 1;
     }
 }
 
 // The line of a refusal at a place.
 fn show_refused(at: usize, n: u32) {
-    wordio::inner::text(b"at ");
-    wordio::inner::number(at as u64);
-    wordio::inner::named(b"refused", n as u64);
-    wordio::inner::text(b"\n");
+    lines::inner::text(b"at ");
+    lines::inner::number(at as u64);
+    lines::inner::named(b"refused", n as u64);
+    lines::inner::text(b"\n");
 }
 
 // The line of a packet that was played.
 fn show_heard(at: usize, h: play::Heard) {
-    wordio::inner::text(b"at ");
-    wordio::inner::number(at as u64);
-    wordio::inner::named(b"type", h.kind as u64);
-    wordio::inner::named(b"stream", h.stream as u64);
-    wordio::inner::named(b"missing", h.missing as u64);
-    wordio::inner::text(b"\n");
+    lines::inner::text(b"at ");
+    lines::inner::number(at as u64);
+    lines::inner::named(b"type", h.kind as u64);
+    lines::inner::named(b"stream", h.stream as u64);
+    lines::inner::named(b"missing", h.missing as u64);
+    lines::inner::text(b"\n");
 }
 
 // The line of the packet at a place.
@@ -50,10 +45,10 @@ fn show_played(at: usize, answer: Played) {
 
 // The last line: the stopping place, and the bytes modulo 4.
 fn show_end(at: usize, tail: usize) {
-    wordio::inner::text(b"end ");
-    wordio::inner::number(at as u64);
-    wordio::inner::named(b"tail", tail as u64);
-    wordio::inner::text(b"\n");
+    lines::inner::text(b"end ");
+    lines::inner::number(at as u64);
+    lines::inner::named(b"tail", tail as u64);
+    lines::inner::text(b"\n");
 }
 
 // Walks the packets from a place on, on a table that is well made. Gives the place where the walk stops.

@@ -8,26 +8,26 @@ use words::Length;
 // The line of a buffer: its words where they are few, and else their sum.
 fn show_buffer(words: &[u32]) {
     if words.len() <= 300 {
-        wordio::inner::text(b"  words");
-        wordio::inner::list(words);
+        lines::inner::text(b"  words");
+        lines::inner::list(words);
     } else {
-        wordio::inner::text(b"  sum ");
-        wordio::inner::number(wordio::inner::sum_of(words) as u64);
+        lines::inner::text(b"  sum ");
+        lines::inner::number(lines::inner::sum_of(words) as u64);
     }
-    wordio::inner::text(b"\n");
+    lines::inner::text(b"\n");
 }
 
 // The line of what was answered; whether it was accepted.
 fn show_written(answer: Length) -> bool {
     match answer {
         Length::Accepted(n) => {
-            wordio::inner::named(b"wrote", n as u64);
-            wordio::inner::text(b"\n");
+            lines::inner::named(b"wrote", n as u64);
+            lines::inner::text(b"\n");
             true
         }
         Length::Refused(n) => {
-            wordio::inner::named(b"refused", n as u64);
-            wordio::inner::text(b"\n");
+            lines::inner::named(b"refused", n as u64);
+            lines::inner::text(b"\n");
             false
         }
     }
@@ -35,21 +35,21 @@ fn show_written(answer: Length) -> bool {
 
 // The parts of the next case.
 fn next_parts() -> Parts {
-    let kind = wordio::inner::word();
-    let classed = wordio::inner::word() != 0;
-    let trailed = wordio::inner::word() != 0;
-    let tsm = wordio::inner::word() != 0;
-    let tsi = wordio::inner::word();
-    let tsf = wordio::inner::word();
-    let count = wordio::inner::word();
-    let identifier = wordio::inner::word();
-    let oui = wordio::inner::word();
-    let information = wordio::inner::word();
-    let code = wordio::inner::word();
-    let seconds = wordio::inner::word();
-    let high = wordio::inner::word();
-    let low = wordio::inner::word();
-    let trailer = wordio::inner::word();
+    let kind = lines::inner::word();
+    let classed = lines::inner::word() != 0;
+    let trailed = lines::inner::word() != 0;
+    let tsm = lines::inner::word() != 0;
+    let tsi = lines::inner::word();
+    let tsf = lines::inner::word();
+    let count = lines::inner::word();
+    let identifier = lines::inner::word();
+    let oui = lines::inner::word();
+    let information = lines::inner::word();
+    let code = lines::inner::word();
+    let seconds = lines::inner::word();
+    let high = lines::inner::word();
+    let low = lines::inner::word();
+    let trailer = lines::inner::word();
     Parts {
         kind,
         classed,
@@ -70,7 +70,7 @@ fn next_parts() -> Parts {
 
 // Writes some parts and a body at a place of a buffer, and shows the answer and the buffer; whether it was accepted.
 fn write(parts: Parts, body: &[u32], out: &mut [u32], at: usize) -> bool {
-    wordio::inner::pattern(out);
+    lines::inner::pattern(out);
     let written = show_written(packet_write::write(parts, body, out, at));
     show_buffer(out);
     written
@@ -83,24 +83,24 @@ fn show_again(words: &[u32], at: usize) {
     }
     let answer = packet::read(&words[at..]);
     if let Parsed::Accepted(p) = answer {
-        wordio::inner::text(b" ");
-        packet_lines::inner::show(p);
+        lines::inner::text(b" ");
+        lines::inner::show_packet(p);
     }
 }
 
 // A case that writes.
 fn write_case(body: &mut [u32], out: &mut [u32]) {
     let parts = next_parts();
-    let at = wordio::inner::word() as usize;
-    let room = wordio::inner::word() as usize;
-    let n = wordio::inner::word() as usize;
+    let at = lines::inner::word() as usize;
+    let room = lines::inner::word() as usize;
+    let n = lines::inner::word() as usize;
     if body.len() < n {
         return;
     }
     if out.len() < room {
         return;
     }
-    wordio::inner::fill(&mut body[0..n]);
+    lines::inner::fill(&mut body[0..n]);
     write(parts, &body[0..n], &mut out[0..room], at);
 }
 
@@ -108,8 +108,8 @@ fn write_case(body: &mut [u32], out: &mut [u32]) {
 fn write_again(answer: Parsed, words: &[u32], out: &mut [u32], at: usize) {
     match answer {
         Parsed::Refused(n) => {
-            wordio::inner::named(b"refused", n as u64);
-            wordio::inner::text(b"\n");
+            lines::inner::named(b"refused", n as u64);
+            lines::inner::text(b"\n");
         }
         Parsed::Accepted(p) => {
             let body = p.place;
@@ -130,41 +130,41 @@ fn write_again(answer: Parsed, words: &[u32], out: &mut [u32], at: usize) {
 
 // A case that reads, writes again and reads again.
 fn again_case(words: &mut [u32], out: &mut [u32]) {
-    let at = wordio::inner::word() as usize;
-    let room = wordio::inner::word() as usize;
-    let n = wordio::inner::word() as usize;
+    let at = lines::inner::word() as usize;
+    let room = lines::inner::word() as usize;
+    let n = lines::inner::word() as usize;
     if words.len() < n {
         return;
     }
     if out.len() < room {
         return;
     }
-    wordio::inner::fill(&mut words[0..n]);
+    lines::inner::fill(&mut words[0..n]);
     let given = &words[0..n];
     write_again(packet::read(given), given, &mut out[0..room], at);
 }
 
 // A case that makes a trailer word.
 fn trailer_case() {
-    let enables = wordio::inner::word();
-    let indicators = wordio::inner::word();
-    let e = wordio::inner::word();
-    let associated = wordio::inner::word();
+    let enables = lines::inner::word();
+    let indicators = lines::inner::word();
+    let e = lines::inner::word();
+    let associated = lines::inner::word();
     let answer = packet_trailer::trailer_word(enables, indicators, e, associated);
     match answer {
-        TrailerWord::Accepted(w) => wordio::inner::named(b"trailer", w as u64),
-        TrailerWord::Refused(n) => wordio::inner::named(b"refused", n as u64),
+        TrailerWord::Accepted(w) => lines::inner::named(b"trailer", w as u64),
+        TrailerWord::Refused(n) => lines::inner::named(b"refused", n as u64),
     }
-    wordio::inner::text(b"\n");
+    lines::inner::text(b"\n");
 }
 
 // Runs case k; whether there was one.
 fn one_case(k: u64, words: &mut [u32], out: &mut [u32]) -> bool {
-    let next = wordio::inner::next_word();
-    let wordio::inner::Input::Word(op) = next else {
+    let next = lines::inner::next_word();
+    let lines::inner::Input::Word(op) = next else {
         return false;
     };
-    wordio::inner::number(k);
+    lines::inner::number(k);
     if op == 1 {
         write_case(words, out);
     } else if op == 2 {

@@ -2,8 +2,8 @@
 use Prim.Native.Nat.{_-_, _≤_}
 use lib.ListN.{length}
 use borrow.Author.Needs.{needs}
-use Rattle.wordio.proofs.inner.sum_of.Statement.{statement}
-use Rattle.wordio.proofs.inner.sum_of.Tie as tie
+use Rattle.lines.proofs.sums.sum_of.Statement.{statement}
+use Rattle.lines.proofs.sums.sum_of.Tie as tie
 
 abbrev Inv-loop : tie.InvT-loop
 Inv-loop words sum₀ i₀ sum i = i ≤ length words

@@ -1,9 +1,9 @@
 -- `signed` is safe: no cast of a magnitude loses a bit (`flipped`, `sign-kept`).
 use native.Mathlib.Omega.{arith}
-use Rattle.wordio.proofs.MagnitudeLaws.{flipped, sign-kept}
+use Rattle.lines.proofs.MagnitudeLaws.{flipped, sign-kept}
 use borrow.Author.Needs.{needs}
-use Rattle.wordio.proofs.inner.signed.Statement.{statement}
-use Rattle.wordio.proofs.inner.signed.Tie as tie
+use Rattle.lines.proofs.output.signed.Statement.{statement}
+use Rattle.lines.proofs.output.signed.Tie as tie
 
 cast-number : tie.Need-cast-number
 cast-number c = let m = flipped (c .before .before .before .args .v) (c .before .before .before .fits .v) (c .before .before .if1 .taken) in

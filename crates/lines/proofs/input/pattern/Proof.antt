@@ -3,8 +3,8 @@ use mathlib.Core.Path.{_≡_}
 use Prim.Native.Nat.{_-_}
 use lib.ListN.{length}
 use borrow.Author.Needs.{needs}
-use Rattle.wordio.proofs.inner.pattern.Statement.{statement}
-use Rattle.wordio.proofs.inner.pattern.Tie as tie
+use Rattle.lines.proofs.input.pattern.Statement.{statement}
+use Rattle.lines.proofs.input.pattern.Tie as tie
 
 abbrev Inv-loop : tie.InvT-loop
 Inv-loop buffer₀ i₀ buffer i = length buffer ≡ length buffer₀

@@ -2,8 +2,8 @@
 use Prim.Native.Nat.{_-_, _≤_}
 use lib.ListN.{length}
 use borrow.Author.Needs.{needs}
-use Rattle.wordio.proofs.inner.list.Statement.{statement}
-use Rattle.wordio.proofs.inner.list.Tie as tie
+use Rattle.lines.proofs.output.list.Statement.{statement}
+use Rattle.lines.proofs.output.list.Tie as tie
 
 abbrev Inv-loop : tie.InvT-loop
 Inv-loop words i₀ t3 i = i ≤ length words

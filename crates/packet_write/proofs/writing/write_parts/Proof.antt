@@ -14,8 +14,8 @@ use Rattle.packet_write.specs.Write.{headerWord, sizeFor, packetWords, p
 use Rattle.packet_write.specs.inner.Given.{partsIn, contentChecks}
 use Rattle.packet_write.proofs.FitLaws.{parts-fit, parts-passed, write-groups, nothing-found}
 use Rattle.packet_write.proofs.HeaderLaws.{type-is}
-use Rattle.packet_write.proofs.inner.write_parts.Statement.{statement}
-use Rattle.packet_write.proofs.inner.write_parts.Tie as tie
+use Rattle.packet_write.proofs.writing.write_parts.Statement.{statement}
+use Rattle.packet_write.proofs.writing.write_parts.Tie as tie
 
 module _ (p : Parts) (found : Check) (f : checked found ≡ partsChecks p) where
   parts-pass : found ≡ Check.Fine → partsChecks p ≡ accepted tt

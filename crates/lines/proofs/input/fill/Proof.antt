@@ -3,8 +3,8 @@ use mathlib.Core.Path.{_≡_}
 use Prim.Native.Nat.{_-_}
 use lib.ListN.{length}
 use borrow.Author.Needs.{needs}
-use Rattle.wordio.proofs.inner.fill.Statement.{statement}
-use Rattle.wordio.proofs.inner.fill.Tie as tie
+use Rattle.lines.proofs.input.fill.Statement.{statement}
+use Rattle.lines.proofs.input.fill.Tie as tie
 
 abbrev Inv-loop : tie.InvT-loop
 Inv-loop words₀ i₀ words i = length words ≡ length words₀

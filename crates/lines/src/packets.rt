@@ -1,0 +1,56 @@
+// The values of a packet, as lines of names and numbers.
+use crate::output::named;
+use crate::output::named_flag;
+use crate::output::text;
+use packet::Packet;
+use packet::Parts;
+
+// The line of the header's values.
+fn show_header(p: Parts, size: usize) {
+    named(b"type", p.kind as u64);
+    named_flag(b"class", p.classed);
+    named_flag(b"trailer", p.trailed);
+    named_flag(b"tsm", p.tsm);
+    named(b"tsi", p.tsi as u64);
+    named(b"tsf", p.tsf as u64);
+    named(b"count", p.count as u64);
+    named(b"size", size as u64);
+    text(b"\n");
+}
+
+// The line of the prologue, the body's place and the trailer word.
+fn show_prologue(p: Parts, body: usize, length: usize) {
+    text(b" ");
+    named(b"identifier", p.identifier as u64);
+    named(b"oui", p.oui as u64);
+    named(b"information", p.information as u64);
+    named(b"packet", p.code as u64);
+    named(b"seconds", p.seconds as u64);
+    named(b"fraction", p.fraction);
+    named(b"body", body as u64);
+    named(b"length", length as u64);
+    named(b"word", p.trailer as u64);
+    text(b"\n");
+}
+
+// The line of a trailer's parts.
+fn show_trailer(word: u32) {
+    let t = packet_trailer::trailer_parts(word);
+    text(b"  trailer");
+    named(b"enables", t.enables as u64);
+    named(b"indicators", t.indicators as u64);
+    named_flag(b"e", t.e);
+    named(b"associated", t.associated as u64);
+    text(b"\n");
+}
+
+// All three, where a packet has them; the first begins with ` accepted`.
+pub fn show_packet(p: Packet) {
+    let parts = p.parts;
+    text(b" accepted");
+    show_header(parts, p.size);
+    show_prologue(parts, p.place, p.length);
+    if parts.trailed {
+        show_trailer(parts.trailer);
+    }
+}

@@ -1,2 +1,0 @@
-// The lines that the programs write of an accepted packet.
-pub mod inner;
