@@ -56,8 +56,8 @@ record Computed : Type 0 where
 
 computed : Computed
 unfolding heardBy arrivalOf placeIn firstOf trailed tsmOf reservedOf streamed hasSeconds hasFraction classAt secondsAt fractionAt bodyAt requiredOf bodyLength
-    wordIf classHigh classLow fractionOf partsOf bodyOf packetOf part timeOver classBad readBy lowBitsSet otherLength ruleBroken bodyWords spanOf obeyed ruleOf wordsOf
-    fieldSize bitsOf above placeOf fieldOf
+    wordIf classHigh classLow fractionOf partsOf bodyOf packetOf part timeOver classBad readBy lowBitsSet otherLength ruleBroken bodyWords spanOf obeyed ruleOf
+    wordsOf fieldSize bitsOf above placeOf fieldOf
 computed = record {
   read3 = (_, refl, refl);
   read4 = (_, refl, refl);

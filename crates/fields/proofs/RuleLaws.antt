@@ -2,15 +2,18 @@
 -- which has a word (device has two), is the rule of its own words. A rule is a limit of the first word and what else is asked (`rule-limit`); and the
 -- fields that have one are the bits of one constant (`ruled-bit`).
 use Rattle.words.proofs.Kit.{_≡_, refl, sym, _∙_, Bool, true, false, not, ⊎-elim, List, [], _∷_, ℕ, _+_, _/_, _%_, _^_, _≤_, _<_, arith, eqb-true}
-use Rattle.words.proofs.Kit.{eq-eqb, ne-eqb, lt-ltb, le-ltb, eqb, ltb, take, drop, getD}
+use Rattle.words.proofs.Kit.{_*_, eq-eqb, ne-eqb, lt-ltb, le-ltb, eqb, ltb, take, drop, getD}
+use native.Mathlib.Nat.{mod-eq-of-lt, div-eq-of-lt, div-lt-iff-lt-mul}
+use lib.Pow.{pow-pos}
 use lib.Seq.{getD-take}
 use Rattle.words.specs.Tests.{pick, both, among}
 use Rattle.words.specs.All.{all}
 use Rattle.words.proofs.Cases.{true-or-false, le-or-lt, true-is-false, both-yes, neither, agreed}
 use Rattle.words.proofs.AllLaws.{all-at}
 use Rattle.fields.specs.Sizes.{fieldSize, wordsOf}
-use Rattle.fields.specs.Rules.{ruleOf, notNegative, upperHalfZero, deviceRule, stateRule, formatRule, asciiRule, listsRule}
-use Rattle.fields.specs.inner.Limits.{ruled, limitOf, firstOk, deviceSecond, moreOk}
+use Rattle.fields.specs.Rules.{ruleOf, notNegativeFields, upperHalfFields, notNegative, upperHalfZero}
+use Rattle.fields.specs.Rules.{deviceRule, stateRule, formatRule, asciiRule, listsRule}
+use Rattle.fields.specs.inner.Limits.{ruledFields, ruled, limitOf, firstOk, deviceSecond, moreOk}
 use Rattle.fields.proofs.PlaceLaws.{first-word, second-word}
 use Rattle.fields.proofs.SizeLaws.{size-some}
 
@@ -32,21 +35,14 @@ rule-own b ws h g =
 
 -- ---- a rule is a limit of the first word, and what else is asked
 
--- the upper bits of a word are zero where it is below their place
-pub sign-free : (u : ℕ) → u < 2 ^ 32 → eqb (u / 2 ^ 31 % 2 ^ 1) 0 ≡ ltb u (2 ^ 31)
-sign-free u h =
-    ⊎-elim (λ (g : 2 ^ 31 ≤ u). rw (ne-eqb (u / 2 ^ 31 % 2 ^ 1) 0 (λ e. omega arith), le-ltb u (2 ^ 31) g))
-    (λ (g : u < 2 ^ 31). rw (eq-eqb (u / 2 ^ 31 % 2 ^ 1) 0 (omega arith), lt-ltb u (2 ^ 31) g)) (le-or-lt (2 ^ 31) u)
-
-pub half-free : (u : ℕ) → u < 2 ^ 32 → eqb (u / 2 ^ 16 % 2 ^ 16) 0 ≡ ltb u (2 ^ 16)
-half-free u h =
-    ⊎-elim (λ (g : 2 ^ 16 ≤ u). rw (ne-eqb (u / 2 ^ 16 % 2 ^ 16) 0 (λ e. omega arith), le-ltb u (2 ^ 16) g))
-    (λ (g : u < 2 ^ 16). rw (eq-eqb (u / 2 ^ 16 % 2 ^ 16) 0 (omega arith), lt-ltb u (2 ^ 16) g)) (le-or-lt (2 ^ 16) u)
-
-pub byte-free : (u : ℕ) → u < 2 ^ 32 → eqb (u / 2 ^ 24 % 2 ^ 8) 0 ≡ ltb u (2 ^ 24)
-byte-free u h =
-    ⊎-elim (λ (g : 2 ^ 24 ≤ u). rw (ne-eqb (u / 2 ^ 24 % 2 ^ 8) 0 (λ e. omega arith), le-ltb u (2 ^ 24) g))
-    (λ (g : u < 2 ^ 24). rw (eq-eqb (u / 2 ^ 24 % 2 ^ 8) 0 (omega arith), lt-ltb u (2 ^ 24) g)) (le-or-lt (2 ^ 24) u)
+-- the bits of a word from bit k up are zero where it is below 2^k
+top-free : (k m u : ℕ) → u < 2 ^ m * 2 ^ k → eqb (u / 2 ^ k % 2 ^ m) 0 ≡ ltb u (2 ^ k)
+top-free k m u h =
+    let some : 0 < 2 ^ k = pow-pos k in
+    let below : u / 2 ^ k ≡ 0 → u < 1 * 2 ^ k = λ e. div-lt-iff-lt-mul some .0 (omega arith) in
+    rw (mod-eq-of-lt (div-lt-iff-lt-mul some .1 h))
+    (⊎-elim (λ (g : 2 ^ k ≤ u). rw (ne-eqb (u / 2 ^ k) 0 (λ e. let l = below e in omega arith), le-ltb u (2 ^ k) g))
+    (λ (g : u < 2 ^ k). rw (eq-eqb (u / 2 ^ k) 0 (div-eq-of-lt g), lt-ltb u (2 ^ k) g)) (le-or-lt (2 ^ k) u))
 
 -- no limit is below 2^16
 pub first-small : (b u : ℕ) → u < 2 ^ 16 → firstOk b u ≡ true
@@ -54,8 +50,8 @@ unfolding firstOk limitOf
 first-small b u h =
     let one : (t : Bool) (m n : ℕ) → (t ≡ true → ltb u m ≡ true) → (t ≡ false → ltb u n ≡ true) → ltb u (pick t m n) ≡ true =
     λ t m n y z. ⊎-elim (λ (p : t ≡ true). rw p (y p)) (λ (p : t ≡ false). rw p (z p)) (true-or-false t) in
-    one (among b (29 ∷ 21 ∷ [])) (2 ^ 31) _ (λ p. lt-ltb u (2 ^ 31) (omega arith))
-    (λ p. one (among b (24 ∷ 18 ∷ [])) (2 ^ 16) _ (λ q. lt-ltb u (2 ^ 16) h)
+    one (among b notNegativeFields) (2 ^ 31) _ (λ p. lt-ltb u (2 ^ 31) (omega arith))
+    (λ p. one (among b upperHalfFields) (2 ^ 16) _ (λ q. lt-ltb u (2 ^ 16) h)
     (λ q. one (among b (17 ∷ 9 ∷ [])) (2 ^ 24) (2 ^ 32) (λ r. lt-ltb u (2 ^ 24) (omega arith)) (λ r. lt-ltb u (2 ^ 32) (omega arith))))
 
 abbrev Limited : ℕ → List ℕ → Type 0
@@ -68,12 +64,12 @@ pub rule-limit : (b : ℕ) (ws : List ℕ) → getD ws 0 0 < 2 ^ 32 → ruleOf b
 unfolding ruleOf firstOk limitOf moreOk deviceSecond notNegative upperHalfZero deviceRule stateRule formatRule asciiRule listsRule
 rule-limit b ws h =
     let u : ℕ = getD ws 0 0 in
-    or-row b 29 ws (sign-free u h ∙ sym (both-yes (ltb u (2 ^ 31)))) (λ p.
-    or-row b 21 ws (sign-free u h ∙ sym (both-yes (ltb u (2 ^ 31)))) (λ q.
-    or-row b 24 ws (half-free u h ∙ sym (both-yes (ltb u (2 ^ 16)))) (λ r.
-    or-row b 18 ws (half-free u h ∙ sym (both-yes (ltb u (2 ^ 16)))) (λ s.
-    or-row b 17 ws (rw (byte-free u h)) (λ t.
-    or-row b 9 ws (byte-free u h ∙ sym (both-yes (ltb u (2 ^ 24)))) (λ v.
+    or-row b 29 ws (top-free 31 1 u h ∙ sym (both-yes (ltb u (2 ^ 31)))) (λ p.
+    or-row b 21 ws (top-free 31 1 u h ∙ sym (both-yes (ltb u (2 ^ 31)))) (λ q.
+    or-row b 24 ws (top-free 16 16 u h ∙ sym (both-yes (ltb u (2 ^ 16)))) (λ r.
+    or-row b 18 ws (top-free 16 16 u h ∙ sym (both-yes (ltb u (2 ^ 16)))) (λ s.
+    or-row b 17 ws (rw (top-free 24 8 u h)) (λ t.
+    or-row b 9 ws (top-free 24 8 u h ∙ sym (both-yes (ltb u (2 ^ 24)))) (λ v.
     rw (p, q, r, s, t, v, lt-ltb u (2 ^ 32) h)))))))
 
 -- nothing else is asked of a field above bit 17
@@ -111,11 +107,11 @@ module _ (b u at : ℕ) (body : List ℕ) (e : u ≡ getD body at 0) (below : Bo
 -- ---- the fields that have a rule, as the bits of one constant
 
 bit-right : ℕ → Bool
-bit-right b = pick (eqb (556237568 / 2 ^ b % 2) 1) (ruled b) (not (ruled b))
+bit-right b = pick (eqb (0x21278300 / 2 ^ b % 2) 1) (ruled b) (not (ruled b))
 
-pub ruled-bit : (b : ℕ) → b < 32 → eqb (556237568 / 2 ^ b % 2) 1 ≡ ruled b
+pub ruled-bit : (b : ℕ) → b < 32 → eqb (0x21278300 / 2 ^ b % 2) 1 ≡ ruled b
 unfolding bit-right all ruled
-ruled-bit b h = agreed (eqb (556237568 / 2 ^ b % 2) 1) (ruled b) (all-at bit-right 32 b h refl)
+ruled-bit b h = agreed (eqb (0x21278300 / 2 ^ b % 2) 1) (ruled b) (all-at bit-right 32 b h refl)
 
 -- what is not among some numbers is none of them
 none-of : (b n : ℕ) (xs : List ℕ) → among b xs ≡ false → among n xs ≡ true → eqb b n ≡ false
@@ -128,7 +124,7 @@ none-of b n (x ∷ xs) e m =
 module _ (b : ℕ) (ws : List ℕ) (has : Bool) (e : has ≡ ruled b) (none : has ≡ false) where
   other : (n : ℕ) → ruled n ≡ true → eqb b n ≡ false
   unfolding ruled
-  other n m = none-of b n (29 ∷ 24 ∷ 21 ∷ 18 ∷ 17 ∷ 16 ∷ 15 ∷ 9 ∷ 8 ∷ []) (sym e ∙ none) m
+  other n m = none-of b n ruledFields (sym e ∙ none) m
 
   pub unruled-past : (at n : ℕ) → n ≡ fieldSize b → at + n ≡ at + wordsOf b ws
   unfolding ruled wordsOf

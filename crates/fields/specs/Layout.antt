@@ -1,6 +1,6 @@
 -- Document 01, 'The packet': "A type 4 body begins with the indicator word. .. Fields follow from bit 30 downwards."
 -- A word past the end of a body reads as 0: a body that ends inside a field has fewer words than its fields need, whatever that field says.
-use Rattle.words.specs.Kit.{ℕ, _+_, _/_, _^_, Bool, true, not, List, [], _∷_, eqb, ltb, leb, length, take, drop, getD}
+use Rattle.words.specs.Kit.{ℕ, _+_, Bool, true, not, List, [], _∷_, eqb, ltb, leb, length, take, drop, getD}
 use Rattle.words.specs.Numbers.{INDICATOR, LAYOUT, FIELD}
 use Rattle.words.specs.Tests.{pick, both}
 use Rattle.words.specs.Word.{bits, has}
@@ -14,9 +14,9 @@ use Rattle.fields.specs.Rules.{ruleOf}
 abbrev pub carried : ℕ → List ℕ
 carried indicator = bitsOf 31 indicator
 
--- how many fields an indicator carries: the set bits of 30 to 8. Bits 7-0 have none; a body that carries one is refused
+-- how many fields an indicator carries: those above bit 7. Bits 7-0 have none; a body that carries one is refused
 unfoldable pub fieldCount : ℕ → ℕ
-fieldCount indicator = length (bitsOf 23 (indicator / 2 ^ 8))
+fieldCount indicator = length (above 7 (carried indicator))
 
 -- the words that the fields of these bits take, one after the other from the front of ws
 unfoldable pub spanOf : List ℕ → List ℕ → ℕ

@@ -5,10 +5,16 @@ use Rattle.words.specs.Word.{bits}
 use Rattle.fields.specs.Format.{formatOk}
 
 -- "bandwidth (29) and sample rate (21) are not negative": the sign is the highest bit of their two words
+abbrev pub notNegativeFields : List ℕ
+notNegativeFields = 29 ∷ 21 ∷ []
+
 unfoldable pub notNegative : List ℕ → Bool
 notNegative ws = eqb (bits 31 31 (getD ws 0 0)) 0
 
 -- "level (24) and temperature (18) have a zero upper half"
+abbrev pub upperHalfFields : List ℕ
+upperHalfFields = 24 ∷ 18 ∷ []
+
 unfoldable pub upperHalfZero : List ℕ → Bool
 upperHalfZero ws = eqb (bits 31 16 (getD ws 0 0)) 0
 
@@ -35,8 +41,8 @@ listsRule ws = both (eqb (bits 31 25 (getD ws 0 0)) 0) (eqb (bits 15 9 (getD ws 
 -- the rule of the field of bit b; "Other contents are free"
 unfoldable pub ruleOf : ℕ → List ℕ → Bool
 ruleOf b ws =
-    pick (among b (29 ∷ 21 ∷ [])) (notNegative ws)
-    (pick (among b (24 ∷ 18 ∷ [])) (upperHalfZero ws)
+    pick (among b notNegativeFields) (notNegative ws)
+    (pick (among b upperHalfFields) (upperHalfZero ws)
     (pick (eqb b 17) (deviceRule ws)
     (pick (eqb b 16) (stateRule ws)
     (pick (eqb b 15) (formatRule ws)

@@ -12,7 +12,7 @@ ghost use Rattle.words.specs.Outcome.{checked};
 pub fn field_count(indicator: u32) -> u32
     ensures { λ r. ⌜ r ≡ fieldCount indicator ⌝ }
 {
-    u32::count_ones(indicator / 256 % 0x80_0000)
+    u32::count_ones(indicator / 256 * 256 % 0x8000_0000)
 }
 
 // Whether a type 4 body is as document 01 says: INDICATOR, LAYOUT or FIELD where it is not.

@@ -22,8 +22,9 @@ module _ (free : Bool) (ws : List ℕ) where
   read-front : readBy free ws
       ≡ after (frontChecks free ws) (after (bodyChecks (typeOf (getD ws 0 0)) (bodyOf (getD ws 0 0) ws)) (accepted (packetOf (getD ws 0 0) ws)))
   unfolding readBy frontChecks bodyChecks
-  read-front = sym
-      (after-first (frontList free header ws) tt _ ∙ ap (firstGiven (frontList free header ws)) (after-first (bodyList (typeOf header) (bodyOf header ws)) tt _))
+  read-front =
+      let front = frontList free header ws in
+      sym (after-first front tt _ ∙ ap (firstGiven front) (after-first (bodyList (typeOf header) (bodyOf header ws)) tt _))
 
   pub front-refuses : (n : ℕ) → frontChecks free ws ≡ refused n → readBy free ws ≡ refused n
   front-refuses n e = rw (read-front, e)

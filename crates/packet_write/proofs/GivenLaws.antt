@@ -6,7 +6,7 @@ use native.Mathlib.Nat.{div-add-mod'}
 use lib.Dec.{lit<}
 use lib.Pow.{high, low}
 use Rattle.words.specs.Tests.{when}
-use Rattle.words.specs.Word.{join, highFirst}
+use Rattle.words.specs.Word.{join}
 use Rattle.words.specs.Outcome.{accepted}
 use Rattle.words.specs.Laid.{Laid}
 use Rattle.words.proofs.Cases.{le-or-lt}

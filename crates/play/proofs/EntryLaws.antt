@@ -6,8 +6,8 @@ use native.Mathlib.Nat.{mod-lt}
 use Rattle.words.specs.declared.Check.{Check}
 use Rattle.words.specs.declared.Check.the-variants as Check
 use Rattle.words.specs.Numbers.{STREAM}
-use Rattle.words.specs.Tests.{pick, when}
-use Rattle.words.specs.Outcome.{Outcome, refused, accepted, after, onward, numberOf, checked, Done, saidOf, Meets}
+use Rattle.words.specs.Tests.{when}
+use Rattle.words.specs.Outcome.{Outcome, refused, accepted, onward, numberOf, checked, Done, saidOf, Meets}
 use Rattle.words.specs.Refusals.{firstGiven}
 use Rattle.words.proofs.Cases.{same-or-not}
 use Rattle.words.proofs.RefusalLaws.{Numbered, number-among, first-refused}

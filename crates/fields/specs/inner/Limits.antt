@@ -1,20 +1,23 @@
 -- The field rules as the program asks them: whether a field has a rule, a limit of its first word, and what else the rule says of its first two words.
 -- That these are document 01's rules say the laws `unruled-kept` and `rule-limit` of `proofs/RuleLaws.antt`.
-use Rattle.words.specs.Kit.{ℕ, _^_, Bool, true, [], _∷_, eqb, ltb}
+use Rattle.words.specs.Kit.{ℕ, _^_, Bool, true, List, [], _∷_, _++_, eqb, ltb}
 use Rattle.words.specs.Tests.{pick, among}
 use Rattle.words.specs.Word.{bits}
 use Rattle.fields.specs.Format.{formatOk}
-use Rattle.fields.specs.Rules.{stateRule, listsRule}
+use Rattle.fields.specs.Rules.{notNegativeFields, upperHalfFields, stateRule, listsRule}
 
--- the field of bit b has a rule
+-- the fields that have a rule
+abbrev pub ruledFields : List ℕ
+ruledFields = notNegativeFields ++ upperHalfFields ++ (17 ∷ 16 ∷ 15 ∷ 9 ∷ 8 ∷ [])
+
 unfoldable pub ruled : ℕ → Bool
-ruled b = among b (29 ∷ 24 ∷ 21 ∷ 18 ∷ 17 ∷ 16 ∷ 15 ∷ 9 ∷ 8 ∷ [])
+ruled b = among b ruledFields
 
 -- what the first word of the field of bit b is below
 unfoldable pub limitOf : ℕ → ℕ
 limitOf b =
-    pick (among b (29 ∷ 21 ∷ [])) (2 ^ 31)
-    (pick (among b (24 ∷ 18 ∷ [])) (2 ^ 16)
+    pick (among b notNegativeFields) (2 ^ 31)
+    (pick (among b upperHalfFields) (2 ^ 16)
     (pick (among b (17 ∷ 9 ∷ [])) (2 ^ 24)
     (2 ^ 32)))
 

@@ -33,6 +33,6 @@ pub check-prologue-spec : {M : Type 1} → statement M
 check-prologue-spec =
     tie.close
     (tie.spec
-    (λ c κs. search needs) (λ c κs. search needs) (λ c. search class-refused) (λ c κs. search needs) (λ c. search no-fraction) (λ c κs. search needs) (λ c. search needs)
-    (λ c. search high-inside) (λ c. search needs) (λ c. search needs) (λ c. search low-inside) (λ c κs. search needs) (λ c. search time-refused)
-    (λ c. search time-fits))
+    (λ c κs. search needs) (λ c κs. search needs) (λ c. search class-refused) (λ c κs. search needs) (λ c. search no-fraction) (λ c κs. search needs)
+    (λ c. search needs) (λ c. search high-inside) (λ c. search needs) (λ c. search needs) (λ c. search low-inside) (λ c κs. search needs)
+    (λ c. search time-refused) (λ c. search time-fits))

@@ -1,5 +1,5 @@
 -- `lay_body` meets its promise. The invariant `Copying` says that the words up to the place are copied and whole blocks are left; its laws carry the turn.
-use Rattle.words.proofs.Kit.{_-_, length, arith, needs}
+use Rattle.words.proofs.Kit.{_-_, arith, needs}
 use Rattle.packet_write.proofs.LayLaws.{Copying, copying-start, block-inside, copying-turn, copying-end}
 use Rattle.packet_write.proofs.laying.lay_body.Statement.{statement}
 use Rattle.packet_write.proofs.laying.lay_body.Tie as tie
