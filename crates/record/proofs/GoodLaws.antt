@@ -18,6 +18,7 @@ use Rattle.words.proofs.BitLaws.{has-and, word-same}
 use Rattle.words.proofs.PartLaws.{seen, getD-part, part-part, part-length, part-whole}
 use Rattle.fields.specs.Sizes.{fieldSize}
 use Rattle.fields.specs.Rules.{ruleOf}
+use Rattle.fields.proofs.SizeLaws.{size-some}
 use Rattle.fields.specs.Layout.{indicatorOf, fieldOf, contextOf}
 use Rattle.fields.proofs.BodyLaws.{context-fits, field-rule}
 use Rattle.record.specs.Held.{heldMask, holds, slotAt}
@@ -111,7 +112,11 @@ module _ (r : List ℕ) (b at n : ℕ) (l : length r ≡ recordWords) (o : holds
   slot-seen =
       seen (headWords + at) (headWords + at + n) n r refl ∙ rw (ea, en) (sym (part-part (slotAt b) (fieldSize b) headWords slotWords r (slot-inside b o)))
 
-  -- the slot has 1, 2, 11 or 13 words
+  -- the slot has a word
+  pub slot-there : 0 < length (take (headWords + at + n - (headWords + at)) (drop (headWords + at) r))
+  slot-there = omega (arith, ap length slot-seen, slot-length b r l o, size-some b (held-low b o) (held-high b o))
+
+  -- and 1, 2, 11 or 13 of them
   pub slot-few : among (length (take (headWords + at + n - (headWords + at)) (drop (headWords + at) r))) (1 ∷ 2 ∷ 11 ∷ 13 ∷ []) ≡ true
   slot-few = size-held b _ o (ap length slot-seen ∙ slot-length b r l o)
 

@@ -41,7 +41,7 @@ fn limit_of(bit: u32) -> u64
 }
 
 // Whether the first word of the field of a bit is below its limit. No limit is below 2^16.
-fn first_ok(bit: u32, word: u32) -> bool
+pub fn first_ok(bit: u32, word: u32) -> bool
     ensures { λ r. ⌜ (r ≡ firstOk bit word) × (word < 2 ^ 32) ⌝ }
 {
     if word < 0x1_0000 {
@@ -72,7 +72,7 @@ fn lists_ok(u: u32) -> bool
 }
 
 // What the rule of a field says of its first two words beside the limit of the first; nothing for a bit above 17.
-fn more_ok(bit: u32, u: u32, v: u32) -> bool
+pub fn more_ok(bit: u32, u: u32, v: u32) -> bool
     ensures { λ r. ⌜ r ≡ moreOk bit u v ⌝ }
 {
     if bit == 17 {

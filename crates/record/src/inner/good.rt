@@ -4,6 +4,7 @@ ghost use Rattle.words.specs.Tests.{both, among};
 ghost use Rattle.words.specs.Part.{part};
 ghost use Rattle.words.specs.All.{all, tabled};
 ghost use Rattle.fields.specs.Sizes.{fieldSize};
+ghost use Rattle.fields.specs.Rules.{ruleOf};
 ghost use Rattle.record.specs.Held.{holds, slotAt};
 ghost use Rattle.record.specs.Layout.{headWords, recordWords, heldOf, countWords, lastOf};
 ghost use Rattle.record.specs.Good.{zeros, countGood, countGoodAt, heldGood, slotGood, recordGood};
@@ -93,6 +94,20 @@ fn held_good(held: u32, last: u32) -> bool
     true
 }
 
+// Whether the words of a slot obey the rule of the field of a bit.
+fn rule_good(bit: u32, slot: &[u32]) -> bool
+    requires { ⌜ 0 < length (now slot) ⌝ }
+    ensures { λ r. ⌜ r ≡ ruleOf bit (now (slot .entry)) ⌝ }
+{
+    if fields::inner::first_ok(bit, slot[0]) {
+        if 17 < bit {
+            return true;
+        }
+        return fields::inner::more_ok(bit, slot[0], words::inner::word_at(slot, 1));
+    }
+    false
+}
+
 // Whether the slot of a bit of a held field is good: zero where the field is not held, and else by the field's rule. The tables are lent.
 fn slot_good(rec: &[u32], bit: u32, sizes: &[u8; 32], places: &[u8; 32]) -> bool
     requires { ⌜ (length (now rec) ≡ recordWords) × (holds bit ≡ true) × (tabled 32 fieldSize (now sizes) ≡ true) × (tabled 32 slotAt (now places) ≡ true) ⌝ }
@@ -102,7 +117,7 @@ fn slot_good(rec: &[u32], bit: u32, sizes: &[u8; 32], places: &[u8; 32]) -> bool
     let end = at + fields::inner::size_in(sizes, bit);
     let held = rec[crate::inner::HELD_AT];
     if (held >> bit) % 2 == 1 {
-        fields::inner::rule_at(bit, &rec[at..end], 0)
+        rule_good(bit, &rec[at..end])
     } else {
         slot_zero(&rec[at..end])
     }
