@@ -20,10 +20,12 @@ use Rattle.packet.specs.declared.Packet.{Packet}
 use Rattle.packet.specs.Header.{typeOf, classed, trailed, tsmOf, reservedOf, tsiOf, tsfOf, countOf, sizeOf}
 use Rattle.packet.specs.Parts.{streamed, hasSeconds, hasFraction, classAt, secondsAt, fractionAt, bodyAt, requiredOf, bodyLength, wordIf, classHigh, classLow}
 use Rattle.packet.specs.Parts.{fractionOf, partsOf, bodyOf, packetOf}
-use Rattle.packet.specs.Read.{headerList, prologueList, headerChecks, timeOver, classBad, prologueChecks, bodyChecks, readOf}
+use Rattle.packet.specs.Read.{headerList, prologueList, timeOver, classBad, readOf}
+use Rattle.packet.specs.inner.Steps.{headerChecks, prologueChecks, bodyChecks}
 use Rattle.packet_write.specs.Write.{bit, headerWidths, headerWord, sizeFor, given, classWord, leadingWords, classWords, timeWords, prologueWords, trailerWords}
 use Rattle.packet_write.specs.Write.{packetWords, codesFit, flagsFit, classFits, partsFit}
-use Rattle.packet_write.specs.Write.{writeList, partsChecks, measureChecks, roomChecks, writeChecks, writeOf}
+use Rattle.packet_write.specs.Write.{writeList, writeOf}
+use Rattle.packet_write.specs.inner.Steps.{partsChecks, measureChecks, roomChecks, writeChecks}
 use Rattle.packet.proofs.RoomLaws.{Room, room}
 use Rattle.packet.proofs.ReadLaws.{Passed, sized, read-accepts}
 use Rattle.packet_write.proofs.FitLaws.{parts-fit, nothing-refused}

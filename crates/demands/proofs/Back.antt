@@ -16,10 +16,12 @@ use Rattle.packet.specs.declared.Parts.{Parts}
 use Rattle.packet.specs.Header.{classed, trailed, sizeOf}
 use Rattle.packet.specs.Parts.{streamed, hasSeconds, hasFraction, classAt, secondsAt, fractionAt, bodyAt, requiredOf, bodyLength, wordIf, classHigh, classLow}
 use Rattle.packet.specs.Parts.{fractionOf, partsOf, bodyOf, packetOf}
-use Rattle.packet.specs.Read.{headerChecks, sizeChecks, timeOver, classBad, prologueChecks, readOf}
+use Rattle.packet.specs.Read.{timeOver, classBad, readOf}
+use Rattle.packet.specs.inner.Steps.{headerChecks, sizeChecks, prologueChecks}
 use Rattle.packet_write.specs.Write.{headerWord, sizeFor, given, classWord, leadingWords}
 use Rattle.packet_write.specs.Write.{classWords, timeWords, prologueWords, trailerWords, packetWords, plainParts}
-use Rattle.packet_write.specs.Write.{classFits, writeList, writeChecks, writeOf}
+use Rattle.packet_write.specs.Write.{classFits, writeList, writeOf}
+use Rattle.packet_write.specs.inner.Steps.{writeChecks}
 use Rattle.packet_write.proofs.FitLaws.{Fits, parts-fit, Writable, writable}
 use Rattle.packet.proofs.RoomLaws.{body-past}
 use Rattle.packet.proofs.ReadLaws.{Passed, accepts-read}

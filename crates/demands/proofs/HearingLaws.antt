@@ -11,7 +11,8 @@ use Rattle.fields.specs.Layout.{contextOf}
 use Rattle.packet.specs.declared.Packet.{Packet}
 use Rattle.packet.specs.Header.{typeOf}
 use Rattle.packet.specs.Parts.{partsOf, packetOf}
-use Rattle.packet.specs.Read.{headerList, headerChecks, readOf}
+use Rattle.packet.specs.Read.{headerList, readOf}
+use Rattle.packet.specs.inner.Steps.{headerChecks}
 use Rattle.packet.proofs.ReadLaws.{read-accepts, count-small, body-context}
 use Rattle.record.specs.Layout.{recordWords}
 use Rattle.record.specs.After.{recordAfter, addedBy}
@@ -24,7 +25,8 @@ use Rattle.table.proofs.ListLaws.{stream-is}
 use Rattle.table.proofs.WellLaws.{well-whole, layout-has}
 use Rattle.play.specs.declared.Heard.{Heard}
 use Rattle.play.specs.Play as Play
-use Rattle.play.specs.Play.{soughtOf, tableAfter, stepOf, playOf}
+use Rattle.play.specs.Play.{tableAfter, stepOf, playOf}
+use Rattle.play.specs.inner.Steps.{soughtOf}
 use Rattle.play.proofs.PlayLaws.{step-read, play-step}
 use Rattle.play.proofs.KeepLaws.{play-keeps}
 use Rattle.demands.specs.Trace.{Arrival, placeIn, arrivalList, arrivalOf, heardBy, countedTypes}

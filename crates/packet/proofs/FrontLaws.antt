@@ -7,8 +7,10 @@ use Rattle.words.specs.Refusals.{firstGiven}
 use Rattle.words.proofs.RefusalLaws.{None, first-passed, after-first}
 use Rattle.packet.specs.Header.{typeOf, reservedOf, sizeOf}
 use Rattle.packet.specs.Parts.{requiredOf, bodyOf, packetOf}
-use Rattle.packet.specs.Read.{headerList, sizeList, bodyList, frontList, headerChecks, sizeChecks, prologueChecks, bodyChecks, headedChecks}
-use Rattle.packet.specs.Read.{frontChecks, readBy}
+use Rattle.packet.specs.Read.{headerList, sizeList, bodyList, frontList}
+use Rattle.packet.specs.inner.Steps.{headerChecks, sizeChecks, prologueChecks, bodyChecks, headedChecks}
+use Rattle.packet.specs.Read.{readBy}
+use Rattle.packet.specs.inner.Steps.{frontChecks}
 
 pub headed-checks : (free : Bool) (w : ℕ) (ws : List ℕ)
     → headedChecks free w ws ≡ after (headerChecks w) (after (sizeChecks w (length ws)) (prologueChecks free w ws))

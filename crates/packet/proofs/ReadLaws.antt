@@ -13,7 +13,8 @@ use Rattle.fields.specs.Layout.{contextOf}
 use Rattle.packet.specs.declared.Packet.{Packet}
 use Rattle.packet.specs.Header.{typeOf, sizeOf}
 use Rattle.packet.specs.Parts.{requiredOf, partsOf, bodyOf, packetOf}
-use Rattle.packet.specs.Read.{headerList, sizeList, prologueList, bodyList, listBy, headerChecks, sizeChecks, prologueChecks, bodyChecks, readBy}
+use Rattle.packet.specs.Read.{headerList, sizeList, prologueList, bodyList, listBy, readBy}
+use Rattle.packet.specs.inner.Steps.{headerChecks, sizeChecks, prologueChecks, bodyChecks}
 use Rattle.packet.proofs.RoomLaws.{Room, room}
 
 pub sized : (w n : ℕ) → sizeChecks w n ≡ accepted tt → (requiredOf w ≤ sizeOf w) × (sizeOf w ≤ n)

@@ -6,3 +6,5 @@ pub mod Header
 pub mod Parts
 -- what reading answers
 pub mod Read
+-- what only the contracts inside cite
+pub mod inner

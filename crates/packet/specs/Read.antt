@@ -41,25 +41,6 @@ bodyList kind body = onlyWhere (eqb kind 4) (contextList body)
 abbrev pub frontList : (free : Bool) → ℕ → List ℕ → Refusals
 frontList free w ws = ((EMPTY, eqb (length ws) 0) ∷ []) ++ headerList w ++ sizeList w (length ws) ++ prologueList free w ws
 
--- what each step of reading finds
-unfoldable pub headerChecks : ℕ → Outcome Unit
-headerChecks w = firstGiven (headerList w) (accepted tt)
-
-unfoldable pub sizeChecks : ℕ → ℕ → Outcome Unit
-sizeChecks w given = firstGiven (sizeList w given) (accepted tt)
-
-unfoldable pub prologueChecks : (free : Bool) → ℕ → List ℕ → Outcome Unit
-prologueChecks free w ws = firstGiven (prologueList free w ws) (accepted tt)
-
-unfoldable pub bodyChecks : ℕ → List ℕ → Outcome Unit
-bodyChecks kind body = firstGiven (bodyList kind body) (accepted tt)
-
-unfoldable pub headedChecks : (free : Bool) → ℕ → List ℕ → Outcome Unit
-headedChecks free w ws = firstGiven (headerList w ++ sizeList w (length ws) ++ prologueList free w ws) (accepted tt)
-
-unfoldable pub frontChecks : (free : Bool) → List ℕ → Outcome Unit
-frontChecks free ws = firstGiven (frontList free (getD ws 0 0) ws) (accepted tt)
-
 -- ---- what reading answers
 
 abbrev pub listBy : (free : Bool) → ℕ → List ℕ → Refusals

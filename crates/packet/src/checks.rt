@@ -4,7 +4,8 @@ ghost use Rattle.words.specs.Word.{highFirst};
 ghost use Rattle.words.specs.Outcome.{checked};
 ghost use Rattle.packet.specs.Header.{typeOf, sizeOf};
 ghost use Rattle.packet.specs.Parts.{requiredOf, bodyOf};
-ghost use Rattle.packet.specs.Read.{classBad, headerChecks, sizeChecks, prologueChecks, bodyChecks, headedChecks, frontChecks};
+ghost use Rattle.packet.specs.Read.{classBad};
+ghost use Rattle.packet.specs.inner.Steps.{headerChecks, sizeChecks, prologueChecks, bodyChecks, headedChecks, frontChecks};
 
 // TYPE and BITS.
 fn check_header(w: u32) -> words::Check

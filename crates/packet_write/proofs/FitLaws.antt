@@ -7,7 +7,8 @@ use Rattle.words.proofs.Cases.{both-left, both-right}
 use Rattle.words.proofs.RefusalLaws.{first-passed, none-given, after-first, first-fine}
 use Rattle.packet.specs.declared.Parts.{Parts}
 use Rattle.packet.specs.Parts.{requiredOf}
-use Rattle.packet.specs.Read.{timeOver, bodyList, bodyChecks}
+use Rattle.packet.specs.Read.{timeOver, bodyList}
+use Rattle.packet.specs.inner.Steps.{bodyChecks}
 use Rattle.packet_write.specs.Write.{
   headerWord,
   sizeFor,
@@ -19,14 +20,11 @@ use Rattle.packet_write.specs.Write.{
   measureList,
   roomList,
   writeList,
-  partsChecks,
-  measureChecks,
-  roomChecks,
-  writeChecks,
   writtenDone,
   writeOf,
 }
 use Rattle.packet_write.specs.inner.Given.{contentList, contentChecks}
+use Rattle.packet_write.specs.inner.Steps.{partsChecks, measureChecks, roomChecks, writeChecks}
 
 -- the numbers of parts that fit
 pub record Fits (p : Parts) : Type 0 where

@@ -13,7 +13,8 @@ use Rattle.words.proofs.Cases.{le-or-lt}
 use Rattle.packet.specs.Header.{trailed}
 use Rattle.packet.specs.Parts.{bodyAt}
 use Rattle.packet.specs.declared.Parts.{Parts}
-use Rattle.packet_write.specs.Write.{bit, headerWord, sizeFor, prologueWords, trailerWords, packetWords, partsChecks, writeChecks}
+use Rattle.packet_write.specs.Write.{bit, headerWord, sizeFor, prologueWords, trailerWords, packetWords}
+use Rattle.packet_write.specs.inner.Steps.{partsChecks, writeChecks}
 use Rattle.packet_write.specs.inner.Given.{partsIn, HeaderFor}
 use Rattle.packet_write.proofs.FitLaws.{Fits, Writable, writable, parts-passed, parts-fit}
 use Rattle.packet_write.proofs.HeaderLaws.{header-size, header-small, classed-is, trailed-is, size-for-is}

@@ -123,19 +123,6 @@ writeList p body room at =
     let n = length body in
     partsList p ++ measureList p n ++ bodyList (p .kind) body ++ roomList room at (sizeFor p n)
 
--- what each step of writing finds
-unfoldable pub partsChecks : Parts → Outcome Unit
-partsChecks p = firstGiven (partsList p) (accepted tt)
-
-unfoldable pub measureChecks : Parts → ℕ → Outcome Unit
-measureChecks p n = firstGiven (measureList p n) (accepted tt)
-
-unfoldable pub roomChecks : ℕ → ℕ → ℕ → Outcome Unit
-roomChecks room at size = firstGiven (roomList room at size) (accepted tt)
-
-unfoldable pub writeChecks : Parts → List ℕ → ℕ → ℕ → Outcome Unit
-writeChecks p body room at = firstGiven (writeList p body room at) (accepted tt)
-
 -- ---- what writing answers and leaves: the number of words written, and the buffer with the packet at its place
 
 abbrev pub writtenDone : Parts → List ℕ → List ℕ → ℕ → Done ℕ (List ℕ)

@@ -2,3 +2,5 @@
 
 -- the parts of a packet as fifteen words
 pub mod Given
+-- what each step of writing finds
+pub mod Steps

@@ -7,7 +7,8 @@ ghost use Rattle.words.specs.Tests.{pick, both};
 ghost use Rattle.words.specs.Outcome.{checked};
 ghost use Rattle.packet.specs.Header.{typeOf};
 ghost use Rattle.packet.specs.Read.{timeOver};
-ghost use Rattle.packet_write.specs.Write.{headerWord, sizeFor, codesFit, flagsFit, classFits, partsChecks, roomChecks};
+ghost use Rattle.packet_write.specs.Write.{headerWord, sizeFor, codesFit, flagsFit, classFits};
+ghost use Rattle.packet_write.specs.inner.Steps.{partsChecks, roomChecks};
 ghost use Rattle.packet_write.specs.inner.Given.{partsIn, contentChecks};
 
 // Whether TSI, TSF and the count fit their bits.

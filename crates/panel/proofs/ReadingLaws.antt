@@ -19,8 +19,10 @@ use Rattle.record.proofs.HoldLaws.{slot-inside}
 use Rattle.table.specs.Layout.{streamsOf, base, Has, recordAt}
 use Rattle.table.specs.Well.{wellMade}
 use Rattle.table.proofs.WellLaws.{layout-has, well-whole, well-few}
-use Rattle.panel.specs.Readings.{absent, shownOf, isHeld, recordShows, readingList, askedOf, readingOf, readingPaper}
-use Rattle.panel.specs.HeldWords.{heldWordsIn, copyOf, heldWordsOf}
+use Rattle.panel.specs.Readings.{absent, shownOf, isHeld, recordShows, readingList, readingOf, readingPaper}
+use Rattle.panel.specs.inner.Asked.{askedOf}
+use Rattle.panel.specs.HeldWords.{heldWordsIn, heldWordsOf}
+use Rattle.panel.specs.inner.Copied.{copyOf}
 use Rattle.panel.specs.declared.FieldReading.{FieldReading}
 use Rattle.words.specs.declared.Check.{Check}
 use Rattle.words.specs.declared.Check.the-variants as checks

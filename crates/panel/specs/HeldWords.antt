@@ -17,10 +17,6 @@ heldWordsIn bit r = pick (isHeld bit r) (slotOf bit r) []
 abbrev pub copyList : List ℕ → List ℕ → Refusals
 copyList ws out = (ROOM, ltb (length out) (length ws)) ∷ []
 
--- words copied to the front of a buffer, whose other words stay
-unfoldable pub copyOf : List ℕ → List ℕ → Outcome (Done ℕ (List ℕ))
-copyOf ws out = firstGiven (copyList ws out) (accepted (record { says = length ws; leaves = ws ++ drop (length ws) out }))
-
 abbrev pub heldWordsList : List ℕ → ℕ → ℕ → List ℕ → Refusals
 heldWordsList t stream bit out = readingList t stream bit ++ copyList (heldWordsIn bit (recordAt stream t)) out
 

@@ -6,3 +6,5 @@ pub mod Values
 pub mod Readings
 -- the held words themselves
 pub mod HeldWords
+-- what only the contracts inside cite
+pub mod inner

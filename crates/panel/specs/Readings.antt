@@ -50,10 +50,6 @@ recordShows bit r = pick (isHeld bit r) (shownOf bit (slotOf bit r)) absent
 abbrev pub readingList : List ℕ → ℕ → ℕ → Refusals
 readingList t stream bit = (TABLE, not (wellMade t)) ∷ (STREAM, leb (streamsOf t) stream) ∷ (VALUE, either (ltb bit 10) (ltb 30 bit)) ∷ []
 
--- whether a field may be asked for
-unfoldable pub askedOf : List ℕ → ℕ → ℕ → Outcome Unit
-askedOf t stream bit = firstGiven (readingList t stream bit) (accepted tt)
-
 -- what `reading` answers
 unfoldable pub readingOf : List ℕ → ℕ → ℕ → Outcome Reading
 readingOf t stream bit = firstGiven (readingList t stream bit) (accepted (recordShows bit (recordAt stream t)))

@@ -1,7 +1,7 @@
 // Whether a field may be asked for: the refusals that both calls share.
 ghost use mathlib.Core.Path.{_≡_};
 ghost use Rattle.words.specs.Outcome.{checked};
-ghost use Rattle.panel.specs.Readings.{askedOf};
+ghost use Rattle.panel.specs.inner.Asked.{askedOf};
 
 // TABLE, then STREAM, then VALUE.
 pub fn check(table: &[u32], stream: usize, bit: u32) -> words::Check

@@ -4,7 +4,8 @@ ghost use Rattle.words.specs.Outcome.{accepted, measured, Meets};
 ghost use Rattle.record.specs.Layout.{recordWords};
 ghost use Rattle.table.specs.Layout.{Has, recordAt};
 ghost use Rattle.panel.specs.Readings.{isHeld, recordShows, readingPaper};
-ghost use Rattle.panel.specs.HeldWords.{heldWordsIn, copyOf};
+ghost use Rattle.panel.specs.HeldWords.{heldWordsIn};
+ghost use Rattle.panel.specs.inner.Copied.{copyOf};
 
 // Whether a record holds the field of a bit.
 fn is_held(rec: &[u32], bit: u32) -> bool

@@ -5,11 +5,12 @@ use Rattle.words.specs.declared.Check.the-variants.{Fine, Refused}
 use Rattle.words.specs.Outcome.{refused, accepted, checked}
 use Rattle.packet.specs.Header.{typeOf, sizeOf}
 use Rattle.packet.specs.Parts.{requiredOf, bodyOf}
-use Rattle.packet.specs.Read.{bodyChecks, frontChecks, readOf}
+use Rattle.packet.specs.Read.{readOf}
+use Rattle.packet.specs.inner.Steps.{bodyChecks, frontChecks}
 use Rattle.packet.proofs.FrontLaws.{front-refuses, front-some, front-sized, front-data, body-refuses}
 use Rattle.table.specs.Well.{wellMade}
-use Rattle.play.specs.Play.{madeOf}
-use Rattle.play.specs.Entered.{Headed}
+use Rattle.play.specs.inner.Steps.{madeOf}
+use Rattle.play.specs.inner.Entered.{Headed}
 use Rattle.play.proofs.StreamLaws.{body-headed}
 use Rattle.play.proofs.PlayLaws.{made-well}
 

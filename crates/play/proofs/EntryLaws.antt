@@ -24,9 +24,10 @@ use Rattle.play.specs.declared.Played.the-variants as Played
 use Rattle.play.specs.declared.run.Entry.{Entry}
 use Rattle.play.specs.declared.streams.Sought.{Sought}
 use Rattle.play.specs.declared.streams.Sought.the-variants.{Unknown}
-use Rattle.play.specs.Play.{tableList, soughtOf, heardOf, tableAfter, stepOf, madeOf, playOf, playedPaper, soughtPaper}
+use Rattle.play.specs.Play.{tableList, heardOf, tableAfter, stepOf, playOf, playedPaper}
+use Rattle.play.specs.inner.Steps.{soughtOf, madeOf, soughtPaper}
 use Rattle.play.specs.Run.{goesOn, saidAt, leftAt, nextOf, Stepped, entryOf, entryAt, wordsOfEntry}
-use Rattle.play.specs.Entered.{Headed, soughtIn, HeardAs, Entered, saidBy}
+use Rattle.play.specs.inner.Entered.{Headed, soughtIn, HeardAs, Entered, saidBy}
 use Rattle.play.proofs.StreamLaws.{sought-number}
 use Rattle.play.proofs.PlayLaws.{made-well, step-read, play-step}
 

@@ -18,7 +18,8 @@ use Rattle.table.specs.Well.{wellMade}
 use Rattle.table.proofs.RecordLaws.{record-length, record-identifier, with-length, streams-with, past-with}
 use Rattle.table.proofs.WellLaws.{well-whole, well-record, layout-has, list-with, well-with}
 use Rattle.play.specs.declared.Heard.{Heard}
-use Rattle.play.specs.Play.{soughtOf, heardOf, tableAfter, tableList, stepOf, playOf}
+use Rattle.play.specs.Play.{heardOf, tableAfter, tableList, stepOf, playOf}
+use Rattle.play.specs.inner.Steps.{soughtOf}
 use Rattle.play.proofs.StreamLaws.{sought-below}
 use Rattle.play.proofs.PlayLaws.{step-read, play-step, play-refuses}
 

@@ -21,8 +21,9 @@ use Rattle.table.specs.Layout.{streamsOf, base, recordAt, withRecord}
 use Rattle.table.specs.Identifiers.{streamOf}
 use Rattle.table.specs.Well.{wellMade}
 use Rattle.table.proofs.WellLaws.{well-whole, well-record, layout-has}
-use Rattle.play.specs.Play.{tableAfter, heardDone, tableList, streamList, soughtOf, stepOf, madeOf, playOf}
-use Rattle.play.specs.Entered.{Headed, HeardAs}
+use Rattle.play.specs.Play.{tableAfter, heardDone, tableList, streamList, stepOf, playOf}
+use Rattle.play.specs.inner.Steps.{soughtOf, madeOf}
+use Rattle.play.specs.inner.Entered.{Headed, HeardAs}
 
 -- ---- the record of a stream, as it is lent
 

@@ -26,10 +26,11 @@ use Rattle.play.specs.declared.Heard.{Heard}
 use Rattle.play.specs.declared.run.Entry.{Entry}
 use Rattle.play.specs.declared.run.Reached.{Reached}
 use Rattle.play.specs.declared.run.Ran.the-variants as Ran
-use Rattle.play.specs.Play.{tableList, madeOf}
+use Rattle.play.specs.Play.{tableList}
+use Rattle.play.specs.inner.Steps.{madeOf}
 use Rattle.play.specs.Run.{goesOn, saidAt, leftAt, nextOf, entryWords, entryOf, entryAt, wordsOfEntry}
 use Rattle.play.specs.Run.{Walk, ended, before, walkOf, wholeWalk, reachedOf, answersOf, WalkDone, runOf, runPaper}
-use Rattle.play.specs.Entered.{Entered}
+use Rattle.play.specs.inner.Entered.{Entered}
 use Rattle.play.proofs.PlayLaws.{made-well}
 use Rattle.play.proofs.KeepLaws.{Kept, nothing-changed, play-keeps}
 use Rattle.play.proofs.EntryLaws.{unread, entered-rest, entered-lent, size-next, size-on}

@@ -12,7 +12,8 @@ use Rattle.words.proofs.RefusalLaws.{Numbered, first-passed, either-passed, num
 use Rattle.words.proofs.AllLaws.{all-at}
 use Rattle.packet.specs.Header.{typeOf, sizeOf}
 use Rattle.packet.specs.Parts.{streamed, wordIf, requiredOf, bodyOf, partsOf, packetOf}
-use Rattle.packet.specs.Read.{headerList, headerChecks, bodyChecks, frontChecks}
+use Rattle.packet.specs.Read.{headerList}
+use Rattle.packet.specs.inner.Steps.{headerChecks, bodyChecks, frontChecks}
 use Rattle.packet.proofs.ReadLaws.{sized, Passed, read-accepts}
 use Rattle.packet.proofs.FrontLaws.{body-accepted}
 use Rattle.table.specs.Layout.{streamsOf, base}
@@ -22,8 +23,9 @@ use Rattle.table.proofs.ListLaws.{none-more, stream-found, stream-none}
 use Rattle.table.proofs.WellLaws.{well-whole, well-few, well-of}
 use Rattle.play.specs.declared.streams.Sought.{Sought}
 use Rattle.play.specs.declared.streams.Sought.the-variants.{At}
-use Rattle.play.specs.Play.{streamList, soughtOf, soughtPaper}
-use Rattle.play.specs.Entered.{declaredOf, Headed, soughtIn}
+use Rattle.play.specs.Play.{streamList}
+use Rattle.play.specs.inner.Steps.{soughtOf, soughtPaper}
+use Rattle.play.specs.inner.Entered.{declaredOf, Headed, soughtIn}
 
 -- ---- the stream of an identifier
 

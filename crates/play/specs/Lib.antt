@@ -4,5 +4,5 @@
 pub mod Play
 -- many, one after the other
 pub mod Run
--- what the functions inside promise of one packet
-pub mod Entered
+-- what only the contracts inside cite
+pub mod inner

@@ -15,8 +15,6 @@ use Rattle.table.specs.Well.{wellMade}
 use Rattle.play.specs.declared.Heard.{Heard}
 use Rattle.play.specs.declared.Played.{Played}
 use Rattle.play.specs.declared.Played.the-variants.{Accepted, Refused}
-use Rattle.play.specs.declared.streams.Sought.{Sought}
-use Rattle.play.specs.declared.streams.Sought.the-variants.{At, Unknown}
 
 -- what an accepted packet of stream s says, played on the table t
 unfoldable pub heardOf : Packet → ℕ → List ℕ → Heard
@@ -49,13 +47,6 @@ playList t ws = tableList t ++ stepList t ws
 
 -- ---- what playing answers and leaves
 
-unfoldable pub madeOf : List ℕ → Outcome Unit
-madeOf t = firstGiven (tableList t) (accepted tt)
-
--- the number of a packet's stream
-unfoldable pub soughtOf : ℕ → ℕ → List ℕ → Outcome ℕ
-soughtOf kind identifier t = firstGiven (streamList kind identifier t) (accepted (streamOf identifier t))
-
 -- a packet on a table that is known to be well made
 unfoldable pub stepOf : List ℕ → List ℕ → Outcome (Done Heard (List ℕ))
 stepOf t ws = let p = packetOf (getD ws 0 0) ws in firstGiven (stepList t ws) (accepted (heardDone p (streamOf (p .parts .identifier) t) t ws))
@@ -69,7 +60,3 @@ playOf t ws = let p = packetOf (getD ws 0 0) ws in firstGiven (playList t ws) (a
 abbrev pub playedPaper : Played → Outcome Heard
 playedPaper (Refused n) = refused n
 playedPaper (Accepted h) = accepted h
-
-abbrev pub soughtPaper : Sought → Outcome ℕ
-soughtPaper (Unknown n) = refused n
-soughtPaper (At s) = accepted s

@@ -4,7 +4,7 @@ ghost use Rattle.words.specs.Kit.{_≡_, true, _<_};
 ghost use Rattle.packet.specs.Header.{typeOf, sizeOf};
 ghost use Rattle.table.specs.Well.{wellMade};
 ghost use Rattle.play.specs.Play.{playedPaper};
-ghost use Rattle.play.specs.Entered.{Headed, Entered, saidBy};
+ghost use Rattle.play.specs.inner.Entered.{Headed, Entered, saidBy};
 use crate::run::Entry;
 
 // The entry of a refusal: its number, and the words that the walk goes on by.

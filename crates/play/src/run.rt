@@ -4,7 +4,7 @@ ghost use Rattle.words.specs.Kit.{_≡_, true, _+_, _^_, _≤_, _<_, length};
 ghost use Rattle.words.specs.Part.{put};
 ghost use Rattle.table.specs.Well.{wellMade};
 ghost use Rattle.play.specs.Run.{entryWords, wordsOfEntry, wholeWalk, WalkDone};
-ghost use Rattle.play.specs.Entered.{Entered};
+ghost use Rattle.play.specs.inner.Entered.{Entered};
 
 // The words that are written of each packet.
 pub const ENTRY_WORDS: usize = 5;

@@ -7,8 +7,8 @@ ghost use Rattle.packet.specs.Header.{typeOf, countOf};
 ghost use Rattle.record.specs.After.{recordAfter, addedBy};
 ghost use Rattle.table.specs.Layout.{streamsOf, recordAt, withRecord};
 ghost use Rattle.table.specs.Well.{wellMade};
-ghost use Rattle.play.specs.Play.{madeOf, soughtPaper};
-ghost use Rattle.play.specs.Entered.{declaredOf, Headed, soughtIn, HeardAs};
+ghost use Rattle.play.specs.inner.Steps.{madeOf, soughtPaper};
+ghost use Rattle.play.specs.inner.Entered.{declaredOf, Headed, soughtIn, HeardAs};
 
 // The stream of a packet: its number, or the number of the refusal.
 pub enum Sought {

@@ -4,7 +4,7 @@ use Rattle.words.proofs.Cases.{cases}
 use Rattle.words.proofs.PartLaws.{seen}
 use Rattle.packet.specs.Parts.{bodyLength, bodyOf}
 use Rattle.fields.specs.Layout.{contextOf}
-use Rattle.packet.specs.Read.{bodyChecks}
+use Rattle.packet.specs.inner.Steps.{bodyChecks}
 use Rattle.packet.proofs.RoomLaws.{room}
 use Rattle.packet.proofs.checks.check_context.Statement.{statement}
 use Rattle.packet.proofs.checks.check_context.Tie as tie

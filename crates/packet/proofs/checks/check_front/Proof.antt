@@ -1,6 +1,6 @@
 -- `check_front` meets its promise: no words are EMPTY, and else the header word decides.
 use Rattle.words.proofs.Kit.{eq-eqb, ne-eqb, needs}
-use Rattle.packet.specs.Read.{headedChecks, frontChecks}
+use Rattle.packet.specs.inner.Steps.{headedChecks, frontChecks}
 use Rattle.packet.proofs.checks.check_front.Statement.{statement}
 use Rattle.packet.proofs.checks.check_front.Tie as tie
 

@@ -1,6 +1,6 @@
 -- `check_header` meets its promise: each return is a line of the chain.
 use Rattle.words.proofs.Cases.{cases}
-use Rattle.packet.specs.Read.{headerChecks}
+use Rattle.packet.specs.inner.Steps.{headerChecks}
 use borrow.Author.Needs.{needs}
 use Rattle.packet.proofs.checks.check_header.Statement.{statement}
 use Rattle.packet.proofs.checks.check_header.Tie as tie

@@ -5,7 +5,8 @@ use Rattle.words.specs.Word.{highFirst}
 use Rattle.words.specs.Outcome.{refused, accepted}
 use Rattle.packet.specs.Header.{tsfOf}
 use Rattle.packet.specs.Parts.{fractionAt, classHigh}
-use Rattle.packet.specs.Read.{timeOver, classBad, prologueChecks}
+use Rattle.packet.specs.Read.{timeOver, classBad}
+use Rattle.packet.specs.inner.Steps.{prologueChecks}
 use Rattle.packet.proofs.RoomLaws.{high-inside, low-inside, fraction-words}
 use Rattle.packet.proofs.checks.check_prologue.Statement.{statement}
 use Rattle.packet.proofs.checks.check_prologue.Tie as tie

@@ -1,6 +1,6 @@
 -- `check_size` meets its promise: each return is a line of the chain.
 use Rattle.words.proofs.Cases.{cases}
-use Rattle.packet.specs.Read.{sizeChecks}
+use Rattle.packet.specs.inner.Steps.{sizeChecks}
 use borrow.Author.Needs.{needs}
 use Rattle.packet.proofs.checks.check_size.Statement.{statement}
 use Rattle.packet.proofs.checks.check_size.Tie as tie

@@ -1,6 +1,6 @@
 -- `check_room` meets its promise: each return is the one test, taken apart so that no sum wraps.
 use Rattle.words.proofs.Kit.{_+_, lt-ltb, le-ltb, arith}
-use Rattle.packet_write.specs.Write.{roomChecks}
+use Rattle.packet_write.specs.inner.Steps.{roomChecks}
 use Rattle.packet_write.proofs.fit.check_room.Statement.{statement}
 use Rattle.packet_write.proofs.fit.check_room.Tie as tie
 

@@ -10,7 +10,8 @@ use Rattle.words.proofs.RefusalLaws.{first-fine}
 use Rattle.words.proofs.MeetLaws.{meets-length}
 use Rattle.packet.specs.Header.{typeOf}
 use Rattle.packet.specs.declared.Parts.{Parts}
-use Rattle.packet_write.specs.Write.{headerWord, sizeFor, packetWords, partsChecks, roomChecks, writeList, writeChecks, writeOf}
+use Rattle.packet_write.specs.Write.{headerWord, sizeFor, packetWords, writeList, writeOf}
+use Rattle.packet_write.specs.inner.Steps.{partsChecks, roomChecks, writeChecks}
 use Rattle.packet_write.specs.inner.Given.{partsIn, contentChecks}
 use Rattle.packet_write.proofs.FitLaws.{parts-fit, parts-passed, write-groups, nothing-found}
 use Rattle.packet_write.proofs.HeaderLaws.{type-is}

@@ -1,5 +1,5 @@
 -- `check_table` meets its promise: the table's test decides.
-use Rattle.play.specs.Play.{madeOf}
+use Rattle.play.specs.inner.Steps.{madeOf}
 use borrow.Author.Needs.{needs}
 use Rattle.play.proofs.streams.check_table.Statement.{statement}
 use Rattle.play.proofs.streams.check_table.Tie as tie

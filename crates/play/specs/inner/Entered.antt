@@ -10,7 +10,8 @@ use Rattle.table.specs.Layout.{streamsOf, recordAt}
 use Rattle.table.specs.Identifiers.{streamOf}
 use Rattle.play.specs.declared.Heard.{Heard}
 use Rattle.play.specs.declared.run.Entry.{Entry}
-use Rattle.play.specs.Play.{soughtOf, tableAfter}
+use Rattle.play.specs.Play.{tableAfter}
+use Rattle.play.specs.inner.Steps.{soughtOf}
 use Rattle.play.specs.Run.{leftAt, entryAt, wordsOfEntry}
 
 -- the stream of an identifier; STREAM: "one not declared"
