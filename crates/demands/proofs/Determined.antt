@@ -21,7 +21,7 @@ use Rattle.page.specs.Layout.{tableFrom}
 use Rattle.page.proofs.PieceLaws.{part-join}
 use Rattle.page.proofs.LayoutLaws.{table-same, table-again}
 use Rattle.demands.specs.Trace.{countedTypes}
-use Rattle.demands.specs.Demands.{heldIn, Right, layoutOf, Determined}
+use Rattle.demands.specs.Right.{heldIn, Right, layoutOf, Determined}
 use Rattle.demands.proofs.HearingLaws.{record-whole}
 use Rattle.demands.proofs.RightLaws.{right-listed}
 

@@ -10,7 +10,8 @@ use Rattle.packet.specs.Header.{sizeOf}
 use Rattle.play.specs.Play.{playOf}
 use Rattle.play.specs.Run.{goesOn, saidAt, leftAt, nextOf, entryWords, entryOf, entryAt, Walk, walkOf, wholeWalk, reachedOf, answersOf, runOf}
 use Rattle.demands.specs.Trace.{Arrival, Trace, heardBy, traceOf, answerTo}
-use Rattle.demands.specs.Demands.{ours, Right, playAll, saidAll}
+use Rattle.demands.specs.Program.{ours, playAll, saidAll}
+use Rattle.demands.specs.Right.{Right}
 use Rattle.demands.specs.Recording.{goesPast, packetsFrom, entriesOf, Runs}
 use Rattle.demands.proofs.RightLaws.{right-more, right-answer, right-on, answers-on}
 

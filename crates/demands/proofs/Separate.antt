@@ -8,7 +8,9 @@ use Rattle.words.proofs.Cases.{true-or-false}
 use Rattle.table.specs.Layout.{recordAt}
 use Rattle.play.specs.declared.Heard.{Heard}
 use Rattle.demands.specs.Trace.{Arrival, Trace, heardBy, traceOf, isOwn, own, lastCarried, countsOf, countRule, addedAfter, answerTo, answersAfter}
-use Rattle.demands.specs.Demands.{ours, Right, playAll, saidAll, Altered, ended, same, changed, added, dropped, ownAnswers}
+use Rattle.demands.specs.Program.{ours, playAll, saidAll}
+use Rattle.demands.specs.Right.{Right}
+use Rattle.demands.specs.Altered.{Altered, ended, same, changed, added, dropped, ownAnswers}
 use Rattle.demands.proofs.RuleLaws.{own-append}
 use Rattle.demands.proofs.RightLaws.{right-on, answers-on}
 use Rattle.demands.proofs.Determined.{records-same}

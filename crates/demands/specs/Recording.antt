@@ -9,7 +9,7 @@ use Rattle.play.specs.declared.Heard.{Heard}
 use Rattle.play.specs.declared.run.Reached.{Reached}
 use Rattle.play.specs.Run.{entryWords, entryOf, runOf}
 use Rattle.demands.specs.Trace.{Arrival, heardBy, traceOf, answersAfter}
-use Rattle.demands.specs.Demands.{Right}
+use Rattle.demands.specs.Right.{Right}
 
 -- a recording goes on behind a packet that is accepted, and behind one of no declared stream
 abbrev pub goesPast : Outcome Arrival → Bool
