@@ -25,6 +25,8 @@ pub mod RightLaws
 pub mod Determined
 -- a play that is broken off and resumed
 pub mod Resumed
+-- words past a table's layout
+pub mod PastUnread
 -- other streams' packets altered
 pub mod Separate
 -- a run plays a recording's packets

@@ -10,6 +10,8 @@ pub mod Trace
 pub mod Right
 -- stopping and resuming, any number of times
 pub mod Resumed
+-- words past a table's layout
+pub mod PastUnread
 -- other streams' packets altered
 pub mod Altered
 -- demand 3 of calls as they are made
