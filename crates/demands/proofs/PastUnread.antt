@@ -1,15 +1,14 @@
 -- Words past a table's layout. The idea: S, the list and the records stand inside the layout, so they are those of the layout alone (`streams-alone`,
 -- `declared-alone`, `record-alone`); every call looks at these, and replaces a record inside (`with-alone`).
-use Rattle.words.proofs.Kit.{_≡_, refl, sym, ap, _∙_, Bool, true, false, ⊎-elim, List, [], _∷_, _++_, ℕ, zero, suc, _+_, _/_, _≤_, _<_, arith, le-leb, lt-leb}
+use Rattle.words.proofs.Kit.{_≡_, refl, sym, ap, _∙_, Bool, true, false, ⊎-elim, List, _++_, ℕ, zero, suc, _+_, _/_, _≤_, _<_, arith, le-leb, lt-leb}
 use Rattle.words.proofs.Kit.{not, eqb, leb, length, drop}
 use borrow.Author.Tests.{leb-false}
 use mathlib.Core.List.{append-assoc}
 use lib.ListN.{List·getD-append, length-append}
 use lib.Seq.{take-append-le, drop-append-le, drop-drop}
 use Rattle.words.specs.Numbers.{TABLE}
-use Rattle.words.specs.Tests.{pick, both}
+use Rattle.words.specs.Tests.{pick}
 use Rattle.words.specs.Part.{put}
-use Rattle.words.specs.All.{all}
 use Rattle.words.specs.Outcome.{Outcome, refused, accepted, onward, Done, saidOf, leftOf}
 use Rattle.words.specs.Refusals.{firstGiven}
 use Rattle.words.proofs.Cases.{le-or-lt, true-or-false}
@@ -21,12 +20,12 @@ use Rattle.packet.specs.Read.{readOf}
 use Rattle.record.specs.Layout.{recordWords}
 use Rattle.record.specs.Good.{recordGood}
 use Rattle.table.specs.Layout.{streamsOf, base, layoutWords, recordAt, withRecord}
-use Rattle.table.specs.Identifiers.{declared, listGood, streamOf}
+use Rattle.table.specs.Identifiers.{declared, streamOf}
 use Rattle.table.specs.Well.{recordGoodAt, wellMade}
 use Rattle.table.proofs.ListLaws.{list-same, stream-is}
 use Rattle.play.specs.declared.Heard.{Heard}
 use Rattle.play.specs.declared.run.Reached.{Reached}
-use Rattle.play.specs.Play.{heardOf, tableAfter, heardDone, soughtOf, stepOf, playOf}
+use Rattle.play.specs.Play.{heardOf, tableAfter, heardDone, soughtOf, playOf}
 use Rattle.play.specs.Run.{goesOn, saidAt, leftAt, nextOf, entryWords, entryAt, Walk, ended, before, walkOf, wholeWalk, runOf}
 use Rattle.play.proofs.StreamLaws.{sought-below}
 use Rattle.play.proofs.PlayLaws.{step-read, play-step, play-refuses}
@@ -218,7 +217,8 @@ past-unread l x e = record {
   playRun = λ ws from answers.
       let k = walk-alone x (length answers / entryWords) ws from l e in
       rw (well-alone l x e)
-      (run-alike (not (wellMade l)) TABLE l x answers _ _ (rw (k .packets, k .next)) (k .table) (ap (λ (es : List ℕ). es ++ drop (length es) answers) (k .entries)));
+      (run-alike (not (wellMade l)) TABLE l x answers _ _ (rw (k .packets, k .next)) (k .table)
+      (ap (λ (es : List ℕ). es ++ drop (length es) answers) (k .entries)));
   wellMade = well-alone l x e;
   pageLength = rw (well-alone l x e, length-alone l x e);
   save = λ page. rw (well-alone l x e, length-alone l x e, page-alone l x e);
