@@ -11,6 +11,7 @@ use Rattle.demands.proofs.Back.{written-back}
 use Rattle.demands.proofs.RoundTrip.{pack-then-unpack, unpack-then-pack}
 use Rattle.demands.proofs.RightLaws.{start-accepts, right-start, right-on, answers-on, past-on}
 use Rattle.demands.proofs.Resumed.{saves, resumes, no-room, days}
+use Rattle.demands.proofs.Shown.{shows}
 use Rattle.demands.proofs.RunLaws.{runs}
 use Rattle.demands.proofs.PastUnread.{past-unread}
 use Rattle.demands.proofs.Separate.{apart}
@@ -36,6 +37,7 @@ demand-3 = record {
   right = λ ids t d e packets. right-on ids [] packets (d .leaves) (right-start ids t d e);
   answers = λ ids t d e packets. answers-on ids [] packets (d .leaves) (right-start ids t d e);
   past = λ ids t d e packets. past-on ids packets (d .leaves) (right-start ids t d e .streams) ∙ start-well-made ids t d e .past;
+  shows = shows;
   runs = runs;
   unread = past-unread;
   saves = saves;

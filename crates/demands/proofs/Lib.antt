@@ -23,7 +23,9 @@ pub mod RecordLaws
 pub mod RightLaws
 -- the rules leave nothing open
 pub mod Determined
--- a play that is broken off and resumed
+-- what is seen is what is held
+pub mod Shown
+-- stopping and resuming, any number of times
 pub mod Resumed
 -- words past a table's layout
 pub mod PastUnread

@@ -8,6 +8,8 @@ pub mod Program
 pub mod Trace
 -- tables that the rules fix
 pub mod Right
+-- what the panel and the caller see
+pub mod Shown
 -- stopping and resuming, any number of times
 pub mod Resumed
 -- words past a table's layout
