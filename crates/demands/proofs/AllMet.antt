@@ -14,7 +14,7 @@ use Rattle.demands.proofs.Resumed.{saves, resumes, no-room, days}
 use Rattle.demands.proofs.Shown.{shows}
 use Rattle.demands.proofs.RunLaws.{runs}
 use Rattle.demands.proofs.PastUnread.{past-unread}
-use Rattle.demands.proofs.Separate.{apart}
+use Rattle.demands.proofs.Separate.{apart, refused-apart}
 
 pub demand-1 : Demand1
 demand-1 = record { once = one-outcome; numbers = in-order; refusals = each-refusal calls }
@@ -45,4 +45,5 @@ demand-3 = record {
   no-room = no-room;
   days = λ ids first packets t last answers stops r d. days ids first t r packets last answers stops d;
   apart = λ ids t u d e x y s h ps qs a. apart ids (d .leaves) (e .leaves) (right-start ids t d x) (right-start ids u e y) s h ps qs a;
+  refused-apart = refused-apart;
 }

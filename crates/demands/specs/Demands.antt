@@ -24,7 +24,7 @@ use Rattle.demands.specs.Shown.{Shown}
 use Rattle.demands.specs.Resumed.{Saves, Resumes, Stop, Day, DayRight}
 use Rattle.demands.specs.Recording.{Runs}
 use Rattle.demands.specs.PastUnread.{IsLayout, PastUnread}
-use Rattle.demands.specs.Altered.{Altered, ownAnswers}
+use Rattle.demands.specs.Altered.{Altered, ownAnswers, RefusedApart}
 
 -- ---- demand 1
 
@@ -105,3 +105,5 @@ pub record Demand3 (P : Program) : Type 0 where
       → (ps qs : List (List ℕ)) → Altered ids s ps qs
       → (recordAt s (playAll P (d .leaves) ps) ≡ recordAt s (playAll P (e .leaves) qs))
       × (ownAnswers ids s ps (saidAll P (d .leaves) ps) ≡ ownAnswers ids s qs (saidAll P (e .leaves) qs))
+  -- refused packets are no stream's, also those that bear its identifier
+  pub refused-apart : (ids : List ℕ) → RefusedApart P ids
