@@ -41,3 +41,5 @@ pub mod AllMet
 pub mod Samples
 -- five useless programs, shut out
 pub mod Useless
+-- the list of calls is the functions' own promises
+pub mod Sources

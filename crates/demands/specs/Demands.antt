@@ -15,6 +15,7 @@ use Rattle.table.specs.Layout.{base, recordAt}
 use Rattle.table.specs.Identifiers.{listed, listGood}
 use Rattle.play.specs.declared.Heard.{Heard}
 use Rattle.demands.specs.Calls.{OneOutcome, RefusalLeaves, Each, calls}
+use Rattle.demands.specs.Sources.{Sources}
 use Rattle.demands.specs.Refusals.{InOrder}
 use Rattle.demands.specs.Clean.{Clean}
 use Rattle.demands.specs.Trace.{traceOf, answersAfter}
@@ -28,9 +29,11 @@ use Rattle.demands.specs.Altered.{Altered, ownAnswers, RefusedApart}
 
 -- ---- demand 1
 
-pub record Demand1 : Type 0 where
-  -- "Every word slice handed in gets an answer, and each call finishes": the prover accepts no function that may not return, or that asks more than its
-  -- `requires`, and no public call has one. The promise of each leaves one outcome, answer and lent words.
+pub record Demand1 : Type 1 where
+  -- "Every word slice handed in gets an answer, and each call finishes": no public call asks anything of what it is handed, and each promise is its function's
+  -- own; that the code returns and keeps it says proofs/Sources.antt
+  pub sources : Sources
+  -- the promise of each leaves one outcome, answer and lent words
   pub once : Each OneOutcome calls
   -- "Bad packets, tables, pages and formats are refused with the number in our list, given exactly when the list says."
   pub numbers : InOrder

@@ -28,3 +28,5 @@ pub mod Clean
 pub mod Calls
 -- the cases marked P, as one table
 pub mod Samples
+-- each call of the list, tied to its function
+pub mod Sources
