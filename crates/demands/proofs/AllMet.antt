@@ -2,18 +2,23 @@
 use Rattle.words.proofs.Kit.{refl, _∙_, []}
 use Rattle.table.proofs.StartLaws.{start-well-made}
 use Rattle.demands.specs.Calls.{calls}
-use Rattle.demands.specs.Demands.{ours, Demand1, Demand2, Demand3, playAll}
+use Rattle.demands.specs.Program.{ours}
+use Rattle.demands.specs.Demands.{Demand1, Demand2, Demand3}
+use Rattle.demands.proofs.Sources.{sources}
 use Rattle.demands.proofs.Once.{one-outcome, each-refusal}
 use Rattle.demands.proofs.InOrder.{in-order}
 use Rattle.demands.proofs.Again.{written-again}
 use Rattle.demands.proofs.Back.{written-back}
 use Rattle.demands.proofs.RoundTrip.{pack-then-unpack, unpack-then-pack}
 use Rattle.demands.proofs.RightLaws.{start-accepts, right-start, right-on, answers-on, past-on}
-use Rattle.demands.proofs.Resumed.{saves, resumes}
-use Rattle.demands.proofs.Separate.{apart}
+use Rattle.demands.proofs.Resumed.{saves, resumes, no-room, days}
+use Rattle.demands.proofs.Shown.{shows}
+use Rattle.demands.proofs.RunLaws.{runs}
+use Rattle.demands.proofs.PastUnread.{past-unread}
+use Rattle.demands.proofs.Separate.{apart, refused-apart}
 
 pub demand-1 : Demand1
-demand-1 = record { once = one-outcome; numbers = in-order; refusals = each-refusal calls }
+demand-1 = record { sources = sources; once = one-outcome; numbers = in-order; refusals = each-refusal calls }
 
 pub demand-2 : Demand2 ours
 demand-2 = record {
@@ -33,7 +38,13 @@ demand-3 = record {
   right = λ ids t d e packets. right-on ids [] packets (d .leaves) (right-start ids t d e);
   answers = λ ids t d e packets. answers-on ids [] packets (d .leaves) (right-start ids t d e);
   past = λ ids t d e packets. past-on ids packets (d .leaves) (right-start ids t d e .streams) ∙ start-well-made ids t d e .past;
-  saves = λ ids t d e packets page. saves ids packets (playAll ours (d .leaves) packets) page (right-on ids [] packets (d .leaves) (right-start ids t d e));
-  resumes = λ ids t d e first rest page saved s lent room. resumes ids (d .leaves) (right-start ids t d e) first rest page lent saved s room;
+  shows = shows;
+  runs = runs;
+  unread = past-unread;
+  saves = saves;
+  resumes = λ ids first rest t r buffer saved s lent room. resumes ids first t r buffer saved s lent rest room;
+  no-room = no-room;
+  days = λ ids first packets t last answers stops r d. days ids first t r packets last answers stops d;
   apart = λ ids t u d e x y s h ps qs a. apart ids (d .leaves) (e .leaves) (right-start ids t d x) (right-start ids u e y) s h ps qs a;
+  refused-apart = refused-apart;
 }

@@ -1,19 +1,22 @@
 -- Demand 3 of calls as they are made. The idea: an outcome that meets a promise is the one that the definition gives, answer and lent words; so calls one
 -- after the other are `playAll` and `saidAll`.
-use Rattle.words.proofs.Kit.{_≡_, refl, sym, ap, _∙_, List, [], _++_, ℕ, _≤_, length, take}
-use mathlib.Core.List.{map, map-append}
-use Rattle.words.specs.declared.Length.{Length}
-use Rattle.words.specs.Outcome.{accepted, measured, saidOf, Meets}
+use Rattle.words.proofs.Kit.{_≡_, refl, sym, ap, _∙_, List, [], _∷_, ℕ, true, arith, length, take, drop}
+use mathlib.Core.List.{map}
+use lib.Seq.{take-at}
+use Rattle.words.specs.Outcome.{accepted, saidOf}
 use Rattle.words.proofs.MeetLaws.{meets-accepted}
-use Rattle.table.specs.Layout.{base}
+use Rattle.table.specs.Well.{wellMade}
 use Rattle.play.specs.declared.Played.{Played}
 use Rattle.play.specs.Play.{playedPaper}
-use Rattle.page.specs.Save.{saveOf}
 use Rattle.page.specs.PutBack.{putBackOf}
-use Rattle.demands.specs.Demands.{ours, Right, layoutOf, playAll, saidAll, Resumes}
-use Rattle.demands.specs.CallsMade.{StartMade, PlaysMade, none, next, SaveMade, Ruled, Demand3Made}
+use Rattle.demands.specs.Program.{ours, playAll, saidAll}
+use Rattle.demands.specs.Right.{Right, layoutOf}
+use Rattle.demands.specs.Resumed.{SavesAs, Resumes, Stop, Day, SamePages}
+use Rattle.demands.specs.Resumed as Resumed
+use Rattle.demands.specs.CallsMade.{StartMade, PlaysMade, none, next, SaveMade, DayMade, over, SamePagesMade, Ruled, Demand3Made}
+use Rattle.demands.specs.CallsMade as Made
 use Rattle.demands.proofs.RightLaws.{right-start, right-on, answers-on}
-use Rattle.demands.proofs.Resumed.{resumes}
+use Rattle.demands.proofs.Resumed.{page-words, resumes, days}
 use Rattle.demands.proofs.Separate.{apart}
 
 -- ---- outcomes
@@ -36,49 +39,52 @@ ruled ids t last before packets answers r p =
     let k = played p in
     record { table = rw (k .0) (right-on ids before packets t r); said = k .1 ∙ answers-on ids before packets t r }
 
--- ---- a page between
+-- ---- a day
 
-module _ (ids lent t middle page room back : List ℕ) (first rest : List (List ℕ)) (heard : List Played) (r : Length)
-    (a : StartMade ids lent t) (b : PlaysMade t first heard middle) (c : SaveMade middle page) (h : base (length ids) ≤ length room)
-    (m : Meets measured (putBackOf page room) room r back) where
-  again : Resumes ours ids t first rest page room
-  again =
-      let k = meets-accepted (c .meets) (c .accepts) in
-      let s : saveOf (playAll ours t first) (c .lent) ≡ accepted (k .done) = ap (λ (u : List ℕ). saveOf u (c .lent)) (sym (played b .0)) ∙ k .wants in
-      let e : page ≡ take (k .done .says) (k .done .leaves) = cc (c .wrote, k .says, k .leaves) in
-      rw e (resumes ids t (started ids lent t a) first rest (c .lent) room (k .done) s h)
+-- a page that was saved is the one that the definition gives
+saved : (t page : List ℕ) (m : SaveMade t page) → let d = meets-accepted (m .meets) (m .accepts) .done in page ≡ take (d .says) (d .leaves)
+saved t page m = let k = meets-accepted (m .meets) (m .accepts) in cc (m .wrote, k .says, k .leaves)
 
-  put-back : back ≡ again .done .leaves
-  put-back = m .buffer ∙ rw (again .accepts)
+day : {before packets : List (List ℕ)} {t last : List ℕ} {rs : List Played} {stops : List Stop} → DayMade before t packets rs stops last
+    → Day ours before t packets (map playedPaper rs) stops last
+day over = Resumed.over
+day {before} {t = t} (Made.plays {packets = packets} {ws = ws} {after = after} {last = last} {r = r} {rs = rs} {stops = stops} m d) =
+    rw (m .answer) (Resumed.plays ws (rw (m .buffer) at (day d)))
+day {before} {t = t} (Made.stops {page = page} {back = back} {later = later} s b d) =
+    let k = meets-accepted (s .meets) (s .accepts) in
+    let e : page ≡ take (k .done .says) (k .done .leaves) = saved t page s in
+    let l = meets-accepted (b .meets) (b .accepts) in
+    let put : putBackOf (take (k .done .says) (k .done .leaves)) (b .lent) ≡ accepted (l .done) =
+    ap (λ (p : List ℕ). putBackOf p (b .lent)) (sym e) ∙ l .wants in
+    rw e (Resumed.stops (s .lent) (b .lent) (k .done) (l .done) (k .wants) put (rw (l .leaves) at (day d)))
 
-  pub accepted-back : measured r ≡ accepted (base (length ids))
-  accepted-back = m .answer ∙ ap saidOf (again .accepts) ∙ ap accepted (again .says)
+-- a table saves one page
+page-saved : (t page words : List ℕ) → wellMade t ≡ true → SavesAs ours t page → SaveMade t words → words ≡ page
+page-saved t page words w f m =
+    let k = meets-accepted (m .meets) (m .accepts) in
+    saved t words m ∙ page-words t (m .lent) w (k .done) (k .wants) ∙ sym (page-words t page w _ (f page (omega arith)))
+    ∙ take-at page (drop (length page) page) (length page) refl
 
-  module _ (last : List ℕ) (answers : List Played) (p : PlaysMade back rest answers last) where
-    on : last ≡ playAll ours (again .done .leaves) rest
-    on = played p .0 ∙ ap (λ (u : List ℕ). playAll ours u rest) put-back
-
-    said-on : map playedPaper answers ≡ saidAll ours (again .done .leaves) rest
-    said-on = played p .1 ∙ ap (λ (u : List ℕ). saidAll ours u rest) put-back
-
-    pub resumed : Ruled ids first rest answers last
-    resumed = record { table = rw on (again .right); said = said-on ∙ again .answers }
-
-    pub as-unbroken : (whole : List ℕ) (all : List Played) → PlaysMade t (first ++ rest) all whole
-        → (layoutOf ids last ≡ layoutOf ids whole) × (map playedPaper all ≡ map playedPaper (heard ++ answers))
-    as-unbroken whole all q = (
-      ap (layoutOf ids) on ∙ again .same-table ∙ ap (layoutOf ids) (sym (played q .0)),
-      played q .1 ∙ again .same-answers ∙ sym (map-append playedPaper heard answers ∙ rw (played b .1, said-on)),
-    )
+same-pages : (ids t : List ℕ) → Right ids [] t → (stops : List Stop) → SamePages ours t stops → SamePagesMade t stops
+same-pages ids t r [] k = tt
+same-pages ids t r (s ∷ later) k = (
+  λ u page heard p m. page-saved u (s .page) page (rw (played p .0) (right-on ids [] (s .after) t r .made)) (rw (played p .0) (k .0)) m,
+  same-pages ids t r later (k .1),
+)
 
 pub demand-3-made : Demand3Made
 demand-3-made = record {
   plays = λ ids lent t last packets answers a p. ruled ids t last [] packets answers (started ids lent t a) p;
-  resumes = λ ids lent t middle page room back last first rest heard answers r a b c h m p.
-      let k = resumed ids lent t middle page room back first rest heard r a b c h m last answers p in
-      (accepted-back ids lent t middle page room back first rest heard r a b c h m, k);
-  unbroken = λ ids lent t middle page room back last whole first rest heard answers all r a b c h m p q.
-      as-unbroken ids lent t middle page room back first rest heard r a b c h m last answers p whole all q;
+  puts-back = λ ids packets t page room back r q m h b.
+      let k = meets-accepted (m .meets) (m .accepts) in
+      let again : Resumes ours ids t packets [] page room = rw (saved t page m) (resumes ids packets t q (m .lent) (k .done) (k .wants) room [] h) in
+      b .answer ∙ ap saidOf (again .accepts) ∙ ap accepted (again .says);
+  days = λ ids lent t last packets answers stops a d.
+      let k = days ids [] t (started ids lent t a) packets last (map playedPaper answers) stops (day d) in
+      (record { table = k .right; said = k .ruled }, same-pages ids t (started ids lent t a) stops (k .same-pages));
+  unbroken = λ ids lent t last whole packets answers all stops a d p.
+      let k = days ids [] t (started ids lent t a) packets last (map playedPaper answers) stops (day d) in
+      (k .same-table ∙ ap (layoutOf ids) (sym (played p .0)), k .same-answers ∙ sym (played p .1));
   apart = λ ids lent room t u last other ps qs answers others s a x b y h alter.
       let k = apart ids t u (started ids lent t a) (started ids room u b) s h ps qs alter in
       (rw (played x .0, played y .0) (k .0), rw (played x .1, played y .1) (k .1));

@@ -20,8 +20,8 @@ use Rattle.table.proofs.WellLaws.{well-whole, well-record}
 use Rattle.page.specs.Layout.{tableFrom}
 use Rattle.page.proofs.PieceLaws.{part-join}
 use Rattle.page.proofs.LayoutLaws.{table-same, table-again}
-use Rattle.demands.specs.Trace.{countedTypes}
-use Rattle.demands.specs.Demands.{heldIn, Right, layoutOf, Determined}
+use Rattle.demands.specs.Trace.{Arrival, traceOf, own, lastCarried, countedTypes, countsOf, countRule}
+use Rattle.demands.specs.Right.{heldIn, Right, layoutOf, Determined}
 use Rattle.demands.proofs.HearingLaws.{record-whole}
 use Rattle.demands.proofs.RightLaws.{right-listed}
 
@@ -100,25 +100,25 @@ module _ (r q : List ℕ) (lr : length r ≡ recordWords) (lq : length q ≡ rec
 
 -- ---- a table
 
--- two right tables have the same records, where the rules say the same of the streams
+-- the rules look at a stream's own packets alone: where these are the same, two right tables have the same record
 pub records-same : (ids : List ℕ) (ps qs : List (List ℕ)) (t u : List ℕ) (p : Right ids ps t) (q : Right ids qs u) (s : ℕ) (h : s < length ids)
-    → ((b : ℕ) → heldIn b (recordAt s t) ≡ heldIn b (recordAt s u))
-    → ((kind : ℕ) → among kind countedTypes ≡ true → countWords (orderOf kind) (recordAt s t) ≡ countWords (orderOf kind) (recordAt s u))
-    → recordAt s t ≡ recordAt s u
-records-same ids ps qs t u p q s h held counts =
+    → own s (traceOf ids ps) ≡ own s (traceOf ids qs) → recordAt s t ≡ recordAt s u
+records-same ids ps qs t u p q s h o =
     record-by (recordAt s t) (recordAt s u) (record-whole ids t (right-listed p) s h) (record-whole ids u (right-listed q) s h)
-    (well-record t (p .made) s (rw (p .streams) h)) (well-record u (q .made) s (rw (q .streams) h)) held
-    (record-identifier s t ∙ p .list s h ∙ sym (q .list s h) ∙ sym (record-identifier s u)) counts
+    (well-record t (p .made) s (rw (p .streams) h)) (well-record u (q .made) s (rw (q .streams) h))
+    (λ b. p .held s h b ∙ ap (lastCarried b) o ∙ sym (q .held s h b))
+    (record-identifier s t ∙ p .list s h ∙ sym (q .list s h) ∙ sym (record-identifier s u))
+    (λ kind k. p .counts s h kind k ∙ ap (λ (l : List Arrival). countRule (countsOf kind l)) o ∙ sym (q .counts s h kind k))
 
 pub layout-is : {ids : List ℕ} {packets : List (List ℕ)} {t : List ℕ} → Right ids packets t → tableFrom (length ids) (λ s. recordAt s t) ≡ layoutOf ids t
 layout-is {ids} {packets} {t} p = rw (p .streams) at (table-again t (well-whole t (p .made)))
 
-pub determined : Determined
-determined ids packets t u p q =
+pub layouts-same : (ids : List ℕ) (ps qs : List (List ℕ)) (t u : List ℕ) → Right ids ps t → Right ids qs u
+    → ((s : ℕ) → own s (traceOf ids ps) ≡ own s (traceOf ids qs)) → layoutOf ids t ≡ layoutOf ids u
+layouts-same ids ps qs t u p q o =
     sym (layout-is p)
-    ∙ table-same (length ids) (λ s. recordAt s t) (λ s. recordAt s u)
-    (λ s h.
-    records-same ids packets packets t u p q s h
-    (λ b. p .held s h b ∙ sym (q .held s h b))
-    (λ kind o. p .counts s h kind o ∙ sym (q .counts s h kind o)))
+    ∙ table-same (length ids) (λ s. recordAt s t) (λ s. recordAt s u) (λ s h. records-same ids ps qs t u p q s h (o s))
     ∙ layout-is q
+
+pub determined : Determined
+determined ids packets t u p q = layouts-same ids packets packets t u p q (λ s. refl)

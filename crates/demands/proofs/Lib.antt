@@ -23,8 +23,12 @@ pub mod RecordLaws
 pub mod RightLaws
 -- the rules leave nothing open
 pub mod Determined
--- a play that is broken off and resumed
+-- what is seen is what is held
+pub mod Shown
+-- stopping and resuming, any number of times
 pub mod Resumed
+-- words past a table's layout
+pub mod PastUnread
 -- other streams' packets altered
 pub mod Separate
 -- a run plays a recording's packets
@@ -37,3 +41,5 @@ pub mod AllMet
 pub mod Samples
 -- five useless programs, shut out
 pub mod Useless
+-- the list of calls is the functions' own promises
+pub mod Sources

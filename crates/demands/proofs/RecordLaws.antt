@@ -22,7 +22,7 @@ use Rattle.record.proofs.GoodLaws.{good-of}
 use Rattle.record.proofs.PacketLaws.{order-small, after-length, after-slot, after-held, after-count, after-other, after-good}
 use Rattle.table.specs.Start.{freshRecord}
 use Rattle.demands.specs.Trace.{Arrival, kept, valueCarried, orElse, countedTypes}
-use Rattle.demands.specs.Demands.{heldIn}
+use Rattle.demands.specs.Right.{heldIn}
 use Rattle.demands.proofs.HearingLaws.{Heeded}
 
 -- ---- the types that are counted

@@ -1,9 +1,13 @@
--- A play that is broken off and resumed. The idea: a page that was saved holds the table's layout, so the table that it is put back into is right for the
--- packets before (`right-layout`), and goes on as any right table does; by the rules, and since they leave nothing open, as the unbroken play.
-use Rattle.words.proofs.Kit.{_≡_, refl, sym, ap, _∙_, true, List, [], _∷_, _++_, ℕ, _+_, _*_, _≤_, _<_, arith, length, take, drop}
+-- Stopping and resuming. The idea: a page that was saved holds the table's layout, so the table that it is put back into is right for the packets before
+-- (`right-layout`), and goes on as any right table does; by the rules, and since they leave nothing open, as the unbroken play. A day is these two steps taken
+-- again and again (`day-on`); its pages are those of the unbroken play, since a page looks at the layout alone (`page-layout`).
+use Rattle.words.proofs.Kit.{_≡_, refl, sym, ap, _∙_, true, ⊎-elim, List, [], _∷_, _++_, ℕ, _≤_, _<_, arith, lt-ltb, le-ltb, length, take, drop}
+use mathlib.Core.List.{append-nil, append-assoc}
+use lib.ListN.{take-append-drop}
 use lib.Seq.{take-at, drop-at, length-take-le}
-use Rattle.words.specs.Outcome.{Outcome, accepted, Done, saidOf, leftOf}
-use Rattle.words.proofs.Cases.{accepted-same}
+use Rattle.words.specs.Numbers.{ROOM}
+use Rattle.words.specs.Outcome.{Outcome, refused, accepted, Done}
+use Rattle.words.proofs.Cases.{le-or-lt, accepted-same}
 use Rattle.words.proofs.RefusalLaws.{first-passed}
 use Rattle.record.specs.Layout.{identifierOf, orderOf, countWords}
 use Rattle.table.specs.Layout.{streamsOf, base, recordAt}
@@ -11,17 +15,19 @@ use Rattle.table.specs.Well.{wellMade}
 use Rattle.table.proofs.RecordLaws.{record-identifier}
 use Rattle.table.proofs.WellLaws.{well-whole}
 use Rattle.play.specs.declared.Heard.{Heard}
-use Rattle.play.specs.Play.{playOf}
-use Rattle.page.specs.Layout.{pageOf, pageLength}
-use Rattle.page.specs.Save.{saveList, saveOf}
+use Rattle.page.specs.Layout.{pageFrom, pageOf, pageLength}
+use Rattle.page.specs.Save.{sizeLimit, saveList, saveOf}
 use Rattle.page.specs.PutBack.{putBackOf}
 use Rattle.page.proofs.LayoutLaws.{record-in, table-streams}
-use Rattle.page.proofs.Bounds.{page-between, page-whole}
-use Rattle.page.proofs.Exact.{table-back, page-passes, table-well}
+use Rattle.page.proofs.Bounds.{page-between, page-small, page-whole}
+use Rattle.page.proofs.Exact.{table-back, page-passes, table-well, page-back, page-tested}
 use Rattle.page.proofs.RoundTrip.{save-accepted, put-back-saved}
-use Rattle.demands.specs.Demands.{ours, Accepts, heldIn, Right, layoutOf, pastOf, playAll, saidAll, Resumes}
+use Rattle.demands.specs.Trace.{traceOf, answersAfter}
+use Rattle.demands.specs.Program.{ours, playAll}
+use Rattle.demands.specs.Right.{heldIn, Right, layoutOf, pastOf}
+use Rattle.demands.specs.Resumed.{SavesAs, Saves, Resumes, Stop, Day, over, plays, stops, SamePages, DayRight}
 use Rattle.demands.proofs.HearingLaws.{record-whole}
-use Rattle.demands.proofs.RightLaws.{right-listed, right-on, answers-on, past-on}
+use Rattle.demands.proofs.RightLaws.{right-listed, trace-append, right-more, right-answer, right-on, answers-on, past-on}
 use Rattle.demands.proofs.Determined.{determined, layout-is}
 
 -- ---- a right layout, whatever follows it
@@ -49,55 +55,135 @@ module _ (ids : List ℕ) (packets : List (List ℕ)) (t rest : List ℕ) (r : R
 
 -- ---- saving
 
--- the words that were written are the page
-page-words : (t page : List ℕ) (w : wellMade t ≡ true) (e : Done ℕ (List ℕ)) → saveOf t page ≡ accepted e → take (e .says) (e .leaves) ≡ pageOf t
+-- its page, which it saves where there is room
+saves-as : (t : List ℕ) → wellMade t ≡ true → SavesAs ours t (pageOf t)
+saves-as t w lent h =
+    let l : pageLength t ≡ length (pageOf t) = sym (page-whole t w) in
+    rw l at (save-accepted t lent w (omega (arith, l)))
+
+no-room-for : (t lent : List ℕ) → wellMade t ≡ true → length lent < length (pageOf t) → saveOf t lent ≡ refused ROOM
 unfolding saveOf
-page-words t page w e s =
-    rw (← accepted-same (first-passed (saveList t page) _ e s .1)) (take-at (pageOf t) (drop (pageLength t) page) (pageLength t) (page-whole t w))
+no-room-for t lent w h =
+    let g : length lent < pageLength t = omega (arith, page-whole t w) in
+    rw (w, le-ltb sizeLimit (pageLength t) (omega (arith, page-small t w)), lt-ltb (length lent) (pageLength t) g)
 
-pub saves : (ids : List ℕ) (packets : List (List ℕ)) (t page : List ℕ) → Right ids packets t → 2 + 90 * length ids ≤ length page → Accepts (saveOf t page)
-saves ids packets t page r h = (_, save-accepted t page (r .made) (omega (arith, page-between t (r .made) .1, r .streams)))
+pub saves : (ids : List ℕ) (packets : List (List ℕ)) (t : List ℕ) → Right ids packets t → Saves ours ids t
+saves ids packets t r =
+    let l = page-whole t (r .made) in
+    let b = page-between t (r .made) in
+    record {
+      page = pageOf t;
+      least = omega (arith, l, b .0, r .streams);
+      most = omega (arith, l, b .1, r .streams);
+      fits = saves-as t (r .made);
+      short = λ lent h. no-room-for t lent (r .made) h;
+    }
 
--- ---- a play in two parts
+-- the words that were written are the page
+pub page-words : (t buffer : List ℕ) (w : wellMade t ≡ true) (e : Done ℕ (List ℕ)) → saveOf t buffer ≡ accepted e → take (e .says) (e .leaves) ≡ pageOf t
+unfolding saveOf
+page-words t buffer w e s =
+    rw (← accepted-same (first-passed (saveList t buffer) _ e s .1)) (take-at (pageOf t) (drop (pageLength t) buffer) (pageLength t) (page-whole t w))
 
-said-append : (t : List ℕ) (first rest : List (List ℕ)) → saidAll ours t (first ++ rest) ≡ saidAll ours t first ++ saidAll ours (playAll ours t first) rest
-said-append t [] rest = refl
-said-append t (ws ∷ first) rest = ap (λ (l : List (Outcome Heard)). saidOf (playOf t ws) ∷ l) (said-append (leftOf (playOf t ws) t) first rest)
+-- a page looks at the layout alone
+page-layout : (ids : List ℕ) (packets : List (List ℕ)) (t u : List ℕ) → Right ids packets t → Right ids packets u → pageOf t ≡ pageOf u
+page-layout ids packets t u p q =
+    let back : (v : List ℕ) → Right ids packets v → (rest : List ℕ) → pageOf (layoutOf ids v ++ rest) ≡ pageOf v =
+    λ v r rest. rw (table-back v (r .made), r .streams) at (page-back (pageOf v) (page-passes v (r .made)) rest) in
+    sym (back t p (pastOf ids u))
+    ∙ ap (λ (l : List ℕ). pageOf (l ++ pastOf ids u)) (determined ids packets t u p q)
+    ∙ ap pageOf (take-append-drop (base (length ids)) u)
 
-module _ (ids t : List ℕ) (r : Right ids [] t) (first rest : List (List ℕ)) (page lent : List ℕ) (e : Done ℕ (List ℕ))
-    (s : saveOf (playAll ours t first) page ≡ accepted e) (room : base (length ids) ≤ length lent) where
-  abbrev middle : List ℕ
-  middle = playAll ours t first
+-- ---- putting back
 
-  reached : Right ids first (playAll ours t first)
-  reached = right-on ids [] first t r
+-- the table of a stop: right for the packets `first`, saved into a buffer
+module _ (ids : List ℕ) (first : List (List ℕ)) (t : List ℕ) (r : Right ids first t) (buffer : List ℕ) (saved : Done ℕ (List ℕ))
+    (s : saveOf t buffer ≡ accepted saved) (lent : List ℕ) where
+  pub no-room : length lent < base (length ids) → putBackOf (take (saved .says) (saved .leaves)) lent ≡ refused ROOM
+  unfolding putBackOf pageOf pageFrom
+  no-room h =
+      let g : length lent < base (streamsOf t) = rw (r .streams) h in
+      ap (λ (p : List ℕ). putBackOf p lent) (page-words t buffer (r .made) saved s)
+      ∙ rw (← page-tested _, page-passes t (r .made), lt-ltb (length lent) (base (streamsOf t)) g)
+
+  put-back : base (length ids) ≤ length lent
+      → putBackOf (take (saved .says) (saved .leaves)) lent ≡ accepted (record { says = base (length ids); leaves = layoutOf ids t ++ pastOf ids lent })
+  put-back room =
+      let l : base (streamsOf t) ≤ length lent = rw (r .streams) room in
+      ap (λ (p : List ℕ). putBackOf p lent) (page-words t buffer (r .made) saved s) ∙ rw (r .streams) at (put-back-saved t lent (r .made) l)
 
   abbrev back : List ℕ
-  back = layoutOf ids middle ++ pastOf ids lent
+  back = layoutOf ids t ++ pastOf ids lent
 
-  here : Right ids first (layoutOf ids (playAll ours t first) ++ pastOf ids lent)
-  here = right-layout ids first middle (pastOf ids lent) reached
+  here : Right ids first (layoutOf ids t ++ pastOf ids lent)
+  here = right-layout ids first t (pastOf ids lent) r
 
-  put-back : putBackOf (take (e .says) (e .leaves)) lent
-      ≡ accepted (record { says = base (length ids); leaves = layoutOf ids (playAll ours t first) ++ pastOf ids lent })
-  put-back =
-      let l : base (streamsOf middle) ≤ length lent = rw (reached .streams) room in
-      ap (λ (p : List ℕ). putBackOf p lent) (page-words middle page (reached .made) e s)
-      ∙ rw (reached .streams) at (put-back-saved middle lent (reached .made) l)
-
-  pub resumes : Resumes ours ids t first rest (take (e .says) (e .leaves)) lent
-  resumes =
+  pub resumes : (rest : List (List ℕ)) → base (length ids) ≤ length lent → Resumes ours ids t first rest (take (saved .says) (saved .leaves)) lent
+  resumes rest room =
       let on : Right ids (first ++ rest) (playAll ours back rest) = right-on ids first rest back here in
       record {
         done = record { says = base (length ids); leaves = back };
-        accepts = put-back;
+        accepts = put-back room;
         says = refl;
         right = on;
         answers = answers-on ids first rest back here;
-        same-answers =
-            said-append t first rest
-            ∙ ap (λ (l : List (Outcome Heard)). saidAll ours t first ++ l)
-            (answers-on ids first rest middle reached ∙ sym (answers-on ids first rest back here));
-        same-table = determined ids (first ++ rest) _ _ on (right-on ids [] (first ++ rest) t r);
-        past = past-on ids rest back (here .streams) ∙ past-layout ids first middle (pastOf ids lent) reached;
+        same-answers = answers-on ids first rest back here ∙ sym (answers-on ids first rest t r);
+        same-table = determined ids (first ++ rest) _ _ on (right-on ids first rest t r);
+        past = past-on ids rest back (here .streams) ∙ past-layout ids first t (pastOf ids lent) r;
+      }
+
+  -- whatever was put back is right for the same packets
+  pub put-right : (done : Done ℕ (List ℕ)) → putBackOf (take (saved .says) (saved .leaves)) lent ≡ accepted done → Right ids first (done .leaves)
+  put-right done e =
+      ⊎-elim
+      (λ (h : base (length ids) ≤ length lent).
+      let same : record { says = base (length ids); leaves = back } ≡ done = accepted-same (sym (put-back h) ∙ e) in
+      rw (ap (λ (d : Done ℕ (List ℕ)). d .leaves) same) at here)
+      (λ (h : length lent < base (length ids)).
+      let both : refused ROOM ≡ accepted done = sym (no-room h) ∙ e in
+      let z : _≡_ {A = ℕ} 0 1 = cc in
+      absurd (omega arith))
+      (le-or-lt (base (length ids)) (length lent))
+
+-- ---- a day
+
+-- what is kept to, from where the day has had the packets `before`: u is the morning's table
+record On (ids : List ℕ) (first : List (List ℕ)) (u : List ℕ) (before packets : List (List ℕ)) (answers : List (Outcome Heard)) (stops : List Stop)
+    (last : List ℕ) : Type 0 where
+  right : Right ids ((first ++ before) ++ packets) last
+  ruled : answers ≡ answersAfter (traceOf ids (first ++ before)) (traceOf ids packets)
+  pages : SamePages ours u stops
+
+module _ (ids : List ℕ) (first : List (List ℕ)) (u : List ℕ) (morning : Right ids first u) where
+  day-on : {before packets : List (List ℕ)} {t last : List ℕ} {answers : List (Outcome Heard)} {later : List Stop} → Right ids (first ++ before) t
+      → Day ours before t packets answers later last → On ids first u before packets answers later last
+  day-on {before} r over = record { right = rw (append-nil (first ++ before)) r; ruled = refl; pages = tt }
+  day-on {before} {t = t} r (plays {packets = packets} {last = last} {answers = answers} ws d) =
+      let more : first ++ (before ++ (ws ∷ [])) ≡ (first ++ before) ++ (ws ∷ []) = sym (append-assoc first before (ws ∷ [])) in
+      let k = day-on (rw more (right-more ids (first ++ before) t r ws)) d in
+      record {
+        right = rw (more, append-assoc (first ++ before) (ws ∷ []) packets) at (k .right);
+        ruled = rw (right-answer ids (first ++ before) t r ws, k .ruled, more, trace-append ids (first ++ before) (ws ∷ []));
+        pages = k .pages;
+      }
+  day-on {before} {t = t} r (stops buffer lent saved back s e d) =
+      let k = day-on (put-right ids (first ++ before) t r buffer saved s lent back e) d in
+      let unbroken = right-on ids first before u morning in
+      let same : pageOf (playAll ours u before) ≡ take (saved .says) (saved .leaves) =
+      page-layout ids (first ++ before) _ _ unbroken r ∙ sym (page-words t buffer (r .made) saved s) in
+      record { right = k .right; ruled = k .ruled; pages = (rw same at (saves-as (playAll ours u before) (unbroken .made)), k .pages) }
+
+  pub days : (packets : List (List ℕ)) (last : List ℕ) (answers : List (Outcome Heard)) (later : List Stop) → Day ours [] u packets answers later last
+      → DayRight ours ids first u packets answers later last
+  days packets last answers later d =
+      let none : first ++ [] ≡ first = append-nil first in
+      let k = day-on (rw none morning) d in
+      let on : Right ids (first ++ packets) last = rw none at (k .right) in
+      let said : answers ≡ answersAfter (traceOf ids first) (traceOf ids packets) = rw none at (k .ruled) in
+      record {
+        right = on;
+        ruled = said;
+        same-answers = said ∙ sym (answers-on ids first packets u morning);
+        same-table = determined ids (first ++ packets) _ _ on (right-on ids first packets u morning);
+        same-pages = k .pages;
       }

@@ -21,7 +21,8 @@ use Rattle.play.specs.Play.{playOf}
 use Rattle.play.proofs.KeepLaws.{play-keeps}
 use Rattle.demands.specs.Trace.{Arrival, Trace, heardBy, traceOf, own, valueCarried, orElse, lastCarried}
 use Rattle.demands.specs.Trace.{countedTypes, countsOf, countRule, answerTo, answersAfter}
-use Rattle.demands.specs.Demands.{ours, heldIn, Right, pastOf, playAll, saidAll}
+use Rattle.demands.specs.Program.{ours, playAll, saidAll}
+use Rattle.demands.specs.Right.{heldIn, Right, pastOf}
 use Rattle.demands.proofs.RuleLaws.{own-append, last-more, counts-append, added-by-last, rule-more}
 use Rattle.demands.proofs.HearingLaws.{Heeded, heard-fine, Listed, recordOn, doneOn, play-is, listed-on, record-whole, record-own, record-other}
 use Rattle.demands.proofs.RecordLaws.{held-after, count-after, fresh-held, fresh-count}

@@ -10,7 +10,7 @@ use Rattle.record.specs.Counts.{missedOf, addedOf, countedOf}
 use Rattle.fields.specs.Layout.{fieldOf}
 use Rattle.demands.specs.Trace.{Arrival, Trace, own, carries, valueCarried, orElse, lastCarried, NoneCarried, LastCarried, countsOf, lastCount}
 use Rattle.demands.specs.Trace.{missedAfter, missed, lastPlusOne, countRule, addedAfter}
-use Rattle.demands.specs.Demands.{LastMeant}
+use Rattle.demands.specs.Right.{LastMeant}
 
 -- ---- a stream's own packets
 

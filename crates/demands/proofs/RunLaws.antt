@@ -1,6 +1,6 @@
 -- A run plays a recording's packets. The idea: a walk goes on exactly where the trace does (`on-same`), since what play says is what the rules say; so the
 -- walk's table and entries are those of playing its packets one by one (`walked`).
-use Rattle.words.proofs.Kit.{_≡_, refl, sym, ap, _∙_, true, false, ⊎-elim, List, [], _∷_, _++_, ℕ, zero, suc, _+_, _/_, _≤_, _<_, le-leb, lt-leb}
+use Rattle.words.proofs.Kit.{_≡_, refl, sym, ap, _∙_, true, false, ⊎-elim, List, [], _∷_, _++_, ℕ, zero, suc, _+_, _/_, _≤_, _<_, arith, le-leb, lt-leb}
 use Rattle.words.proofs.Kit.{length, getD, drop}
 use native.Mathlib.Nat.{add-zero}
 use lib.Seq.{getD-drop}
@@ -10,9 +10,10 @@ use Rattle.packet.specs.Header.{sizeOf}
 use Rattle.play.specs.Play.{playOf}
 use Rattle.play.specs.Run.{goesOn, saidAt, leftAt, nextOf, entryWords, entryOf, entryAt, Walk, walkOf, wholeWalk, reachedOf, answersOf, runOf}
 use Rattle.demands.specs.Trace.{Arrival, Trace, heardBy, traceOf, answerTo}
-use Rattle.demands.specs.Demands.{ours, Right, playAll, saidAll}
-use Rattle.demands.specs.Recording.{goesPast, packetsFrom, entriesOf, Runs}
-use Rattle.demands.proofs.RightLaws.{right-more, right-answer, right-on, answers-on}
+use Rattle.demands.specs.Program.{ours, playAll, saidAll}
+use Rattle.demands.specs.Right.{Right, pastOf}
+use Rattle.demands.specs.Recording.{goesPast, packetsFrom, entriesOf, wordsPast, Runs}
+use Rattle.demands.proofs.RightLaws.{right-more, right-answer, right-on, answers-on, past-on}
 
 said-goes : (before : Trace) (x : Outcome Arrival) → goesOn (answerTo before x) ≡ goesPast x
 said-goes before (refused n) = refl
@@ -21,11 +22,17 @@ said-goes before (accepted a) = refl
 on-same : (ids : List ℕ) (before : List (List ℕ)) (t : List ℕ) → Right ids before t → (ws : List ℕ) → goesOn (saidOf (playOf t ws)) ≡ goesPast (heardBy ids ws)
 on-same ids before t r ws = ap goesOn (right-answer ids before t r ws) ∙ said-goes (traceOf ids before) (heardBy ids ws)
 
+-- a walk from a place on, and its packets played one by one
+record Walked (ids : List ℕ) (at : ℕ) (t : List ℕ) (packets : List (List ℕ)) (w : Walk) : Type 0 where
+  entered : w .packets ≡ length packets
+  next : w .next ≡ at + wordsPast ids packets
+  table : w .table ≡ playAll ours t packets
+  entries : w .entries ≡ entriesOf packets (saidAll ours t packets)
+
 walked : (ids : List ℕ) (n : ℕ) (ws : List ℕ) (at : ℕ) (before : List (List ℕ)) (t : List ℕ) → Right ids before t
-    → (walkOf n ws at t .table ≡ playAll ours t (packetsFrom ids n ws at))
-    × (walkOf n ws at t .entries ≡ entriesOf (packetsFrom ids n ws at) (saidAll ours t (packetsFrom ids n ws at)))
+    → Walked ids at t (packetsFrom ids n ws at) (walkOf n ws at t)
 unfolding walkOf saidAt leftAt nextOf entryAt
-walked ids zero ws at before t r = (refl, refl)
+walked ids zero ws at before t r = record { entered = refl; next = sym (add-zero at); table = refl; entries = refl }
 walked ids (suc n) ws at before t r =
     let next : ℕ = at + sizeOf (getD ws at 0) in
     let left : List ℕ = leftOf (playOf t (drop at ws)) t in
@@ -34,28 +41,36 @@ walked ids (suc n) ws at before t r =
     let entry : entryOf (saidOf (playOf t (drop at ws))) (sizeOf (getD ws at 0)) ≡ entryOf (saidOf (playOf t (drop at ws))) (sizeOf (getD (drop at ws) 0 0)) =
     ap (entryOf (saidOf (playOf t (drop at ws)))) first in
     let same = on-same ids before t r (drop at ws) in
-    ⊎-elim (λ (h : length ws ≤ at). rw (le-leb (length ws) at h) (refl, refl))
+    ⊎-elim (λ (h : length ws ≤ at). rw (le-leb (length ws) at h) (record { entered = refl; next = sym (add-zero at); table = refl; entries = refl }))
     (λ (h : at < length ws).
     ⊎-elim
     (λ (e : goesPast (heardBy ids (drop at ws)) ≡ true).
     let ih = walked ids n ws next (before ++ (drop at ws ∷ [])) left (right-more ids before t r (drop at ws)) in
     rw (lt-leb (length ws) at h, same, e)
-    (ih .0, rw entry (ap (λ (l : List ℕ). entryOf (saidOf (playOf t (drop at ws))) (sizeOf (getD (drop at ws) 0 0)) ++ l) (ih .1))))
-    (λ (e : goesPast (heardBy ids (drop at ws)) ≡ false). rw (lt-leb (length ws) at h, same, e) (refl, ap (λ (l : List ℕ). l ++ []) entry))
+    (record {
+      entered = ap suc (ih .entered);
+      next = rw e (omega (arith, ih .next, first));
+      table = ih .table;
+      entries = rw entry (ap (λ (l : List ℕ). entryOf (saidOf (playOf t (drop at ws))) (sizeOf (getD (drop at ws) 0 0)) ++ l) (ih .entries));
+    }))
+    (λ (e : goesPast (heardBy ids (drop at ws)) ≡ false).
+    rw (lt-leb (length ws) at h, same, e) (record { entered = refl; next = rw e; table = refl; entries = ap (λ (l : List ℕ). l ++ []) entry }))
     (true-or-false (goesPast (heardBy ids (drop at ws)))))
     (le-or-lt (length ws) at)
 
-pub runs : Runs
+pub runs : Runs ours
 unfolding runOf wholeWalk
 runs ids before t r ws from out =
     let n : ℕ = length out / entryWords in
+    let packets : List (List ℕ) = packetsFrom ids n ws from in
     let k = walked ids n ws from before t r in
     let w : Walk = walkOf n ws from t in
     record {
       done = record { says = reachedOf w; leaves = (w .table, answersOf w out) };
       accepts = rw (r .made);
-      right = rw (k .0) (right-on ids before (packetsFrom ids n ws from) t r);
-      entries =
-          ap (λ (es : List ℕ). es ++ drop (length es) out)
-          (k .1 ∙ ap (entriesOf (packetsFrom ids n ws from)) (answers-on ids before (packetsFrom ids n ws from) t r));
+      entered = k .entered;
+      next = k .next;
+      right = rw (k .table) (right-on ids before packets t r);
+      past = ap (pastOf ids) (k .table) ∙ past-on ids packets t (r .streams);
+      entries = ap (λ (es : List ℕ). es ++ drop (length es) out) (k .entries ∙ ap (entriesOf packets) (answers-on ids before packets t r));
     }

@@ -1,17 +1,20 @@
 -- Streams do not touch one another. The idea: the rules look at a stream's own packets alone, so two recordings with the same own packets (`own-altered`) give
 -- the same rules for its record, hence the same words (`records-same`), and the same answers (`own-answers`).
 use Rattle.words.proofs.Kit.{_≡_, refl, sym, ap, _∙_, Bool, false, ⊎-elim, List, [], _∷_, _++_, ℕ, _<_, eqb-true, eqb, length}
-use mathlib.Core.List.{append-nil}
+use mathlib.Core.List.{map, append-nil}
 use Rattle.words.specs.Tests.{pick}
 use Rattle.words.specs.Outcome.{Outcome, refused, accepted}
 use Rattle.words.proofs.Cases.{true-or-false}
 use Rattle.table.specs.Layout.{recordAt}
 use Rattle.play.specs.declared.Heard.{Heard}
-use Rattle.demands.specs.Trace.{Arrival, Trace, heardBy, traceOf, isOwn, own, lastCarried, countsOf, countRule, addedAfter, answerTo, answersAfter}
-use Rattle.demands.specs.Demands.{ours, Right, playAll, saidAll, Altered, ended, same, changed, added, dropped, ownAnswers}
+use Rattle.demands.specs.Trace.{Arrival, Trace, heardBy, traceOf, isOwn, own, countsOf, addedAfter, answerTo, answersAfter}
+use Rattle.demands.specs.Program.{ours, playAll, saidAll}
+use Rattle.demands.specs.Right.{Right}
+use Rattle.demands.specs.Altered.{Altered, ended, same, changed, added, dropped, ownAnswers, acceptedOf, RefusedApart}
 use Rattle.demands.proofs.RuleLaws.{own-append}
-use Rattle.demands.proofs.RightLaws.{right-on, answers-on}
-use Rattle.demands.proofs.Determined.{records-same}
+use Rattle.demands.proofs.HearingLaws.{play-is}
+use Rattle.demands.proofs.RightLaws.{right-listed, trace-append, right-on, answers-on}
+use Rattle.demands.proofs.Determined.{records-same, layouts-same}
 
 -- ---- a stream's own packets
 
@@ -73,9 +76,51 @@ apart ids t u r q s h ps qs a =
     let o = own-altered ids s a in
     let x : Right ids ps (playAll ours t ps) = right-on ids [] ps t r in
     let y : Right ids qs (playAll ours u qs) = right-on ids [] qs u q in (
-      records-same ids ps qs _ _ x y s h
-          (λ b. x .held s h b ∙ ap (lastCarried b) o ∙ sym (y .held s h b))
-          (λ kind k. x .counts s h kind k ∙ ap (λ (l : List Arrival). countRule (countsOf kind l)) o ∙ sym (y .counts s h kind k)),
+      records-same ids ps qs _ _ x y s h o,
       ap (ownAnswers ids s ps) (answers-on ids [] ps t r) ∙ own-answers ids s [] ps ∙ ap (ownRule []) o
           ∙ sym (ap (ownAnswers ids s qs) (answers-on ids [] qs u q) ∙ own-answers ids s [] qs),
     )
+
+-- ---- refused packets
+
+-- a trace without its refused packets
+abbrev heeded : Trace → Trace
+heeded trace = map accepted (acceptedOf trace)
+
+heeded-append : (xs ys : Trace) → heeded (xs ++ ys) ≡ heeded xs ++ heeded ys
+heeded-append [] ys = refl
+heeded-append (refused n ∷ xs) ys = heeded-append xs ys
+heeded-append (accepted a ∷ xs) ys = ap (λ (l : Trace). accepted a ∷ l) (heeded-append xs ys)
+
+own-heeded : (s : ℕ) (trace : Trace) → own s trace ≡ own s (heeded trace)
+own-heeded s [] = refl
+own-heeded s (refused n ∷ trace) = own-heeded s trace
+own-heeded s (accepted a ∷ trace) = ap (λ (l : List Arrival). pick (eqb (a .stream) s) (a ∷ l) l) (own-heeded s trace)
+
+-- the accepted answers are those of the trace without them
+answers-heeded : (before trace : Trace) → acceptedOf (answersAfter before trace) ≡ acceptedOf (answersAfter (heeded before) (heeded trace))
+answers-heeded before [] = refl
+answers-heeded before (refused n ∷ trace) =
+    answers-heeded (before ++ (refused n ∷ [])) trace
+    ∙ ap (λ (l : Trace). acceptedOf (answersAfter l (heeded trace))) (heeded-append before (refused n ∷ []) ∙ append-nil (heeded before))
+answers-heeded before (accepted a ∷ trace) =
+    rw (answers-heeded (before ++ (accepted a ∷ [])) trace, heeded-append before (accepted a ∷ []), own-heeded (a .stream) before)
+
+pub refused-apart : (ids : List ℕ) → RefusedApart ours ids
+refused-apart ids = record {
+  unowned = λ ws n e s. rw e;
+  answer = λ packets t r ws n e. play-is ids t (right-listed r) ws ∙ rw e;
+  altered = λ before ps qs t u r q e.
+      let same : heeded (traceOf ids ps) ≡ heeded (traceOf ids qs) = ap (map accepted) e in
+      let said : (v : List ℕ) → Right ids before v → (xs : List (List ℕ))
+      → acceptedOf (saidAll ours v xs) ≡ acceptedOf (answersAfter (heeded (traceOf ids before)) (heeded (traceOf ids xs))) =
+      λ v k xs. ap acceptedOf (answers-on ids before xs v k) ∙ answers-heeded (traceOf ids before) (traceOf ids xs) in
+      let owned : (s : ℕ) (xs : List (List ℕ)) → own s (traceOf ids (before ++ xs)) ≡ own s (traceOf ids before) ++ own s (heeded (traceOf ids xs)) =
+      λ s xs.
+      ap (own s) (trace-append ids before xs) ∙ own-append s (traceOf ids before) (traceOf ids xs)
+      ∙ ap (λ (l : List Arrival). own s (traceOf ids before) ++ l) (own-heeded s (traceOf ids xs)) in (
+        layouts-same ids (before ++ ps) (before ++ qs) _ _ (right-on ids before ps t r) (right-on ids before qs u q)
+            (λ s. owned s ps ∙ ap (λ (l : Trace). own s (traceOf ids before) ++ own s l) same ∙ sym (owned s qs)),
+        said t r ps ∙ ap (λ (l : Trace). acceptedOf (answersAfter (heeded (traceOf ids before)) l)) same ∙ sym (said u q qs),
+      );
+}

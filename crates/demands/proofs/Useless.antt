@@ -1,6 +1,6 @@
 -- Five useless programs, each shut out by a demand: no program of its kind, whatever its other calls do, meets the demand. The idea: the demand fixes what a
 -- table holds or an answer says for two short recordings, and the useless program would have to give one thing for both.
-use Rattle.words.proofs.Kit.{_≡_, refl, sym, ap, _∙_, true, List, [], _∷_, ℕ, _-_, arith, length, getD}
+use Rattle.words.proofs.Kit.{_≡_, refl, sym, ap, _∙_, true, List, [], _∷_, ℕ, arith, length, getD}
 use mathlib.Core.Option.{Option, none, some}
 use lib.ListN.{replicate, length-replicate}
 use Rattle.words.specs.Part.{part}
@@ -21,7 +21,9 @@ use Rattle.table.specs.Layout.{recordAt}
 use Rattle.table.specs.Identifiers.{listed, apart, listGood}
 use Rattle.play.specs.declared.Heard.{Heard}
 use Rattle.demands.specs.Trace.{placeIn, arrivalOf, heardBy, traceOf, own, lastCarried, countsOf, countRule}
-use Rattle.demands.specs.Demands.{Program, Demand2, Demand3, heldIn, playAll, saidAll}
+use Rattle.demands.specs.Program.{Program, playAll, saidAll}
+use Rattle.demands.specs.Right.{heldIn}
+use Rattle.demands.specs.Demands.{Demand2, Demand3}
 
 -- ---- packets of stream 7: sample data of three and of four words, and Context packets that carry one word, in the field of bit 30
 

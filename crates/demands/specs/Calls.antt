@@ -49,33 +49,79 @@ Each P (c ∷ cs) = P c × Each P cs
 abbrev pub plain : {A : Type 0} → A → A
 plain a = a
 
+-- ---- the calls
+
+-- fields::field_count, check_body, find
+abbrev pub fieldCountCall : Call
+fieldCountCall = answers plain fieldCount
+
+abbrev pub checkBodyCall : Call
+checkBodyCall = answers checked contextOf
+
+abbrev pub findCall : Call
+findCall = answers foundPaper (λ (h : ℕ × List ℕ). foundOf (h .0) (h .1))
+
+-- packet::read, packet_write::write, packet_trailer::trailer_parts, trailer_word
+abbrev pub readCall : Call
+readCall = answers Read.parsedPaper Read.readOf
+
+abbrev pub writeCall : Call
+writeCall = lends measured (λ (h : Parts × List ℕ × List ℕ × ℕ). writeOf (h .0) (h .1) (h .2) (h .3)) (λ h. h .2)
+
+abbrev pub trailerPartsCall : Call
+trailerPartsCall = answers plain trailerOf
+
+abbrev pub trailerWordCall : Call
+trailerWordCall = answers trailerPaper (λ (h : ℕ × ℕ × ℕ × ℕ). trailerWordOf (h .0) (h .1) (h .2) (h .3))
+
+-- payload_format::words_needed, unpack, pack, signed
+abbrev pub wordsNeededCall : Call
+wordsNeededCall = answers measured (λ (h : ℕ × ℕ × ℕ). neededOf (h .0) (h .1) (h .2))
+
+abbrev pub unpackCall : Call
+unpackCall = lends measured (λ (h : ℕ × ℕ × ℕ × List ℕ × Buffers). unpackOf (h .0) (h .1) (h .2) (h .3) (h .4)) (λ h. h .4)
+
+abbrev pub packCall : Call
+packCall = lends measured (λ (h : ℕ × ℕ × List ℕ × List ℕ × List ℕ × List ℕ). packOf (h .0) (h .1) (h .2) (h .3) (h .4) (h .5)) (λ h. h .5)
+
+abbrev pub signedCall : Call
+signedCall = answers shownPaper (λ (h : ℕ × ℕ). signedOf (h .0) (h .1))
+
+-- table::start, well_made
+abbrev pub startCall : Call
+startCall = lends measured (λ (h : List ℕ × List ℕ). startOf (h .0) (h .1)) (λ h. h .1)
+
+abbrev pub wellMadeCall : Call
+wellMadeCall = answers plain wellMade
+
+-- play::play, play_run
+abbrev pub playCall : Call
+playCall = lends Play.playedPaper (λ (h : List ℕ × List ℕ). Play.playOf (h .0) (h .1)) (λ h. h .0)
+
+abbrev pub playRunCall : Call
+playRunCall = lends runPaper (λ (h : List ℕ × List ℕ × ℕ × List ℕ). runOf (h .0) (h .1) (h .2) (h .3)) (λ h. (h .0, h .3))
+
+-- page::page_length, save, put_back
+abbrev pub pageLengthCall : Call
+pageLengthCall = answers measured lengthOf
+
+abbrev pub saveCall : Call
+saveCall = lends measured (λ (h : List ℕ × List ℕ). saveOf (h .0) (h .1)) (λ h. h .1)
+
+abbrev pub putBackCall : Call
+putBackCall = lends measured (λ (h : List ℕ × List ℕ). putBackOf (h .0) (h .1)) (λ h. h .1)
+
+-- panel::reading, held_words
+abbrev pub readingCall : Call
+readingCall = answers readingPaper (λ (h : List ℕ × ℕ × ℕ). readingOf (h .0) (h .1) (h .2))
+
+abbrev pub heldWordsCall : Call
+heldWordsCall = lends measured (λ (h : List ℕ × ℕ × ℕ × List ℕ). heldWordsOf (h .0) (h .1) (h .2) (h .3)) (λ h. h .3)
+
 unfoldable pub calls : List {1} Call
 calls =
-    -- fields::field_count, check_body, find
-    answers plain fieldCount
-    ∷ answers checked contextOf
-    ∷ answers foundPaper (λ (h : ℕ × List ℕ). foundOf (h .0) (h .1))
-    -- packet::read, packet_write::write, packet_trailer::trailer_parts, trailer_word
-    ∷ answers Read.parsedPaper Read.readOf
-    ∷ lends measured (λ (h : Parts × List ℕ × List ℕ × ℕ). writeOf (h .0) (h .1) (h .2) (h .3)) (λ h. h .2)
-    ∷ answers plain trailerOf
-    ∷ answers trailerPaper (λ (h : ℕ × ℕ × ℕ × ℕ). trailerWordOf (h .0) (h .1) (h .2) (h .3))
-    -- payload_format::words_needed, unpack, pack, signed
-    ∷ answers measured (λ (h : ℕ × ℕ × ℕ). neededOf (h .0) (h .1) (h .2))
-    ∷ lends measured (λ (h : ℕ × ℕ × ℕ × List ℕ × Buffers). unpackOf (h .0) (h .1) (h .2) (h .3) (h .4)) (λ h. h .4)
-    ∷ lends measured (λ (h : ℕ × ℕ × List ℕ × List ℕ × List ℕ × List ℕ). packOf (h .0) (h .1) (h .2) (h .3) (h .4) (h .5)) (λ h. h .5)
-    ∷ answers shownPaper (λ (h : ℕ × ℕ). signedOf (h .0) (h .1))
-    -- table::start, well_made
-    ∷ lends measured (λ (h : List ℕ × List ℕ). startOf (h .0) (h .1)) (λ h. h .1)
-    ∷ answers plain wellMade
-    -- play::play, play_run
-    ∷ lends Play.playedPaper (λ (h : List ℕ × List ℕ). Play.playOf (h .0) (h .1)) (λ h. h .0)
-    ∷ lends runPaper (λ (h : List ℕ × List ℕ × ℕ × List ℕ). runOf (h .0) (h .1) (h .2) (h .3)) (λ h. (h .0, h .3))
-    -- page::page_length, save, put_back
-    ∷ answers measured lengthOf
-    ∷ lends measured (λ (h : List ℕ × List ℕ). saveOf (h .0) (h .1)) (λ h. h .1)
-    ∷ lends measured (λ (h : List ℕ × List ℕ). putBackOf (h .0) (h .1)) (λ h. h .1)
-    -- panel::reading, held_words
-    ∷ answers readingPaper (λ (h : List ℕ × ℕ × ℕ). readingOf (h .0) (h .1) (h .2))
-    ∷ lends measured (λ (h : List ℕ × ℕ × ℕ × List ℕ). heldWordsOf (h .0) (h .1) (h .2) (h .3)) (λ h. h .3)
-    ∷ []
+    fieldCountCall ∷ checkBodyCall ∷ findCall
+    ∷ readCall ∷ writeCall ∷ trailerPartsCall ∷ trailerWordCall
+    ∷ wordsNeededCall ∷ unpackCall ∷ packCall ∷ signedCall
+    ∷ startCall ∷ wellMadeCall ∷ playCall ∷ playRunCall
+    ∷ pageLengthCall ∷ saveCall ∷ putBackCall ∷ readingCall ∷ heldWordsCall ∷ []

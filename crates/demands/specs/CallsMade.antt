@@ -11,7 +11,9 @@ use Rattle.play.specs.Play as Play
 use Rattle.page.specs.Save.{saveOf}
 use Rattle.page.specs.PutBack.{putBackOf}
 use Rattle.demands.specs.Trace.{traceOf, answersAfter}
-use Rattle.demands.specs.Demands.{Right, layoutOf, Altered, ownAnswers}
+use Rattle.demands.specs.Right.{Right, layoutOf}
+use Rattle.demands.specs.Resumed.{Stop}
+use Rattle.demands.specs.Altered.{Altered, ownAnswers}
 
 -- `start` was called with a list and a lent table, was accepted, and left the table t
 pub record StartMade (ids lent t : List ℕ) : Type 0 where
@@ -36,6 +38,29 @@ pub record SaveMade (t page : List ℕ) : Type 0 where
   pub accepts : measured answer ≡ accepted says
   pub wrote : page ≡ take says left
 
+-- `put_back` was called with a page and a lent table, was accepted, and left the table t
+pub record BackMade (page t : List ℕ) : Type 0 where
+  pub answer : Length
+  pub says : ℕ
+  pub lent : List ℕ
+  pub meets : Meets measured (putBackOf page lent) lent answer t
+  pub accepts : measured answer ≡ accepted says
+
+-- a day of calls, as `Day` has it: `play` is called with a packet; or `save` and `put_back` are, and the day goes on with the table that was put back
+pub data DayMade : List (List ℕ) → List ℕ → List (List ℕ) → List Played → List Stop → List ℕ → Type 0 where
+  over : {before : List (List ℕ)} {t : List ℕ} → DayMade before t [] [] [] t
+  plays : {before packets : List (List ℕ)} {t ws after last : List ℕ} {r : Played} {rs : List Played} {stops : List Stop}
+      → Meets Play.playedPaper (Play.playOf t ws) t r after → DayMade (before ++ (ws ∷ [])) after packets rs stops last
+      → DayMade before t (ws ∷ packets) (r ∷ rs) stops last
+  stops : {before packets : List (List ℕ)} {t page back last : List ℕ} {rs : List Played} {later : List Stop} → SaveMade t page → BackMade page back
+      → DayMade before back packets rs later last → DayMade before t packets rs (record { after = before; page = page } ∷ later) last
+
+-- each page is the one that the unbroken play, which began with t, saves after the same packets
+abbrev pub SamePagesMade : List ℕ → List Stop → Type 0
+SamePagesMade t [] = Unit
+SamePagesMade t (s ∷ later) =
+    ((u page : List ℕ) (heard : List Played) → PlaysMade t (s .after) heard u → SaveMade u page → page ≡ s .page) × SamePagesMade t later
+
 -- what the rules say of played packets: the table, and the answers
 pub record Ruled (ids : List ℕ) (before packets : List (List ℕ)) (answers : List Played) (t : List ℕ) : Type 0 where
   pub table : Right ids (before ++ packets) t
@@ -45,17 +70,16 @@ pub record Demand3Made : Type 0 where
   -- "Start a fresh table for any valid list of streams and play any packets, refused ones among them."
   pub plays : (ids lent t last : List ℕ) (packets : List (List ℕ)) (answers : List Played) → StartMade ids lent t → PlaysMade t packets answers last
       → Ruled ids [] packets answers last
-  -- "Save a page after any packet, put it back where there is room, play the rest"
-  pub resumes : (ids lent t middle page room back last : List ℕ) (first rest : List (List ℕ)) (heard answers : List Played) (r : Length)
-      → StartMade ids lent t → PlaysMade t first heard middle → SaveMade middle page
-      → base (length ids) ≤ length room → Meets measured (putBackOf page room) room r back → PlaysMade back rest answers last
-      → (measured r ≡ accepted (base (length ids))) × Ruled ids first rest answers last
+  -- "Save a page after any packet, put it back where there is room": it is accepted there
+  pub puts-back : (ids : List ℕ) (packets : List (List ℕ)) (t page room back : List ℕ) (r : Length) → Right ids packets t → SaveMade t page
+      → base (length ids) ≤ length room → Meets measured (putBackOf page room) room r back → measured r ≡ accepted (base (length ids))
+  -- "play the rest", with any number of stops
+  pub days : (ids lent t last : List ℕ) (packets : List (List ℕ)) (answers : List Played) (stops : List Stop) → StartMade ids lent t
+      → DayMade [] t packets answers stops last → Ruled ids [] packets answers last × SamePagesMade t stops
   -- "every answer and the final table equal those of the unbroken play"
-  pub unbroken : (ids lent t middle page room back last whole : List ℕ) (first rest : List (List ℕ)) (heard answers all : List Played) (r : Length)
-      → StartMade ids lent t → PlaysMade t first heard middle → SaveMade middle page
-      → base (length ids) ≤ length room → Meets measured (putBackOf page room) room r back → PlaysMade back rest answers last
-      → PlaysMade t (first ++ rest) all whole
-      → (layoutOf ids last ≡ layoutOf ids whole) × (map Play.playedPaper all ≡ map Play.playedPaper (heard ++ answers))
+  pub unbroken : (ids lent t last whole : List ℕ) (packets : List (List ℕ)) (answers all : List Played) (stops : List Stop) → StartMade ids lent t
+      → DayMade [] t packets answers stops last → PlaysMade t packets all whole
+      → (layoutOf ids last ≡ layoutOf ids whole) × (map Play.playedPaper answers ≡ map Play.playedPaper all)
   -- "other streams' packets may be altered at will, none becoming this stream's, without altering this stream's answers or record"
   pub apart : (ids lent room t u last other : List ℕ) (ps qs : List (List ℕ)) (answers others : List Played) (s : ℕ)
       → StartMade ids lent t → PlaysMade t ps answers last → StartMade ids room u → PlaysMade u qs others other → s < length ids → Altered ids s ps qs

@@ -1,9 +1,21 @@
--- The demands. Read Demands first; it speaks in the words of Trace.
+-- The demands. Read Demands first; it speaks in the words of Trace and Right.
 
 -- the three demands, as statements about a program
 pub mod Demands
+-- a program: what its calls answer and leave
+pub mod Program
 -- which packets of a trace are accepted, and the rules over them
 pub mod Trace
+-- tables that the rules fix
+pub mod Right
+-- what the panel and the caller see
+pub mod Shown
+-- stopping and resuming, any number of times
+pub mod Resumed
+-- words past a table's layout
+pub mod PastUnread
+-- other streams' packets altered
+pub mod Altered
 -- demand 3 of calls as they are made
 pub mod CallsMade
 -- many packets in one slice of words
@@ -16,3 +28,5 @@ pub mod Clean
 pub mod Calls
 -- the cases marked P, as one table
 pub mod Samples
+-- each call of the list, tied to its function
+pub mod Sources

@@ -2,14 +2,15 @@
 -- "STREAM goes on by the size, any other ends at W".
 use Rattle.words.specs.Kit.{_≡_, ℕ, zero, suc, _+_, _/_, Bool, true, List, [], _∷_, _++_, eqb, leb, length, getD, drop}
 use Rattle.words.specs.Numbers.{STREAM}
-use Rattle.words.specs.Tests.{pick}
+use Rattle.words.specs.Tests.{pick, when}
 use Rattle.words.specs.Outcome.{Outcome, refused, accepted, Done}
 use Rattle.packet.specs.Header.{sizeOf}
 use Rattle.play.specs.declared.Heard.{Heard}
 use Rattle.play.specs.declared.run.Reached.{Reached}
-use Rattle.play.specs.Run.{entryWords, entryOf, runOf}
+use Rattle.play.specs.Run.{entryWords, entryOf}
 use Rattle.demands.specs.Trace.{Arrival, heardBy, traceOf, answersAfter}
-use Rattle.demands.specs.Demands.{Right}
+use Rattle.demands.specs.Program.{Program}
+use Rattle.demands.specs.Right.{Right, pastOf}
 
 -- a recording goes on behind a packet that is accepted, and behind one of no declared stream
 abbrev pub goesPast : Outcome Arrival → Bool
@@ -29,14 +30,23 @@ entriesOf [] answers = []
 entriesOf (ws ∷ packets) [] = []
 entriesOf (ws ∷ packets) (x ∷ answers) = entryOf x (sizeOf (getD ws 0 0)) ++ entriesOf packets answers
 
--- a run on a table that is right for some packets is accepted; the table is right for these and the recording's, and the entries are those of the answers that
--- the rules give. There are as many packets as there is room for entries, unless the recording ends before.
-pub record RunRight (ids : List ℕ) (before : List (List ℕ)) (t ws : List ℕ) (from : ℕ) (out : List ℕ) (packets : List (List ℕ)) : Type 0 where
+-- the words that a run goes on by: the sizes of the packets that it goes past. One that ends it is not gone past, so the run stops at that packet's own place
+abbrev pub wordsPast : List ℕ → List (List ℕ) → ℕ
+wordsPast ids [] = 0
+wordsPast ids (ws ∷ packets) = when (goesPast (heardBy ids ws)) (sizeOf (getD ws 0 0)) + wordsPast ids packets
+
+-- a run on a table that is right for some packets is accepted. It says how many packets have entries, and where it stopped: past the last, or at the place of
+-- the one that ends it. The table is right for these packets too, and its words past the layout stay; the entries are those of the answers that the rules give,
+-- and the words behind them stay. There are as many packets as there is room for entries, unless the recording ends before.
+pub record RunRight (P : Program) (ids : List ℕ) (before : List (List ℕ)) (t ws : List ℕ) (from : ℕ) (out : List ℕ) (packets : List (List ℕ)) : Type 0 where
   pub done : Done Reached (List ℕ × List ℕ)
-  pub accepts : runOf t ws from out ≡ accepted done
+  pub accepts : P .playRun t ws from out ≡ accepted done
+  pub entered : done .says .packets ≡ length packets
+  pub next : done .says .next ≡ from + wordsPast ids packets
   pub right : Right ids (before ++ packets) (done .leaves .0)
+  pub past : pastOf ids (done .leaves .0) ≡ pastOf ids t
   pub entries : let es = entriesOf packets (answersAfter (traceOf ids before) (traceOf ids packets)) in done .leaves .1 ≡ es ++ drop (length es) out
 
-abbrev pub Runs : Type 0
-Runs = (ids : List ℕ) (before : List (List ℕ)) (t : List ℕ) → Right ids before t → (ws : List ℕ) (from : ℕ) (out : List ℕ)
-    → RunRight ids before t ws from out (packetsFrom ids (length out / entryWords) ws from)
+abbrev pub Runs : Program → Type 0
+Runs P = (ids : List ℕ) (before : List (List ℕ)) (t : List ℕ) → Right ids before t → (ws : List ℕ) (from : ℕ) (out : List ℕ)
+    → RunRight P ids before t ws from out (packetsFrom ids (length out / entryWords) ws from)

@@ -1,0 +1,77 @@
+-- What is seen is what is held. The idea: no test refuses a stream of the list and a kept field of a right table (`asked`); and what a record shows, or gives as
+-- words, is by what it holds (`shows-held`, `words-held`), which the rules fix.
+use Rattle.words.proofs.Kit.{_≡_, refl, sym, ap, _∙_, Bool, true, false, List, [], _++_, ℕ, _+_, _≤_, _<_, arith, lt-ltb, le-ltb, lt-leb, leb, length, drop}
+use mathlib.Core.Option.{some, none}
+use borrow.Author.Tests.{leb-true}
+use Rattle.words.specs.Numbers.{ROOM}
+use Rattle.words.specs.Tests.{pick, among}
+use Rattle.words.specs.Word.{has}
+use Rattle.words.specs.Part.{part}
+use Rattle.words.specs.Outcome.{refused, accepted}
+use Rattle.words.proofs.Cases.{both-left, both-right}
+use Rattle.words.proofs.RefusalLaws.{None, none-given}
+use Rattle.words.proofs.PartLaws.{part-part}
+use Rattle.record.specs.Layout.{recordWords, heldOf, orderOf, countAt, countWords, slotOf}
+use Rattle.record.proofs.PacketLaws.{order-small}
+use Rattle.table.specs.Layout.{base, recordAt}
+use Rattle.panel.specs.HeldWords.{heldWordsIn, heldWordsOf}
+use Rattle.panel.specs.Readings.{absent, shownOf, isHeld, recordShows, readingList, readingOf}
+use Rattle.demands.specs.Trace.{traceOf, own, kept, lastCarried, countedTypes, countsOf, countRule}
+use Rattle.demands.specs.Program.{ours}
+use Rattle.demands.specs.Right.{heldIn, Right}
+use Rattle.demands.specs.Shown.{shownBy, wordsBy, Shown}
+use Rattle.demands.proofs.Listing.{_and_}
+
+-- ---- a record
+
+by-value : (b : ℕ) (held : Bool) (v : List ℕ) → pick held (shownOf b v) absent ≡ shownBy b (pick held (some v) none)
+by-value b true v = refl
+by-value b false v = refl
+
+by-words : (held : Bool) (v : List ℕ) → pick held v [] ≡ wordsBy (pick held (some v) none)
+by-words true v = refl
+by-words false v = refl
+
+shows-held : (b : ℕ) (r : List ℕ) → recordShows b r ≡ shownBy b (heldIn b r)
+unfolding recordShows isHeld
+shows-held b r = by-value b (has (heldOf r) b) (slotOf b r)
+
+words-held : (b : ℕ) (r : List ℕ) → heldWordsIn b r ≡ wordsBy (heldIn b r)
+unfolding heldWordsIn isHeld
+words-held b r = by-words (has (heldOf r) b) (slotOf b r)
+
+-- ---- a right table
+
+module _ (ids : List ℕ) (packets : List (List ℕ)) (t : List ℕ) (r : Right ids packets t) (s : ℕ) (h : s < length ids) where
+  asked : (b : ℕ) → kept b ≡ true → None (readingList t s b)
+  asked b k =
+      let low : 10 ≤ b = leb-true 10 b (both-left (leb 10 b) (leb b 30) k) in
+      let high : b ≤ 30 = leb-true b 30 (both-right (leb 10 b) (leb b 30) k) in
+      (rw (r .made)) and (rw (r .streams, lt-leb (length ids) s h)) and (rw (le-ltb b 10 low, le-ltb 30 b high)) and tt
+
+  pub shown : (b : ℕ) → kept b ≡ true → readingOf t s b ≡ accepted (shownBy b (lastCarried b (own s (traceOf ids packets))))
+  unfolding readingOf
+  shown b k =
+      none-given (readingList t s b) _ (asked b k) ∙ ap accepted (shows-held b (recordAt s t) ∙ ap (shownBy b) (r .held s h b))
+
+  module _ (b : ℕ) (k : kept b ≡ true) (out : List ℕ) where
+    words-are : heldWordsIn b (recordAt s t) ≡ wordsBy (lastCarried b (own s (traceOf ids packets)))
+    words-are = words-held b (recordAt s t) ∙ ap wordsBy (r .held s h b)
+
+    pub held-words-last : let ws = wordsBy (lastCarried b (own s (traceOf ids packets))) in
+        length ws ≤ length out → heldWordsOf t s b out ≡ accepted (record { says = length ws; leaves = ws ++ drop (length ws) out })
+    unfolding heldWordsOf
+    held-words-last g = none-given (readingList t s b) _ (asked b k) ∙ rw (words-are, le-ltb _ _ g)
+
+    pub held-words-room : length out < length (wordsBy (lastCarried b (own s (traceOf ids packets)))) → heldWordsOf t s b out ≡ refused ROOM
+    unfolding heldWordsOf
+    held-words-room g = none-given (readingList t s b) _ (asked b k) ∙ rw (words-are, lt-ltb _ _ g)
+
+  pub counts-stand : (kind : ℕ) → among kind countedTypes ≡ true
+      → part (base s + countAt (orderOf kind)) 3 t ≡ countRule (countsOf kind (own s (traceOf ids packets)))
+  unfolding recordAt countWords
+  counts-stand kind o =
+      sym (part-part (countAt (orderOf kind)) 3 (base s) recordWords t (omega (arith, order-small kind))) ∙ r .counts s h kind o
+
+  pub shows : Shown ours ids packets t s
+  shows = record { reading = shown; heldWords = held-words-last; no-room = held-words-room; counts = counts-stand }

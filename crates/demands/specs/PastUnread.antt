@@ -1,0 +1,29 @@
+-- Document 01: "A lent table may be longer than its layout: words past it are neither read nor changed." Each call that is handed a table answers of a layout
+-- with whatever words past it, however many, as of the layout alone; and what it leaves is what it leaves of the layout alone, and then those words. So two
+-- tables with one layout get the same answers and the same layouts. (What `start` and `put_back` write over is not read at all: their definitions say so.)
+use Rattle.words.specs.Kit.{_≡_, ℕ, List, _++_, length}
+use Rattle.words.specs.Outcome.{saidOf, leftOf}
+use Rattle.table.specs.Layout.{streamsOf, base}
+use Rattle.demands.specs.Program.{Program}
+
+-- l has the words of a layout and no more: S, and S records, well made or not
+abbrev pub IsLayout : List ℕ → Type 0
+IsLayout l = length l ≡ base (streamsOf l)
+
+-- of a layout l and the words x past it
+pub record PastUnread (P : Program) (l x : List ℕ) : Type 0 where
+  -- a table that is lent to be changed
+  pub play : (ws : List ℕ)
+      → (saidOf (P .play (l ++ x) ws) ≡ saidOf (P .play l ws)) × (leftOf (P .play (l ++ x) ws) (l ++ x) ≡ leftOf (P .play l ws) l ++ x)
+  pub playRun : (ws : List ℕ) (from : ℕ) (answers : List ℕ)
+      → let longer = P .playRun (l ++ x) ws from answers in
+      let alone = P .playRun l ws from answers in
+      (saidOf longer ≡ saidOf alone)
+      × (leftOf longer (l ++ x, answers) .0 ≡ leftOf alone (l, answers) .0 ++ x)
+      × (leftOf longer (l ++ x, answers) .1 ≡ leftOf alone (l, answers) .1)
+  -- a table that is read: the answer, and what is left in the buffer for a page or for words, are the same
+  pub wellMade : P .wellMade (l ++ x) ≡ P .wellMade l
+  pub pageLength : P .pageLength (l ++ x) ≡ P .pageLength l
+  pub save : (page : List ℕ) → P .save (l ++ x) page ≡ P .save l page
+  pub reading : (stream bit : ℕ) → P .reading (l ++ x) stream bit ≡ P .reading l stream bit
+  pub heldWords : (stream bit : ℕ) (out : List ℕ) → P .heldWords (l ++ x) stream bit out ≡ P .heldWords l stream bit out

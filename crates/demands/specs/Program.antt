@@ -1,0 +1,73 @@
+-- A program, of which the demands speak: a record of what its calls answer, and what they leave in the words that they are lent. `ours` is the program of this
+-- project: each call by the definition that its promise cites, so that what is proved of `ours` is proved of the code.
+use Rattle.words.specs.Kit.{_≡_, ℕ, _^_, _<_, Bool, List, [], _∷_, getD}
+use Rattle.words.specs.Outcome.{Outcome, accepted, Done, saidOf, leftOf}
+use Rattle.packet.specs.declared.Packet.{Packet}
+use Rattle.packet.specs.declared.Parts.{Parts}
+use Rattle.packet.specs.Read.{readOf}
+use Rattle.packet_write.specs.Write.{writeOf}
+use Rattle.payload_unpack.specs.Unpack.{Buffers, unpackOf}
+use Rattle.payload_pack.specs.Pack.{packOf}
+use Rattle.table.specs.Start.{startOf}
+use Rattle.table.specs.Well.{wellMade}
+use Rattle.play.specs.declared.Heard.{Heard}
+use Rattle.play.specs.declared.run.Reached.{Reached}
+use Rattle.play.specs.Play.{playOf}
+use Rattle.play.specs.Run.{runOf}
+use Rattle.page.specs.Save.{lengthOf, saveOf}
+use Rattle.page.specs.PutBack.{putBackOf}
+use Rattle.panel.specs.HeldWords.{heldWordsOf}
+use Rattle.panel.specs.Readings.{Reading, readingOf}
+
+-- what its calls answer, each by the words that it is handed; `Done` has what an accepted call says and the lent words afterwards
+pub record Program : Type 0 where
+  pub read : List ℕ → Outcome Packet
+  pub write : Parts → (body out : List ℕ) (at : ℕ) → Outcome (Done ℕ (List ℕ))
+  pub pack : (first second : ℕ) (items events channels out : List ℕ) → Outcome (Done ℕ (List ℕ))
+  pub unpack : (first second n : ℕ) → List ℕ → Buffers → Outcome (Done ℕ Buffers)
+  pub start : (ids table : List ℕ) → Outcome (Done ℕ (List ℕ))
+  pub wellMade : (table : List ℕ) → Bool
+  pub play : (table words : List ℕ) → Outcome (Done Heard (List ℕ))
+  pub playRun : (table words : List ℕ) (from : ℕ) (answers : List ℕ) → Outcome (Done Reached (List ℕ × List ℕ))
+  pub pageLength : (table : List ℕ) → Outcome ℕ
+  pub save : (table page : List ℕ) → Outcome (Done ℕ (List ℕ))
+  pub putBack : (page table : List ℕ) → Outcome (Done ℕ (List ℕ))
+  pub reading : (table : List ℕ) (stream bit : ℕ) → Outcome Reading
+  pub heldWords : (table : List ℕ) (stream bit : ℕ) (out : List ℕ) → Outcome (Done ℕ (List ℕ))
+
+-- this project's, by the definitions that the promises cite
+abbrev pub ours : Program
+ours = record {
+  read = readOf;
+  write = writeOf;
+  pack = packOf;
+  unpack = unpackOf;
+  start = startOf;
+  wellMade = wellMade;
+  play = playOf;
+  playRun = runOf;
+  pageLength = lengthOf;
+  save = saveOf;
+  putBack = putBackOf;
+  reading = readingOf;
+  heldWords = heldWordsOf;
+}
+
+-- an answer is accepted
+abbrev pub Accepts : {A : Type 0} → Outcome A → Type 0
+Accepts {A} o = (a : A) × (o ≡ accepted a)
+
+-- words of 32 bits
+abbrev pub AreWords : List ℕ → Type 0
+AreWords ws = (i : ℕ) → getD ws i 0 < 2 ^ 32
+
+-- ---- play, packet by packet
+
+-- the table after some packets, and what play says of each: a refusal leaves the table
+abbrev pub playAll : Program → List ℕ → List (List ℕ) → List ℕ
+playAll P t [] = t
+playAll P t (ws ∷ packets) = playAll P (leftOf (P .play t ws) t) packets
+
+abbrev pub saidAll : Program → List ℕ → List (List ℕ) → List (Outcome Heard)
+saidAll P t [] = []
+saidAll P t (ws ∷ packets) = saidOf (P .play t ws) ∷ saidAll P (leftOf (P .play t ws) t) packets

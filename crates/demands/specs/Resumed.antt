@@ -1,0 +1,70 @@
+-- Stopping and resuming: "Save a page after any packet, put it back where there is room, play the rest: every answer and the final table equal those of the
+-- unbroken play." All is said of any table that is right for the packets so far, so of one that was put back too: the crews "stop and resume all day".
+use Rattle.words.specs.Kit.{_≡_, ℕ, _+_, _*_, _≤_, _<_, List, [], _∷_, _++_, length, take, drop}
+use Rattle.words.specs.Numbers.{ROOM}
+use Rattle.words.specs.Outcome.{Outcome, refused, accepted, Done, saidOf, leftOf}
+use Rattle.table.specs.Layout.{base}
+use Rattle.play.specs.declared.Heard.{Heard}
+use Rattle.demands.specs.Trace.{traceOf, answersAfter}
+use Rattle.demands.specs.Program.{Program, playAll, saidAll}
+use Rattle.demands.specs.Right.{Right, layoutOf, pastOf}
+
+-- ---- one stop
+
+-- the table t saves the page into every buffer where it fits, and leaves the words past it
+abbrev pub SavesAs : Program → (t page : List ℕ) → Type 0
+SavesAs P t page = (lent : List ℕ) → length page ≤ length lent
+    → P .save t lent ≡ accepted (record { says = length page; leaves = page ++ drop (length page) lent })
+
+-- "Save a page after any packet": there is a page, of "at least 2 + 16S and at most 2 + 90S words"; it is refused only where it does not fit, with ROOM
+pub record Saves (P : Program) (ids t : List ℕ) : Type 0 where
+  pub page : List ℕ
+  pub least : 2 + 16 * length ids ≤ length page
+  pub most : length page ≤ 2 + 90 * length ids
+  pub fits : SavesAs P t page
+  pub short : (lent : List ℕ) → length lent < length page → P .save t lent ≡ refused ROOM
+
+-- "put it back where there is room, play the rest": t is right for the packets `first`, its page is put back into the table `lent`, and `rest` is played. By
+-- the rules first: the table is right for all the packets, and the answers are those of the rules; then as the unbroken play, which goes on with t.
+pub record Resumes (P : Program) (ids t : List ℕ) (first rest : List (List ℕ)) (page lent : List ℕ) : Type 0 where
+  pub done : Done ℕ (List ℕ)
+  pub accepts : P .putBack page lent ≡ accepted done
+  pub says : done .says ≡ base (length ids)
+  pub right : Right ids (first ++ rest) (playAll P (done .leaves) rest)
+  pub answers : saidAll P (done .leaves) rest ≡ answersAfter (traceOf ids first) (traceOf ids rest)
+  pub same-answers : saidAll P (done .leaves) rest ≡ saidAll P t rest
+  pub same-table : layoutOf ids (playAll P (done .leaves) rest) ≡ layoutOf ids (playAll P t rest)
+  pub past : pastOf ids (playAll P (done .leaves) rest) ≡ pastOf ids lent
+
+-- ---- any number of stops
+
+-- a stop of a day: the packets that the day had before it, and the page that was saved
+pub record Stop : Type 0 where
+  pub after : List (List ℕ)
+  pub page : List ℕ
+
+-- a day, from where it has had the packets `before` and its table is t: a packet is played; or the table is saved into some buffer, its page is put back into
+-- some other lent table, and the day goes on with that one. The packets still to come, their answers, the stops and the table at last.
+pub data Day (P : Program) : List (List ℕ) → List ℕ → List (List ℕ) → List (Outcome Heard) → List Stop → List ℕ → Type 0 where
+  over : {before : List (List ℕ)} {t : List ℕ} → Day P before t [] [] [] t
+  plays : {before packets : List (List ℕ)} {t last : List ℕ} {answers : List (Outcome Heard)} {stops : List Stop} (ws : List ℕ)
+      → Day P (before ++ (ws ∷ [])) (leftOf (P .play t ws) t) packets answers stops last
+      → Day P before t (ws ∷ packets) (saidOf (P .play t ws) ∷ answers) stops last
+  stops : {before packets : List (List ℕ)} {t last : List ℕ} {answers : List (Outcome Heard)} {later : List Stop}
+      (buffer lent : List ℕ) (saved back : Done ℕ (List ℕ)) → P .save t buffer ≡ accepted saved
+      → P .putBack (take (saved .says) (saved .leaves)) lent ≡ accepted back → Day P before (back .leaves) packets answers later last
+      → Day P before t packets answers (record { after = before; page = take (saved .says) (saved .leaves) } ∷ later) last
+
+-- each page is the one that the unbroken play, which began with t, saves after the same packets
+abbrev pub SamePages : Program → List ℕ → List Stop → Type 0
+SamePages P t [] = Unit
+SamePages P t (s ∷ later) = SavesAs P (playAll P t (s .after)) (s .page) × SamePages P t later
+
+-- a day that began with a table t that is right for the packets `first`
+pub record DayRight (P : Program) (ids : List ℕ) (first : List (List ℕ)) (t : List ℕ) (packets : List (List ℕ)) (answers : List (Outcome Heard))
+    (stops : List Stop) (last : List ℕ) : Type 0 where
+  pub right : Right ids (first ++ packets) last
+  pub ruled : answers ≡ answersAfter (traceOf ids first) (traceOf ids packets)
+  pub same-answers : answers ≡ saidAll P t packets
+  pub same-table : layoutOf ids last ≡ layoutOf ids (playAll P t packets)
+  pub same-pages : SamePages P t stops

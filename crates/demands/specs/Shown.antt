@@ -1,0 +1,36 @@
+-- What the panel and the caller see is what is held: `reading` and `held_words` answer by the value in the last accepted Context packet of the stream that
+-- carried the field, "and nothing if none did"; and the counts stand in the table's words.
+use Rattle.words.specs.Kit.{_≡_, ℕ, _+_, _≤_, _<_, true, List, [], _++_, length, drop}
+use mathlib.Core.Option.{Option, none, some}
+use Rattle.words.specs.Numbers.{ROOM}
+use Rattle.words.specs.Tests.{among}
+use Rattle.words.specs.Part.{part}
+use Rattle.words.specs.Outcome.{refused, accepted}
+use Rattle.record.specs.Layout.{orderOf, countAt}
+use Rattle.table.specs.Layout.{base}
+use Rattle.panel.specs.Readings.{Reading, absent, shownOf}
+use Rattle.demands.specs.Trace.{traceOf, own, kept, lastCarried, countedTypes, countsOf, countRule}
+use Rattle.demands.specs.Program.{Program}
+
+-- what a reading shows of the field of bit b, by the value that was carried, if one was
+abbrev pub shownBy : ℕ → Option (List ℕ) → Reading
+shownBy b none = absent
+shownBy b (some v) = shownOf b v
+
+-- the words of that value
+abbrev pub wordsBy : Option (List ℕ) → List ℕ
+wordsBy none = []
+wordsBy (some v) = v
+
+-- of stream s, in a table t that is right for the packets
+pub record Shown (P : Program) (ids : List ℕ) (packets : List (List ℕ)) (t : List ℕ) (s : ℕ) : Type 0 where
+  pub reading : (b : ℕ) → kept b ≡ true → P .reading t s b ≡ accepted (shownBy b (lastCarried b (own s (traceOf ids packets))))
+  -- the words, where they fit; and ROOM
+  pub heldWords : (b : ℕ) → kept b ≡ true → (out : List ℕ)
+      → let ws = wordsBy (lastCarried b (own s (traceOf ids packets))) in
+      length ws ≤ length out → P .heldWords t s b out ≡ accepted (record { says = length ws; leaves = ws ++ drop (length ws) out })
+  pub no-room : (b : ℕ) → kept b ≡ true → (out : List ℕ) → length out < length (wordsBy (lastCarried b (own s (traceOf ids packets))))
+      → P .heldWords t s b out ≡ refused ROOM
+  -- seen, missing and last plus one or 0, where docs/LAYOUT.md says that they stand
+  pub counts : (kind : ℕ) → among kind countedTypes ≡ true
+      → part (base s + countAt (orderOf kind)) 3 t ≡ countRule (countsOf kind (own s (traceOf ids packets)))
