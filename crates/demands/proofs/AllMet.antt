@@ -7,6 +7,7 @@ use Rattle.demands.specs.Demands.{Demand1, Demand2, Demand3}
 use Rattle.demands.proofs.Sources.{sources}
 use Rattle.demands.proofs.Once.{one-outcome, each-refusal}
 use Rattle.demands.proofs.InOrder.{in-order}
+use Rattle.demands.proofs.WellMade.{judged}
 use Rattle.demands.proofs.Again.{written-again}
 use Rattle.demands.proofs.Back.{written-back}
 use Rattle.demands.proofs.RoundTrip.{pack-then-unpack, unpack-then-pack}
@@ -18,7 +19,7 @@ use Rattle.demands.proofs.PastUnread.{past-unread}
 use Rattle.demands.proofs.Separate.{apart, refused-apart}
 
 pub demand-1 : Demand1
-demand-1 = record { sources = sources; once = one-outcome; numbers = in-order; refusals = each-refusal calls }
+demand-1 = record { sources = sources; once = one-outcome; numbers = in-order; well-made = judged; refusals = each-refusal calls }
 
 pub demand-2 : Demand2 ours
 demand-2 = record {

@@ -1,8 +1,7 @@
 -- Demand 3 of calls as they are made. The idea: an outcome that meets a promise is the one that the definition gives, answer and lent words; so calls one
 -- after the other are `playAll` and `saidAll`.
-use Rattle.words.proofs.Kit.{_≡_, refl, sym, ap, _∙_, List, [], _∷_, ℕ, true, arith, length, take, drop}
+use Rattle.words.proofs.Kit.{_≡_, refl, sym, ap, _∙_, List, [], _∷_, ℕ, true, take}
 use mathlib.Core.List.{map}
-use lib.Seq.{take-at}
 use Rattle.words.specs.Outcome.{accepted, saidOf}
 use Rattle.words.proofs.MeetLaws.{meets-accepted}
 use Rattle.table.specs.Well.{wellMade}
@@ -16,7 +15,7 @@ use Rattle.demands.specs.Resumed as Resumed
 use Rattle.demands.specs.CallsMade.{StartMade, PlaysMade, none, next, SaveMade, DayMade, over, SamePagesMade, Ruled, Demand3Made}
 use Rattle.demands.specs.CallsMade as Made
 use Rattle.demands.proofs.RightLaws.{right-start, right-on, answers-on}
-use Rattle.demands.proofs.Resumed.{page-words, resumes, days}
+use Rattle.demands.proofs.Resumed.{page-words, saved-page, resumes, days}
 use Rattle.demands.proofs.Separate.{apart}
 
 -- ---- outcomes
@@ -62,8 +61,7 @@ day {before} {t = t} (Made.stops {page = page} {back = back} {later = later} s b
 page-saved : (t page words : List ℕ) → wellMade t ≡ true → SavesAs ours t page → SaveMade t words → words ≡ page
 page-saved t page words w f m =
     let k = meets-accepted (m .meets) (m .accepts) in
-    saved t words m ∙ page-words t (m .lent) w (k .done) (k .wants) ∙ sym (page-words t page w _ (f page (omega arith)))
-    ∙ take-at page (drop (length page) page) (length page) refl
+    saved t words m ∙ page-words t (m .lent) w (k .done) (k .wants) ∙ saved-page t page w f
 
 same-pages : (ids t : List ℕ) → Right ids [] t → (stops : List Stop) → SamePages ours t stops → SamePagesMade t stops
 same-pages ids t r [] k = tt

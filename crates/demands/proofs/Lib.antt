@@ -6,6 +6,8 @@ pub mod Listing
 pub mod Once
 -- each call gives the first refusal of its list that applies
 pub mod InOrder
+-- which tables and pages are well made
+pub mod WellMade
 -- an accepted packet written again gives the same words, and what was written reads back
 pub mod Again
 pub mod Back

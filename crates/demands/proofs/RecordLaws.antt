@@ -8,7 +8,7 @@ use lib.Pow.{pow-pos}
 use Rattle.words.specs.Tests.{pick, both, among}
 use Rattle.words.specs.Word.{has}
 use Rattle.words.specs.Part.{part}
-use Rattle.words.proofs.Cases.{true-or-false, true-is-false, same-or-not, both-left, both-right}
+use Rattle.words.proofs.Cases.{same-test, true-or-false, true-is-false, same-or-not, both-left, both-right}
 use Rattle.words.proofs.SetBitLaws.{has-above}
 use Rattle.fields.specs.Layout.{indicatorOf, fieldOf}
 use Rattle.record.specs.Held.{holds}
@@ -55,16 +55,13 @@ orders-apart k j e f n o = n (sym (type-back j f) ∙ ap typeAt (sym o) ∙ type
 
 -- ---- the fields that are kept
 
-kept-holds : (b : ℕ) → holds b ≡ true → kept b ≡ true
-kept-holds b e = let h : b ≤ 30 = omega (arith, held-high b e) in rw (le-leb 10 b (held-low b e), le-leb b 30 h)
-
-kept-other : (b : ℕ) → holds b ≡ false → kept b ≡ false
-kept-other b e =
-    ⊎-elim
+pub kept-same : (b : ℕ) → kept b ≡ holds b
+kept-same b =
+    same-test (kept b) (holds b)
     (λ k.
     let h : b ≤ 30 = leb-true b 30 (both-right (leb 10 b) (leb b 30) k) in
-    absurd (true-is-false (sym (held-all b (leb-true 10 b (both-left (leb 10 b) (leb b 30) k)) (omega arith)) ∙ e)))
-    (λ k. k) (true-or-false (kept b))
+    held-all b (leb-true 10 b (both-left (leb 10 b) (leb b 30) k)) (omega arith))
+    (λ e. let h : b ≤ 30 = omega (arith, held-high b e) in rw (le-leb 10 b (held-low b e), le-leb b 30 h))
 
 -- ---- what a record holds
 
@@ -73,7 +70,7 @@ none-held b r l g o =
     ⊎-elim (λ e. absurd (true-is-false (sym (good-of r l g .bits b e) ∙ o))) (λ e. rw e) (true-or-false (has (heldOf r) b))
 
 none-carried : (b : ℕ) (a : Arrival) → holds b ≡ false → valueCarried b a ≡ none
-none-carried b a o = rw (kept-other b o)
+none-carried b a o = rw (kept-same b ∙ o)
 
 -- a field comes from a Context packet whose indicator has its bit, and else was there before
 comes : (context bit before : Bool) (field slot : List ℕ)
@@ -108,7 +105,7 @@ module _ (ids : List ℕ) (a : Arrival) (f : Heeded ids a) (r : List ℕ) (l : l
       ∙ ap (λ (ws : List ℕ). pick held (some ws) none) (after-slot (a .kind) (a .count) (a .body) r l (f .body) b o)
       ∙ comes (eqb (a .kind) 4) (has (indicatorOf (a .body)) b) (has (heldOf r) b) (fieldOf b (a .body)) (slotOf b r)
       ∙ ap (λ (t : Bool). orElse (pick (both t (both (eqb (a .kind) 4) (has (indicatorOf (a .body)) b))) (some (fieldOf b (a .body))) none) (heldIn b r))
-      (sym (kept-holds b o)))
+      (sym (kept-same b ∙ o)))
       (λ o.
       none-held b next (after-length (a .kind) (a .count) (a .body) r l (f .body)) (after-good (a .kind) (a .count) (a .body) r l (f .body) (f .count) g) o
       ∙ sym (rw (none-carried b a o) (none-held b r l g o)))

@@ -56,7 +56,7 @@ module _ (ids : List ℕ) (packets : List (List ℕ)) (t rest : List ℕ) (r : R
 -- ---- saving
 
 -- its page, which it saves where there is room
-saves-as : (t : List ℕ) → wellMade t ≡ true → SavesAs ours t (pageOf t)
+pub saves-as : (t : List ℕ) → wellMade t ≡ true → SavesAs ours t (pageOf t)
 saves-as t w lent h =
     let l : pageLength t ≡ length (pageOf t) = sym (page-whole t w) in
     rw l at (save-accepted t lent w (omega (arith, l)))
@@ -84,6 +84,10 @@ pub page-words : (t buffer : List ℕ) (w : wellMade t ≡ true) (e : Done ℕ (
 unfolding saveOf
 page-words t buffer w e s =
     rw (← accepted-same (first-passed (saveList t buffer) _ e s .1)) (take-at (pageOf t) (drop (pageLength t) buffer) (pageLength t) (page-whole t w))
+
+-- the page that a table saves is its page
+pub saved-page : (t p : List ℕ) → wellMade t ≡ true → SavesAs ours t p → pageOf t ≡ p
+saved-page t p w f = sym (page-words t p w _ (f p (omega arith))) ∙ take-at p (drop (length p) p) (length p) refl
 
 -- a page looks at the layout alone
 page-layout : (ids : List ℕ) (packets : List (List ℕ)) (t u : List ℕ) → Right ids packets t → Right ids packets u → pageOf t ≡ pageOf u

@@ -1,5 +1,5 @@
--- What is seen is what is held. The idea: no test refuses a stream of the list and a kept field of a right table (`asked`); and what a record shows, or gives as
--- words, is by what it holds (`shows-held`, `words-held`), which the rules fix.
+-- What is seen is what is held. The idea: no test refuses a stream of the list and a kept field of a right table (`asked`); and what a record shows, or gives
+-- as words, is by what it holds (`shows-held`, `words-held`), which the rules fix.
 use Rattle.words.proofs.Kit.{_≡_, refl, sym, ap, _∙_, Bool, true, false, List, [], _++_, ℕ, _+_, _≤_, _<_, arith, lt-ltb, le-ltb, lt-leb, leb, length, drop}
 use mathlib.Core.Option.{some, none}
 use borrow.Author.Tests.{leb-true}

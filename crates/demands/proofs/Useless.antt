@@ -1,8 +1,9 @@
 -- Five useless programs, each shut out by a demand: no program of its kind, whatever its other calls do, meets the demand. The idea: the demand fixes what a
 -- table holds or an answer says for two short recordings, and the useless program would have to give one thing for both.
-use Rattle.words.proofs.Kit.{_≡_, refl, sym, ap, _∙_, true, List, [], _∷_, ℕ, arith, length, getD}
+use Rattle.words.proofs.Kit.{_≡_, refl, sym, ap, _∙_, true, List, [], _∷_, ℕ, _+_, _-_, _%_, arith, eqb, length, getD}
 use mathlib.Core.Option.{Option, none, some}
 use lib.ListN.{replicate, length-replicate}
+use Rattle.words.specs.Tests.{pick}
 use Rattle.words.specs.Part.{part}
 use Rattle.words.specs.SetBits.{bitsOf, above}
 use Rattle.words.specs.All.{all, firstOf}
@@ -11,18 +12,19 @@ use Rattle.fields.specs.Sizes.{fieldSize, wordsOf}
 use Rattle.fields.specs.Rules.{ruleOf}
 use Rattle.fields.specs.Layout.{spanOf, obeyed, bodyWords, placeOf, fieldOf, lowBitsSet, otherLength, ruleBroken}
 use Rattle.packet.specs.declared.Packet.{Packet}
-use Rattle.packet.specs.Header.{trailed, tsmOf, reservedOf}
+use Rattle.packet.specs.Header.{countOf, trailed, tsmOf, reservedOf}
 use Rattle.packet.specs.Parts.{streamed, hasSeconds, hasFraction, classAt, secondsAt, fractionAt, bodyAt, requiredOf, bodyLength, wordIf, classHigh, classLow}
 use Rattle.packet.specs.Parts.{fractionOf, partsOf, bodyOf, packetOf}
 use Rattle.packet.specs.Read.{timeOver, readOf, classBad, readBy}
-use Rattle.record.specs.Layout.{orderOf, countWords, seenOf}
+use Rattle.record.specs.Layout.{orderOf, countWords, seenOf, lastOf}
 use Rattle.record.specs.Counts.{missedOf}
 use Rattle.table.specs.Layout.{recordAt}
 use Rattle.table.specs.Identifiers.{listed, apart, listGood}
 use Rattle.play.specs.declared.Heard.{Heard}
-use Rattle.demands.specs.Trace.{placeIn, arrivalOf, heardBy, traceOf, own, lastCarried, countsOf, countRule}
-use Rattle.demands.specs.Program.{Program, playAll, saidAll}
-use Rattle.demands.specs.Right.{heldIn}
+use Rattle.demands.specs.Trace.{Arrival, placeIn, arrivalOf, heardBy, traceOf, own, lastCarried, countsOf, countRule, addedAfter, answerTo}
+use Rattle.demands.specs.Program.{Program, playAll}
+use Rattle.demands.specs.Right.{heldIn, Right}
+use Rattle.demands.specs.Resumed.{over, plays}
 use Rattle.demands.specs.Demands.{Demand2, Demand3}
 
 -- ---- packets of stream 7: sample data of three and of four words, and Context packets that carry one word, in the field of bit 30
@@ -99,9 +101,13 @@ abbrev valueIn : Option (List ℕ) → ℕ
 valueIn none = 0
 valueIn (some v) = getD v 0 0
 
--- the answer to the packet of three words, by the missing that it adds
-abbrev heard : ℕ → Heard
-heard m = record { size = 3; kind = 1; stream = 0; missing = m }
+-- the last count of a stream and a type that a table keeps, plus one, or 0
+abbrev lastIn : List ℕ → ℕ → ℕ → ℕ
+lastIn t s kind = lastOf (countWords (orderOf kind) (recordAt s t))
+
+-- what a packet adds to missing, but for the one
+abbrev withoutOne : ℕ → ℕ → ℕ
+withoutOne last count = pick (eqb last 0) 0 ((count + 16 - (last - 1)) % 16)
 
 good-list : listGood (length ids) (listed ids) ≡ true
 unfolding listGood apart all
@@ -114,12 +120,16 @@ module _ (P : Program) (d : Demand3 P) where
   abbrev fresh : List ℕ
   fresh = begun .0 .leaves
 
+  -- the table after some packets of stream 7
+  after : (packets : List (List ℕ)) → Right ids packets (playAll P (begun .0 .leaves) packets)
+  after packets = d .right ids buffer (begun .0) (begun .1) packets
+
   seen-after : (packets : List (List ℕ))
       → countWords (orderOf 1) (recordAt 0 (playAll P (begun .0 .leaves) packets)) ≡ countRule (countsOf 1 (own 0 (traceOf ids packets)))
-  seen-after packets = d .right ids buffer (begun .0) (begun .1) packets .counts 0 (omega arith) 1 refl
+  seen-after packets = after packets .counts 0 (omega arith) 1 refl
 
   held-after : (packets : List (List ℕ)) → heldIn 30 (recordAt 0 (playAll P (begun .0 .leaves) packets)) ≡ lastCarried 30 (own 0 (traceOf ids packets))
-  held-after packets = d .right ids buffer (begun .0) (begun .1) packets .held 0 (omega arith) 30
+  held-after packets = after packets .held 0 (omega arith) 30
 
   -- an idle play: shut out by the counts
   pub no-idle-play : ((t ws : List ℕ) → leftOf (P .play t ws) t ≡ t) → ⊥
@@ -140,13 +150,37 @@ module _ (P : Program) (d : Demand3 P) where
       let same = ap valueIn (feigned ids buffer (begun .0) (begun .1) first (second ∷ []) 0 30) in
       omega (arith, one, two, same)
 
-  -- an invented missing number, one that the packet alone gives, whatever was counted before: shut out by the modulo 16 rule
-  pub no-invented-missing : (number : List ℕ → ℕ) → ((t ws : List ℕ) (h : Heard) → saidOf (P .play t ws) ≡ accepted h → h .missing ≡ number ws) → ⊥
+  -- an invented missing number, made of the table, the packet's words, its stream and its type in any way that is not the rule's for some packet on some table
+  -- that is right: shut out by the modulo 16 rule
+  pub no-invented-missing : (number : (table words : List ℕ) (stream kind : ℕ) → ℕ)
+      → ((t ws : List ℕ) (h : Heard) → saidOf (P .play t ws) ≡ accepted h → h .missing ≡ number t ws (h .stream) (h .kind))
+      → (list : List ℕ) (packets : List (List ℕ)) (t : List ℕ) → Right list packets t → (ws : List ℕ) (a : Arrival) → heardBy list ws ≡ accepted a
+      → (number t ws (a .stream) (a .kind) ≡ addedAfter (countsOf (a .kind) (own (a .stream) (traceOf list packets))) (a .count) → ⊥) → ⊥
+  no-invented-missing number invented list packets t r ws a e other =
+      let one = d .days list packets (ws ∷ []) t _ _ [] r (plays ws over) in
+      let said : saidOf (P .play t ws) ≡ answerTo (traceOf list packets) (heardBy list ws) =
+      ap (λ (l : List (Outcome Heard)). getD l 0 (refused 0)) (one .ruled) in
+      other (sym (invented t ws _ (said ∙ ap (answerTo (traceOf list packets)) e)))
+
+  -- one that the packet alone gives, whatever was counted before
+  pub no-missing-by-packet : (number : List ℕ → ℕ) → ((t ws : List ℕ) (h : Heard) → saidOf (P .play t ws) ≡ accepted h → h .missing ≡ number ws) → ⊥
   unfolding missedOf
-  no-invented-missing number invented =
-      let both : saidAll P fresh (data3 ∷ data3 ∷ []) ≡ accepted (heard 0) ∷ accepted (heard 15) ∷ [] =
-      d .answers ids buffer (begun .0) (begun .1) (data3 ∷ data3 ∷ []) ∙ rw (computed .heard3) in
-      let none-missing : 0 ≡ number data3 = invented fresh data3 (heard 0) (ap (λ (l : List (Outcome Heard)). getD l 0 (refused 0)) both) in
-      let some-missing : 15 ≡ number data3 =
-      invented (leftOf (P .play fresh data3) fresh) data3 (heard 15) (ap (λ (l : List (Outcome Heard)). getD l 1 (refused 0)) both) in
-      omega (arith, none-missing, some-missing)
+  no-missing-by-packet number invented =
+      no-invented-missing (λ t ws s k. number ws) invented ids [] fresh (after []) data3 _ (computed .heard3)
+      (λ none-missing.
+      no-invented-missing (λ t ws s k. number ws) invented ids (data3 ∷ []) _ (after (data3 ∷ [])) data3 _ (computed .heard3)
+      (λ some-missing.
+      let fifteen : number data3 ≡ 15 = some-missing ∙ rw (computed .heard3) in
+      omega (arith, none-missing, fifteen)))
+
+  -- one that is made from the table: count less last modulo 16, without the one
+  pub no-missing-without-one : ((t ws : List ℕ) (h : Heard) → saidOf (P .play t ws) ≡ accepted h
+      → h .missing ≡ withoutOne (lastIn t (h .stream) (h .kind)) (countOf (getD ws 0 0))) → ⊥
+  unfolding missedOf
+  no-missing-without-one invented =
+      no-invented-missing (λ t ws s k. withoutOne (lastIn t s k) (countOf (getD ws 0 0))) invented
+      ids (data3 ∷ []) _ (after (data3 ∷ [])) data3 _ (computed .heard3)
+      (λ same.
+      let last : lastIn (playAll P fresh (data3 ∷ [])) 0 1 ≡ 16 = ap lastOf (seen-after (data3 ∷ [])) ∙ rw (computed .heard3) in
+      let z : _≡_ {A = ℕ} 0 15 = sym (ap (λ (n : ℕ). withoutOne n (countOf (getD data3 0 0))) last) ∙ same ∙ rw (computed .heard3) in
+      omega (arith, z))

@@ -17,6 +17,7 @@ use Rattle.play.specs.declared.Heard.{Heard}
 use Rattle.demands.specs.Calls.{OneOutcome, RefusalLeaves, Each, calls}
 use Rattle.demands.specs.Sources.{Sources}
 use Rattle.demands.specs.Refusals.{InOrder}
+use Rattle.demands.specs.WellMade.{Judged}
 use Rattle.demands.specs.Clean.{Clean}
 use Rattle.demands.specs.Trace.{traceOf, answersAfter}
 use Rattle.demands.specs.Program.{Program, Accepts, AreWords, playAll, saidAll}
@@ -37,6 +38,7 @@ pub record Demand1 : Type 1 where
   pub once : Each OneOutcome calls
   -- "Bad packets, tables, pages and formats are refused with the number in our list, given exactly when the list says."
   pub numbers : InOrder
+  pub well-made : Judged
   -- "A refusal changes no word of any buffer it was lent."
   pub refusals : Each RefusalLeaves calls
 

@@ -22,6 +22,8 @@ pub mod CallsMade
 pub mod Recording
 -- the refusals of each call, in order
 pub mod Refusals
+-- which tables and pages are well made
+pub mod WellMade
 -- packed words, as a writer makes them
 pub mod Clean
 -- every public call, with its promise

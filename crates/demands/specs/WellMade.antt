@@ -1,0 +1,57 @@
+-- "Bad .. tables, pages .. are refused": which are bad. Document 01, 'The table and its page', clause by clause; the tests that TABLE and PAGE go by hold
+-- exactly where the clauses do.
+use Rattle.words.specs.Kit.{_≡_, ℕ, _+_, _^_, _≤_, _<_, true, false, List, length}
+use mathlib.Core.Logic.{_↔_}
+use lib.ListN.{replicate}
+use Rattle.words.specs.Numbers.{PAGE}
+use Rattle.words.specs.Tests.{among}
+use Rattle.words.specs.Word.{bits, has}
+use Rattle.words.specs.Outcome.{refused}
+use Rattle.fields.specs.Sizes.{fieldSize}
+use Rattle.fields.specs.Rules.{ruleOf}
+use Rattle.record.specs.Layout.{heldOf, orderOf, countWords, seenOf, missingOf, lastOf, slotOf}
+use Rattle.table.specs.Layout.{streamsOf, layoutWords, recordAt}
+use Rattle.table.specs.Identifiers.{declared}
+use Rattle.table.specs.Well.{wellMade}
+use Rattle.page.specs.Good.{pageGood}
+use Rattle.page.specs.PutBack.{putBackOf}
+use Rattle.demands.specs.Trace.{kept, countedTypes}
+use Rattle.demands.specs.Program.{ours}
+use Rattle.demands.specs.Resumed.{SavesAs}
+
+-- of the record of a stream. A count's third word is "last plus one or 0 if not started"
+pub record RecordClauses (r : List ℕ) : Type 0 where
+  -- "unheld fields .. zero"
+  pub unheld : (b : ℕ) → kept b ≡ true → has (heldOf r) b ≡ false → slotOf b r ≡ replicate (fieldSize b) 0
+  -- "and words of no stated meaning zero": every word of the layout has a meaning, but of the held indicator bits 31 and 9 to 0 have none
+  pub meaningless : (heldOf r < 2 ^ 31) × (bits 9 0 (heldOf r) ≡ 0)
+  -- "held fields obey their rules"
+  pub obeys : (b : ℕ) → kept b ≡ true → has (heldOf r) b ≡ true → ruleOf b (slotOf b r) ≡ true
+  -- "a count not started has zeros"
+  pub unstarted : (kind : ℕ) → among kind countedTypes ≡ true → let count = countWords (orderOf kind) r in
+      lastOf count ≡ 0 → (seenOf count ≡ 0) × (missingOf count ≡ 0)
+  -- "a last count is at most 15"
+  pub small : (kind : ℕ) → among kind countedTypes ≡ true → (last : ℕ) → lastOf (countWords (orderOf kind) r) ≡ last + 1 → last ≤ 15
+  -- "no field held unless type 4 has started"
+  pub started : lastOf (countWords (orderOf 4) r) ≡ 0 → heldOf r ≡ 0
+
+pub record TableClauses (t : List ℕ) : Type 0 where
+  -- "the whole layout is there"
+  pub whole : layoutWords (streamsOf t) ≤ length t
+  -- "a valid list": not "0 or over 32 identifiers, or one twice"
+  pub some : 1 ≤ streamsOf t
+  pub few : streamsOf t ≤ 32
+  pub apart : (u s : ℕ) → u < s → s < streamsOf t → declared t u ≡ declared t s → ⊥
+  pub records : (s : ℕ) → s < streamsOf t → RecordClauses (recordAt s t)
+
+-- some well-made table saves exactly these words
+abbrev pub SavedBySome : List ℕ → Type 0
+SavedBySome p = (t : List ℕ) × TableClauses t × SavesAs ours t p
+
+pub record Judged : Type 0 where
+  -- "Well made: .."
+  pub tables : (t : List ℕ) → (wellMade t ≡ true) ↔ TableClauses t
+  -- "A page is well made when some well-made table saves exactly its words."
+  pub pages : (p : List ℕ) → (pageGood p ≡ true) ↔ SavedBySome p
+  -- so PAGE is given exactly where no well-made table does
+  pub put-back : (p t : List ℕ) → (putBackOf p t ≡ refused PAGE) ↔ (SavedBySome p → ⊥)
