@@ -1,5 +1,5 @@
 -- Laws of `filled`: the start, a turn and the end of a loop that fills a buffer (`Fills`), where another loop goes on, and what then stands at each place.
-use Rattle.words.proofs.Kit.{_≡_, refl, sym, ap, ap₂, _∙_, subst, List, [], _∷_, _++_, ⊎-elim, ℕ, zero, suc, _+_, _≤_, _<_, arith, getD, length, set, take}
+use Rattle.words.proofs.Kit.{_≡_, refl, sym, ap, ap₂, _∙_, List, [], _∷_, _++_, ⊎-elim, ℕ, zero, suc, _+_, _≤_, _<_, arith, getD, length, set, take}
 use Rattle.words.proofs.Kit.{drop}
 use mathlib.Core.List.{append-assoc}
 use native.Mathlib.Nat.{eq-or-lt-of-le, le-of-suc-le-suc, not-suc-le-zero}

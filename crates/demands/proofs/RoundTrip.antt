@@ -4,7 +4,6 @@
 use Rattle.words.proofs.Kit.{_≡_, refl, sym, ap, _∙_, true, false, List, ℕ, _+_, _-_, _*_, _^_, _≤_, _<_, arith, length, getD, take, ltb, lt-ltb}
 use Rattle.words.proofs.Kit.{le-ltb, eq-eqb}
 use native.Mathlib.Nat.{mod-lt}
-use lib.Seq.{getD-take, length-take-le}
 use lib.Pow.{pow-pos, shr-lt}
 use Rattle.words.specs.Outcome.{accepted, Done, saidOf, leftOf}
 use Rattle.words.proofs.Cases.{accepted-same}
@@ -13,7 +12,6 @@ use Rattle.words.proofs.MeetLaws.{said-accepted}
 use Rattle.words.proofs.AllLaws.{all-intro}
 use Rattle.fields.specs.Format.{eventSize, channelSize, itemSize, packingSize}
 use Rattle.bitstream.specs.Carried.{streamBits, packingField, wordOf}
-use Rattle.bitstream.specs.Filled.{filled}
 use Rattle.bitstream.proofs.SpanLaws.{below}
 use Rattle.bitstream.proofs.CarriedLaws.{field-back, word-back, enough}
 use Rattle.bitstream.proofs.FilledLaws.{list-length, list-at, filled-take, filled-front}
@@ -33,7 +31,24 @@ use Rattle.payload_unpack.proofs.UnpackLaws.{UnpackPassed, unpack-passed}
 use Rattle.payload_pack.proofs.PackLaws.{PackPassed, pack-passed, packable}
 
 -- ---- the checks of each call, passed
-unpack-passes : (first second : ℕ) (items events channels : List ℕ) (room : ℕ) → PackPassed first second items events channels room
+unpack-passes : (first second n m a b c : ℕ) → UnpackPassed first second n m a b c → unpackCheck first second n m a b c ≡ accepted tt
+unfolding unpackCheck
+unpack-passes first second n m a b c p =
+    simp (
+      p .format,
+      p .count,
+      eq-eqb m (wordsFor first n) (p .there),
+      le-ltb a n (p .items),
+      le-ltb b n (p .events),
+      le-ltb c n (p .channels),
+    )
+
+fitting-is : (w n : ℕ) (l : List ℕ) → Fitting w n l → fitting w l ≡ true
+unfolding fitting
+fitting-is w n l h =
+    all-intro (λ k. ltb (getD l k 0) (2 ^ w)) (length l) (λ k q. lt-ltb (getD l k 0) (2 ^ w) (h .each k (omega (arith, h .many))))
+
+pack-passes : (first second : ℕ) (items events channels : List ℕ) (room : ℕ) → PackPassed first second items events channels room
     → packCheck first second items events channels room ≡ accepted tt
 unfolding packCheck valueBad
 pack-passes first second items events channels room p =

@@ -19,7 +19,8 @@ use Rattle.payload_format.specs.Format.{wideProcessing, formatBad, carriedBits,
 use Rattle.payload_format.specs.Count.{unitOf, countBad, wordsFor}
 use Rattle.payload_pack.specs.Pack.{fitting, valueBad, packOf}
 use Rattle.payload_unpack.specs.Unpack.{unpackOf}
-use Rattle.payload_format.specs.Signs.{twosComplement, signedOf}
+use Rattle.words.specs.Signed.{twosComplement}
+use Rattle.payload_format.specs.Signs.{signedOf}
 use Rattle.record.specs.Counts.{missedOf}
 use Rattle.panel.specs.Values.{unitsOf, share, over, lowerHalf}
 use Rattle.panel.specs.Readings.{isFrequency, shownOf}

@@ -52,7 +52,7 @@ fn items_fit(w: usize, items: &[u64]) -> bool
     requires { ⌜ (1 ≤ w) × (w ≤ 64) ⌝ }
     ensures { λ r. ⌜ r ≡ fitting w (now (items .entry)) ⌝ }
 {
-    join_items(items) <= bitstream::inner::ones(w)
+    join_items(items) <= words::inner::ones(w)
 }
 
 // Whether all event tags fit w bits.
@@ -60,7 +60,7 @@ fn events_fit(w: usize, events: &[u8]) -> bool
     requires { ⌜ w < 64 ⌝ }
     ensures { λ r. ⌜ r ≡ fitting w (now (events .entry)) ⌝ }
 {
-    (join_events(events) as u64) < bitstream::inner::power(w)
+    (join_events(events) as u64) < words::inner::power(w)
 }
 
 // Whether all channel tags fit w bits.
@@ -68,7 +68,7 @@ fn channels_fit(w: usize, channels: &[u16]) -> bool
     requires { ⌜ w < 64 ⌝ }
     ensures { λ r. ⌜ r ≡ fitting w (now (channels .entry)) ⌝ }
 {
-    (join_channels(channels) as u64) < bitstream::inner::power(w)
+    (join_channels(channels) as u64) < words::inner::power(w)
 }
 
 // Whether an item or a tag does not fit its size.

@@ -5,7 +5,7 @@ use Rattle.bitstream.specs.Filled.{filled}
 use Rattle.bitstream.proofs.FilledLaws.{Fills, fills-none, fills-start, fills-turn, fills-end, fills-all, fills-on}
 use Rattle.payload_format.specs.declared.inner.Packing.{Packing}
 use Rattle.payload_format.specs.Field.{fieldIn, itemIn, eventIn, channelIn}
-use Rattle.payload_unpack.specs.Unpack.{Buffers, buffers, unpacked}
+use Rattle.payload_unpack.specs.Unpack.{buffers, unpacked}
 use Rattle.payload_unpack.specs.inner.Unpackable.{UnpackedOn}
 
 -- a loop over the fields from a up to n of the words ws: the item, the event tags and the channel tag of each field up to k stand in their places

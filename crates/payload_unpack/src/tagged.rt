@@ -14,7 +14,7 @@ fn event_of(p: Packing, v: u64) -> u8
     requires { ⌜ Legal p ⌝ }
     ensures { λ r. ⌜ r ≡ eventIn p v ⌝ }
 {
-    bitstream::inner::low(v >> p.channel, p.event) as u8
+    words::inner::low(v >> p.channel, p.event) as u8
 }
 
 // The channel tag of a field.
@@ -22,7 +22,7 @@ fn channel_of(p: Packing, v: u64) -> u16
     requires { ⌜ Legal p ⌝ }
     ensures { λ r. ⌜ r ≡ channelIn p v ⌝ }
 {
-    bitstream::inner::low(v, p.channel) as u16
+    words::inner::low(v, p.channel) as u16
 }
 
 // The parts of the first n fields, one taken after the other.

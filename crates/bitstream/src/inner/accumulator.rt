@@ -2,7 +2,7 @@
 ghost use Rattle.words.specs.Kit.{_≡_, _+_, _^_, _≤_, _<_, length};
 ghost use Rattle.bitstream.specs.Carried.{streamBits};
 ghost use Rattle.bitstream.specs.inner.Accumulator.{Takeable, Refilled, Took, TookItem, FieldTakeable, Pushable, Pushed, FieldPushable, Finished};
-use crate::inner::low;
+use words::inner::low;
 
 // The last `have` bits of acc are held; `at` is the next word to read or to write.
 pub struct Held {
