@@ -1,113 +1,101 @@
--- Laws of `filled`: the start, a turn and the end of a loop that fills a buffer, and what then stands at each place; and of `filledFrom`, where another
--- loop goes on.
-use Rattle.words.proofs.Kit.{_≡_, refl, sym, ap, ap₂, _∙_, subst, List, ⊎-elim, ℕ, zero, suc, _+_, _≤_, _<_, arith, getD, length, set, take, lt-ltb}
-use Rattle.words.proofs.Kit.{le-ltb}
-use native.Mathlib.Nat.{eq-or-lt-of-le, le-of-suc-le-suc, not-suc-le-zero, lt-irrefl}
+-- Laws of `filled`: the start, a turn and the end of a loop that fills a buffer (`Fills`), where another loop goes on, and what then stands at each place.
+use Rattle.words.proofs.Kit.{_≡_, refl, sym, ap, ap₂, _∙_, List, [], _∷_, _++_, ⊎-elim, ℕ, zero, suc, _+_, _≤_, _<_, arith, getD, length, set, take}
+use Rattle.words.proofs.Kit.{drop}
+use mathlib.Core.List.{append-assoc}
+use native.Mathlib.Nat.{eq-or-lt-of-le, le-of-suc-le-suc, not-suc-le-zero}
 use native.Mathlib.Numerals.{add-one}
-use lib.ListN.{length-set}
-use lib.Seq.{getD-set-same, getD-set-other, ext-getD, getD-take, length-take-le}
-use Rattle.words.proofs.Cases.{le-or-lt}
-use Rattle.bitstream.specs.Filled.{filled, filledFrom}
+use lib.ListN.{length-set, length-append, length-drop, List·getD-append}
+use lib.Seq.{set-at, take-at, getD-at, drop-cons, ext-getD}
+use Rattle.bitstream.specs.Filled.{listOf, filled}
+use Rattle.bitstream.specs.inner.FilledOn.{FilledOn}
 
-pub filled-length : (k : ℕ) (h : ℕ → ℕ) (l : List ℕ) → length (filled k h l) ≡ length l
-unfolding filled
-filled-length zero h l = refl
-filled-length (suc k) h l = length-set (filled k h l) k (h k) ∙ filled-length k h l
+-- ---- a list by its entries
+pub list-length : (n : ℕ) (h : ℕ → ℕ) → length (listOf n h) ≡ n
+unfolding listOf
+list-length zero h = refl
+list-length (suc n) h = length-append (listOf n h) (h n ∷ []) ∙ omega (arith, list-length n h)
 
-pub filled-long : (k : ℕ) (h : ℕ → ℕ) (l l′ : List ℕ) → l′ ≡ filled k h l → length l′ ≡ length l
-filled-long k h l l′ e = ap length e ∙ filled-length k h l
+list-same : (n : ℕ) (h h′ : ℕ → ℕ) → ((k : ℕ) → k < n → h k ≡ h′ k) → listOf n h ≡ listOf n h′
+unfolding listOf
+list-same zero h h′ e = refl
+list-same (suc n) h h′ e = ap₂ (λ (x : List ℕ) (y : ℕ). x ++ (y ∷ [])) (list-same n h h′ (λ k q. e k (omega arith))) (e n (omega arith))
 
--- ---- a loop's start, and its turn
-pub filled-none : (h : ℕ → ℕ) (l : List ℕ) → l ≡ filled 0 h l
-unfolding filled
-filled-none h l = refl
-
-pub filled-more : (k : ℕ) (h : ℕ → ℕ) (l l′ : List ℕ) (x : ℕ) → l′ ≡ filled k h l → x ≡ h k → set l′ k x ≡ filled (k + 1) h l
-unfolding filled
-filled-more k h l l′ x e q = ap₂ (λ (y : List ℕ) (z : ℕ). set y k z) e q ∙ ap (λ (n : ℕ). filled n h l) (sym (add-one k))
-
--- ---- what stands there
-pub filled-same : (n : ℕ) (h h′ : ℕ → ℕ) (l : List ℕ) → ((k : ℕ) → k < n → h k ≡ h′ k) → filled n h l ≡ filled n h′ l
-unfolding filled
-filled-same zero h h′ l e = refl
-filled-same (suc n) h h′ l e = ap₂ (λ (x : List ℕ) (y : ℕ). set x n y) (filled-same n h h′ l (λ k q. e k (omega arith))) (e n (omega arith))
-
-pub filled-at : (n : ℕ) (h : ℕ → ℕ) (l : List ℕ) (k : ℕ) → k < n → n ≤ length l → getD (filled n h l) k 0 ≡ h k
-unfolding filled
-filled-at zero h l k q r = absurd (not-suc-le-zero q)
-filled-at (suc n) h l k q r =
+pub list-at : (n : ℕ) (h : ℕ → ℕ) (k : ℕ) → k < n → getD (listOf n h) k 0 ≡ h k
+unfolding listOf
+list-at zero h k q = absurd (not-suc-le-zero q)
+list-at (suc n) h k q =
     ⊎-elim
-    (λ e. ap (λ (x : ℕ). getD (set (filled n h l) n (h n)) x 0) e ∙ getD-set-same (filled n h l) n (h n) 0 (omega (arith, filled-length n h l)) ∙ ap h (sym e))
-    (λ t. getD-set-other (filled n h l) n k (h n) 0 (λ e. lt-irrefl k (subst (λ (x : ℕ). k < x) (sym e) t)) ∙ filled-at n h l k t (omega arith))
+    (λ e. ap (λ (x : ℕ). getD (listOf n h ++ (h n ∷ [])) x 0) e ∙ getD-at (listOf n h) (h n) [] 0 n (list-length n h) ∙ ap h (sym e))
+    (λ t. List·getD-append (listOf n h) (h n ∷ []) 0 k (omega (arith, list-length n h)) ∙ list-at n h k t)
     (eq-or-lt-of-le (le-of-suc-le-suc q))
 
--- the front that was filled is the list whose entries were put there
-pub filled-front : (n : ℕ) (h : ℕ → ℕ) (l l′ : List ℕ) → n ≤ length l → length l′ ≡ n → ((k : ℕ) → k < n → h k ≡ getD l′ k 0) → take n (filled n h l) ≡ l′
-filled-front n h l l′ r e q =
-    let len : length (take n (filled n h l)) ≡ n = length-take-le n (filled n h l) (omega (arith, filled-length n h l)) in
-    ext-getD 0 (take n (filled n h l)) l′ (len ∙ sym e)
-    (λ i g. let s : i < n = omega arith in getD-take n (filled n h l) i 0 s ∙ filled-at n h l i s r ∙ q i s)
+-- ---- a buffer whose first places are filled
+pub filled-length : (n : ℕ) (h : ℕ → ℕ) (l : List ℕ) → n ≤ length l → length (filled n h l) ≡ length l
+unfolding filled
+filled-length n h l r = length-append (listOf n h) (drop n l) ∙ omega (arith, list-length n h, length-drop n l)
 
--- ---- places from a on
-from-start : (a : ℕ) (h : ℕ → ℕ) (l : List ℕ) → l ≡ filledFrom a a h l
-unfolding filledFrom
-from-start zero h l = refl
-from-start (suc a) h l = rw (lt-ltb a (suc a) (omega arith))
+pub filled-same : (n : ℕ) (h h′ : ℕ → ℕ) (l : List ℕ) → ((k : ℕ) → k < n → h k ≡ h′ k) → filled n h l ≡ filled n h′ l
+unfolding filled
+filled-same n h h′ l e = ap (λ (x : List ℕ). x ++ drop n l) (list-same n h h′ e)
 
-from-turn : (a n : ℕ) (h : ℕ → ℕ) (l : List ℕ) → a ≤ n → filledFrom a (suc n) h l ≡ set (filledFrom a n h l) n (h n)
-unfolding filledFrom
-from-turn a n h l q = rw (le-ltb n a q)
+-- the front that was filled
+pub filled-take : (n : ℕ) (h : ℕ → ℕ) (l : List ℕ) → take n (filled n h l) ≡ listOf n h
+unfolding filled
+filled-take n h l = take-at (listOf n h) (drop n l) n (list-length n h)
 
-pub from-same : (a n : ℕ) (h g : ℕ → ℕ) (l : List ℕ) → ((k : ℕ) → a ≤ k → k < n → h k ≡ g k) → filledFrom a n h l ≡ filledFrom a n g l
-unfolding filledFrom
-from-same a zero h g l e = refl
-from-same a (suc n) h g l e =
-    ⊎-elim
-    (λ q. rw (le-ltb n a q) (ap₂ (λ (x : List ℕ) (y : ℕ). set x n y) (from-same a n h g l (λ k r s. e k r (omega arith))) (e n q (omega arith))))
-    (λ q. rw (lt-ltb n a q))
-    (le-or-lt a n)
+-- it is the list whose entries were put there
+pub filled-front : (n : ℕ) (h : ℕ → ℕ) (l l′ : List ℕ) → length l′ ≡ n → ((k : ℕ) → k < n → h k ≡ getD l′ k 0) → take n (filled n h l) ≡ l′
+filled-front n h l l′ e q =
+    filled-take n h l
+    ∙ ext-getD 0 (listOf n h) l′ (list-length n h ∙ sym e)
+    (λ i g. let s : i < n = omega (arith, list-length n h) in list-at n h i s ∙ q i s)
 
--- places up to a, and then from a on
-filled-then : (a n : ℕ) (h : ℕ → ℕ) (l : List ℕ) → a ≤ n → filledFrom a n h (filled a h l) ≡ filled n h l
-unfolding filled filledFrom
-filled-then a zero h l q = let e : a ≡ 0 = omega arith in rw e
-filled-then a (suc n) h l q =
-    ⊎-elim
-    (λ s. from-turn a n h (filled a h l) s ∙ ap (λ (x : List ℕ). set x n (h n)) (filled-then a n h l s))
-    (λ s. let e : a ≡ suc n = omega arith in rw e (sym (from-start (suc n) h (filled (suc n) h l))))
-    (le-or-lt a n)
+-- ---- one place more
+pub filled-none : (h : ℕ → ℕ) (l : List ℕ) → l ≡ filled 0 h l
+unfolding filled listOf
+filled-none h l = refl
 
--- ---- a loop that fills the places from a up to n with h: those up to k are filled
+pub filled-more : (k : ℕ) (h : ℕ → ℕ) (l l′ : List ℕ) (x : ℕ) → k < length l → l′ ≡ filled k h l → x ≡ h k → set l′ k x ≡ filled (k + 1) h l
+unfolding filled listOf
+filled-more k h l l′ x r e q =
+    ap₂ (λ (y : List ℕ) (z : ℕ). set y k z) (e ∙ ap (λ (y : List ℕ). listOf k h ++ y) (drop-cons l k 0 r)) q
+    ∙ set-at (listOf k h) (getD l k 0) (drop (suc k) l) (h k) k (list-length k h)
+    ∙ sym (append-assoc (listOf k h) (h k ∷ []) (drop (suc k) l))
+    ∙ ap (λ (n : ℕ). filled n h l) (sym (add-one k))
+
+-- ---- a loop that fills the places from a up to n with h: those up to k are filled. What stands before a, of g, is another's; from a on, g is h.
 pub record Fills (a n k : ℕ) (h : ℕ → ℕ) (l l′ : List ℕ) : Type 0 where
   pub from : a ≤ k
   pub most : k ≤ n
+  pub room : n ≤ length l
   pub long : length l′ ≡ length l
-  pub here : l′ ≡ filledFrom a k h l
+  pub here : (g : ℕ → ℕ) → ((j : ℕ) → a ≤ j → j < n → h j ≡ g j) → (buffer : List ℕ) → n ≤ length buffer → l ≡ filled a g buffer → l′ ≡ filled k g buffer
 
-pub fills-start : (a n : ℕ) (h : ℕ → ℕ) (l : List ℕ) → a ≤ n → Fills a n a h l l
-fills-start a n h l q = record { from = omega arith; most = q; long = refl; here = from-start a h l }
+pub fills-start : (a n : ℕ) (h : ℕ → ℕ) (l : List ℕ) → a ≤ n → n ≤ length l → Fills a n a h l l
+fills-start a n h l q r = record { from = omega arith; most = q; room = r; long = refl; here = λ g s buffer t e. e }
 
-pub fills-none : (n : ℕ) (h : ℕ → ℕ) (l : List ℕ) → Fills 0 n 0 h l l
+pub fills-none : (n : ℕ) (h : ℕ → ℕ) (l : List ℕ) → n ≤ length l → Fills 0 n 0 h l l
 fills-none n h l = fills-start 0 n h l (omega arith)
 
 pub fills-turn : {a n k : ℕ} {h : ℕ → ℕ} {l l′ : List ℕ} {x : ℕ} → Fills a n k h l l′ → k < n → x ≡ h k → Fills a n (k + 1) h l (set l′ k x)
 fills-turn {a} {n} {k} {h} {l} {l′} {x} f q e = record {
   from = omega arith;
   most = omega arith;
+  room = f .room;
   long = length-set l′ k x ∙ f .long;
-  here = ap₂ (λ (y : List ℕ) (z : ℕ). set y k z) (f .here) e ∙ sym (from-turn a k h l (f .from)) ∙ ap (λ (m : ℕ). filledFrom a m h l) (sym (add-one k));
+  here = λ g s buffer r b. filled-more k g buffer l′ x (omega arith) (f .here g s buffer r b) (e ∙ s k (f .from) q);
 }
 
 -- all of them are filled
-pub fills-end : {a n k : ℕ} {h : ℕ → ℕ} {l l′ : List ℕ} → Fills a n k h l l′ → n ≤ k → l′ ≡ filledFrom a n h l
-fills-end {a} {n} {k} f q = let e : k ≡ n = omega (arith, f .most) in rw e at (f .here)
+pub fills-as : {a n k : ℕ} {h g : ℕ → ℕ} {l l′ : List ℕ} → Fills a n k h l l′ → n ≤ k → ((j : ℕ) → a ≤ j → j < n → h j ≡ g j) → FilledOn a n g l l′
+fills-as {a} {n} {k} {h} {g} f q s = let e : k ≡ n = omega (arith, f .most) in rw e at (f .here g s)
+
+pub fills-end : {a n k : ℕ} {h : ℕ → ℕ} {l l′ : List ℕ} → Fills a n k h l l′ → n ≤ k → FilledOn a n h l l′
+fills-end f q = fills-as f q (λ j r s. refl)
 
 pub fills-all : {n k : ℕ} {h : ℕ → ℕ} {l l′ : List ℕ} → Fills 0 n k h l l′ → n ≤ k → l′ ≡ filled n h l
-unfolding filled
-fills-all {n} {h = h} {l} f q = fills-end f q ∙ filled-then 0 n h l (omega arith)
+fills-all {h = h} {l} f q = fills-end f q l (f .room) (filled-none h l)
 
 -- one loop up to a, and another from a on
-pub fills-on : {a n : ℕ} {h : ℕ → ℕ} {l l′ l″ : List ℕ} → Fills 0 n a h l l′ → l″ ≡ filledFrom a n h l′ → l″ ≡ filled n h l
-unfolding filled
-fills-on {a} {n} {h} {l} f e =
-    e ∙ ap (filledFrom a n h) (f .here ∙ filled-then 0 a h l (omega arith)) ∙ filled-then a n h l (f .most)
+pub fills-on : {a n : ℕ} {h : ℕ → ℕ} {l l′ l″ : List ℕ} → Fills 0 n a h l l′ → FilledOn a n h l′ l″ → l″ ≡ filled n h l
+fills-on {h = h} {l} f e = e l (f .room) (f .here h (λ j r s. refl) l (f .room) (filled-none h l))

@@ -11,7 +11,7 @@ use Rattle.bitstream.proofs.AccumulatorLaws.{append-below, appended, ta
 use Rattle.bitstream.proofs.CarriedLaws.{room-at}
 use Rattle.bitstream.specs.declared.inner.accumulator.Held.{Held}
 use Rattle.bitstream.specs.declared.inner.accumulator.Taken.{Taken}
-use Rattle.bitstream.specs.Accumulator.{Ahead, AheadBy, Takeable, Refilled, Took, TookItem, FieldTakeable, heldOf}
+use Rattle.bitstream.specs.inner.Accumulator.{Ahead, AheadBy, Takeable, Refilled, Took, TookItem, FieldTakeable, heldOf}
 
 -- nothing is held yet
 pub ahead-none : (c : ℕ) (ws : List ℕ) (p : ℕ) → p ≡ 0 → Ahead c ws (record { acc = 0; have = 0; at = 0 }) p

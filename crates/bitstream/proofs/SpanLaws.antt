@@ -5,15 +5,8 @@ use native.Mathlib.Nat.{le-div-iff-mul-le, zero-div, add-zero, add-suc, add-asso
 use native.Mathlib.Nat.{mod-eq-of-lt, pow-suc, mul-comm, div-add-mod', div-lt-iff-lt-mul, div-one, zero-lt-suc}
 use native.Mathlib.Numerals.{add-one}
 use lib.Arith.{digits-lt, digits-div, digits-mod}
-use lib.Pow.{pow-add, shr-shr, high, low, mod-pow-add}
+use lib.Pow.{shr-shr, high, low, mod-pow-add}
 use Rattle.bitstream.specs.Stream.{bit, span}
-
--- ---- powers of two
-pub halves : (w : ℕ) → 1 ≤ w → 2 ^ w ≡ 2 ^ (w - 1) + 2 ^ (w - 1)
-halves w h =
-    let e : w ≡ w - 1 + 1 = omega arith in
-    let p : 2 ^ (w - 1 + 1) ≡ 2 ^ (w - 1) * 2 = pow-add 2 (w - 1) 1 in
-    ap (λ (x : ℕ). 2 ^ x) e ∙ p ∙ omega arith
 
 -- ---- cut and joined
 bit-below : (b : ℕ) (g : ℕ → ℕ) (i : ℕ) → bit b g i < 2

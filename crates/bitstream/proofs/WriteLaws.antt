@@ -10,13 +10,17 @@ use Rattle.bitstream.specs.Filled.{filled}
 use Rattle.bitstream.proofs.SpanLaws.{split, first, last, blank, none}
 use Rattle.bitstream.proofs.AccumulatorLaws.{append-below, appended, taken, left, word-left}
 use Rattle.bitstream.proofs.CarriedLaws.{needed-even, needed-odd}
-use Rattle.bitstream.proofs.FilledLaws.{filled-none, filled-more}
+use Rattle.bitstream.proofs.FilledLaws.{filled-length, filled-none, filled-more}
 use Rattle.bitstream.specs.declared.inner.accumulator.Held.{Held}
-use Rattle.bitstream.specs.Accumulator.{Behind, Pushable, Pushed, FieldPushable, Finished}
+use Rattle.bitstream.specs.inner.Accumulator.{Behind, Pushable, Pushed, FieldPushable, Finished}
 
 -- nothing is held yet
 pub behind-none : (c f : ℕ) (g : ℕ → ℕ) (out : List ℕ) → Behind c f g out out (record { acc = 0; have = 0; at = 0 })
-behind-none c f g out = record { written = filled-none (wordOf c f g) out; held = sym (none f g (c * 0)) }
+behind-none c f g out = record { inside = omega arith; written = filled-none (wordOf c f g) out; held = sym (none f g (c * 0)) }
+
+-- the buffer keeps its length
+pub behind-long : {c f : ℕ} {g : ℕ → ℕ} {first out : List ℕ} {s : Held} → Behind c f g first out s → length out ≡ length first
+behind-long {first = first} b = ap length (b .written) ∙ filled-length _ _ first (b .inside)
 
 -- the bits that are held, with the new ones behind them; and the word that they fill
 abbrev pub joint : Held → ℕ → ℕ → ℕ
@@ -40,7 +44,7 @@ module _ (c w : ℕ) (s : Held) (v : ℕ) (out : List ℕ) (h : Pushable c w s v
   pushed-more l = record {
     place = sym (add-assoc (c * s .at) (s .have) w);
     few = l;
-    keeps = λ f g o k q. record { written = k .written; held = joint-is f g (k .held) q };
+    keeps = λ f g o k q. record { inside = k .inside; written = k .written; held = joint-is f g (k .held) q };
   }
 
   pub pushed-word : c ≤ s .have + w
@@ -52,11 +56,13 @@ module _ (c w : ℕ) (s : Held) (v : ℕ) (out : List ℕ) (h : Pushable c w s v
     keeps = λ f g o k q.
         let j : joint s v w % 2 ^ (s .have + w) ≡ span f g (c * s .at) (s .have + w) = joint-is f g (k .held) q in
         let next : c * s .at + c ≡ c * (s .at + 1) = omega (arith, mul-add c (s .at) 1) in
+        let there : s .at < length o = omega (arith, h .room l, behind-long k) in
         let word : filledWord c s v w ≡ wordOf c f g (s .at) =
         word-left (joint s v w / 2 ^ (s .have + w - c)) c (h .most)
         ∙ ap (λ (x : ℕ). x * 2 ^ (32 - c)) (taken f g (joint s v w) (c * s .at) (s .have + w) j c l) in
         record {
-          written = filled-more (s .at) (wordOf c f g) o out (filledWord c s v w) (k .written) word;
+          inside = omega arith;
+          written = filled-more (s .at) (wordOf c f g) o out (filledWord c s v w) there (k .written) word;
           held = left f g (joint s v w) (c * s .at) (s .have + w) j c l ∙ ap (λ (x : ℕ). span f g x (s .have + w - c)) next;
         };
   }
@@ -78,8 +84,9 @@ last-word c f a h x g l k e z =
 
 -- all n fields are put, and the last bits written
 pub finished : (c f n : ℕ) (g : ℕ → ℕ) (first out out′ : List ℕ) (s : Held) → 0 < c → c ≤ 32 → 0 < f → ((j : ℕ) → n ≤ j → g j ≡ 0)
-    → s .have < c → c * s .at + s .have ≡ f * n → Behind c f g first out s → Finished s out out′ → out′ ≡ filled (needed c f n) (wordOf c f g) first
-finished c f n g first out out′ s pc mc pf z l e k q = go (s .have) refl
+    → s .have < c → c * s .at + s .have ≡ f * n → (0 < s .have → s .at < length out) → Behind c f g first out s → Finished s out out′
+    → out′ ≡ filled (needed c f n) (wordOf c f g) first
+finished c f n g first out out′ s pc mc pf z l e r k q = go (s .have) refl
   where
     go : (h : ℕ) → s .have ≡ h → out′ ≡ filled (needed c f n) (wordOf c f g) first
     go zero x =
@@ -90,7 +97,8 @@ finished c f n g first out out′ s pc mc pf z l e k q = go (s .have) refl
         last-word c f (s .at) (s .have) (s .acc % 2 ^ s .have) g (omega arith) mc (k .held)
         (blank f n g pf z (c * s .at + s .have) (c - s .have) (omega (arith, mul-comm f n))) in
         q .some (omega arith)
-        ∙ filled-more (s .at) (wordOf c f g) first out (s .acc % 2 ^ s .have * 2 ^ (32 - s .have)) (k .written) w
+        ∙ filled-more (s .at) (wordOf c f g) first out (s .acc % 2 ^ s .have * 2 ^ (32 - s .have)) (omega (arith, r (omega arith), behind-long k))
+        (k .written) w
         ∙ ap (λ (m : ℕ). filled m (wordOf c f g) first) (sym (needed-odd c f n (s .at) h (omega arith) (ap (λ (y : ℕ). c * s .at + y) (sym x) ∙ e)))
 
 -- ---- a field of more than 32 bits, in two parts

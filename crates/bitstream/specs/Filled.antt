@@ -1,13 +1,11 @@
--- What a call that fills places of a buffer leaves in it.
-use Rattle.words.specs.Kit.{ℕ, zero, suc, List, set, ltb}
-use Rattle.words.specs.Tests.{pick}
+-- What a call that fills the first places of a buffer leaves in it.
+use Rattle.words.specs.Kit.{ℕ, zero, suc, List, [], _∷_, _++_, drop}
 
--- l with `h 0` to `h (n - 1)` in its first n places; those after them stay
+-- the list of `h 0` to `h (n - 1)`
+unfoldable pub listOf : ℕ → (ℕ → ℕ) → List ℕ
+listOf zero h = []
+listOf (suc n) h = listOf n h ++ (h n ∷ [])
+
+-- `h 0` to `h (n - 1)`, and then what stood in l after its first n places
 unfoldable pub filled : ℕ → (ℕ → ℕ) → List ℕ → List ℕ
-filled zero h l = l
-filled (suc n) h l = set (filled n h l) n (h n)
-
--- l with `h a` to `h (n - 1)` in the places from a up to n; the others stay
-unfoldable pub filledFrom : ℕ → ℕ → (ℕ → ℕ) → List ℕ → List ℕ
-filledFrom a zero h l = l
-filledFrom a (suc n) h l = pick (ltb n a) l (set (filledFrom a n h l) n (h n))
+filled n h l = listOf n h ++ drop n l

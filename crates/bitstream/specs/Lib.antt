@@ -4,7 +4,7 @@
 pub mod Stream
 -- packing fields in words of which some bits carry them
 pub mod Carried
--- a list of which some places are filled
+-- a buffer of which the first places are filled
 pub mod Filled
--- what the calls inside promise each other: an accumulator of bits
-pub mod Accumulator
+-- what only the contracts inside cite
+pub mod inner

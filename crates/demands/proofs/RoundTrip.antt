@@ -4,7 +4,6 @@
 use Rattle.words.proofs.Kit.{_≡_, refl, sym, ap, _∙_, true, false, List, ℕ, _+_, _-_, _*_, _^_, _≤_, _<_, arith, length, getD, take, ltb, lt-ltb}
 use Rattle.words.proofs.Kit.{le-ltb, eq-eqb}
 use native.Mathlib.Nat.{mod-lt}
-use lib.Seq.{getD-take, length-take-le}
 use lib.Pow.{pow-pos, shr-lt}
 use Rattle.words.specs.Outcome.{accepted, Done, saidOf, leftOf}
 use Rattle.words.proofs.Cases.{accepted-same}
@@ -13,16 +12,18 @@ use Rattle.words.proofs.MeetLaws.{said-accepted}
 use Rattle.words.proofs.AllLaws.{all-intro}
 use Rattle.fields.specs.Format.{eventSize, channelSize, itemSize, packingSize}
 use Rattle.bitstream.specs.Carried.{streamBits, packingField, wordOf}
-use Rattle.bitstream.specs.Filled.{filled}
 use Rattle.bitstream.proofs.SpanLaws.{below}
 use Rattle.bitstream.proofs.CarriedLaws.{field-back, word-back, enough}
-use Rattle.bitstream.proofs.FilledLaws.{filled-front, filled-at, filled-length}
+use Rattle.bitstream.proofs.FilledLaws.{list-length, list-at, filled-take, filled-front}
 use Rattle.payload_format.specs.declared.inner.Packing.{Packing}
-use Rattle.payload_format.specs.Format.{formatBad, carriedBits, packingOf, Legal}
+use Rattle.payload_format.specs.Format.{formatBad, carriedBits, packingOf}
+use Rattle.payload_format.specs.inner.Legal.{Legal}
 use Rattle.payload_format.specs.Count.{countBad, wordsFor}
-use Rattle.payload_format.specs.Field.{fieldIn, itemIn, eventIn, channelIn, fieldsOf, fitting}
-use Rattle.payload_unpack.specs.Unpack.{Buffers, unpacked, unpackList, unpackCheck, unpackOf}
-use Rattle.payload_pack.specs.Pack.{packed, packList, packCheck, packOf}
+use Rattle.payload_format.specs.Field.{fieldIn, itemIn, eventIn, channelIn, fieldsOf}
+use Rattle.payload_unpack.specs.Unpack.{Buffers, unpacked, unpackList, unpackOf}
+use Rattle.payload_unpack.specs.inner.Unpackable.{unpackCheck}
+use Rattle.payload_pack.specs.Pack.{packed, fitting, valueBad, packList, packOf}
+use Rattle.payload_pack.specs.inner.Packable.{packCheck, Fitting}
 use Rattle.demands.specs.Clean.{Clean}
 use Rattle.payload_format.proofs.FormatLaws.{legal, carry-some, carry-most, field-some}
 use Rattle.payload_format.proofs.FieldLaws.{item-back, event-back, channel-back, made-below, made-back, fields-blank}
@@ -42,71 +43,71 @@ unpack-passes first second n m a b c p =
       le-ltb c n (p .channels),
     )
 
-fitting-is : (w n : ℕ) (l : List ℕ) → ((k : ℕ) → k < n → getD l k 0 < 2 ^ w) → fitting w n l ≡ true
+fitting-is : (w n : ℕ) (l : List ℕ) → Fitting w n l → fitting w l ≡ true
 unfolding fitting
-fitting-is w n l h = all-intro (λ k. ltb (getD l k 0) (2 ^ w)) n (λ k q. lt-ltb (getD l k 0) (2 ^ w) (h k q))
+fitting-is w n l h =
+    all-intro (λ k. ltb (getD l k 0) (2 ^ w)) (length l) (λ k q. lt-ltb (getD l k 0) (2 ^ w) (h .each k (omega (arith, h .many))))
 
-pack-passes : (first second : ℕ) (is es cs : List ℕ) (room : ℕ) → PackPassed first second is es cs room → packCheck first second is es cs room ≡ accepted tt
-unfolding packCheck
-pack-passes first second is es cs room p =
-    let n : ℕ = length is in
+pack-passes : (first second : ℕ) (items events channels : List ℕ) (room : ℕ) → PackPassed first second items events channels room
+    → packCheck first second items events channels room ≡ accepted tt
+unfolding packCheck valueBad
+pack-passes first second items events channels room p =
+    let n : ℕ = length items in
     simp (
       p .format,
       p .count,
-      eq-eqb (length es) n (p .events .many),
-      eq-eqb (length cs) n (p .channels .many),
-      fitting-is (itemSize first) n is (p .items .each),
-      fitting-is (eventSize first) n es (p .events .each),
-      fitting-is (channelSize first) n cs (p .channels .each),
+      eq-eqb (length events) n (p .events-fit .many),
+      eq-eqb (length channels) n (p .channels-fit .many),
+      fitting-is (itemSize first) n items (p .items-fit),
+      fitting-is (eventSize first) n events (p .events-fit),
+      fitting-is (channelSize first) n channels (p .channels-fit),
       le-ltb room (wordsFor first n) (p .places),
     )
 
 -- ---- packed, then unpacked
-module _ (first second : ℕ) (is es cs out : List ℕ) (p : PackPassed first second is es cs (length out)) where
+module _ (first second : ℕ) (items events channels out : List ℕ) (p : PackPassed first second items events channels (length out)) where
   abbrev n : ℕ
-  n = length is
+  n = length items
 
   abbrev m : ℕ
-  m = wordsFor first (length is)
+  m = wordsFor first (length items)
 
   abbrev P : Packing
   P = packingOf first
 
   abbrev words : List ℕ
-  words = take m (packed P n is es cs out)
-
-  packed-length : length (packed P n is es cs out) ≡ length out
-  packed-length = filled-length _ _ out
+  words = take m (packed P n items events channels out)
 
   words-length : length words ≡ m
-  words-length = length-take-le m (packed P n is es cs out) (omega (arith, packed-length, p .places))
+  unfolding packingOf wordsFor
+  words-length = ap length (filled-take m _ out) ∙ list-length m _
 
   -- field k of the words is the field that was packed
-  pub field-packed : (k : ℕ) → k < n → fieldIn P words k ≡ fieldsOf P is es cs k
+  pub field-packed : (k : ℕ) → k < n → fieldIn P words k ≡ fieldsOf P items events channels k
   unfolding packingOf wordsFor
   field-packed k l =
-      let q = packable first second is es cs (length out) p in
-      field-back (P .carry) (P .field) m n (fieldsOf P is es cs) words
+      let q = packable first second items events channels (length out) p in
+      field-back (P .carry) (P .field) m n (fieldsOf P items events channels) words
       (carry-some first) (enough (P .carry) (P .field) n (carry-some first))
-      (λ j h. getD-take m (packed P n is es cs out) j 0 h ∙ filled-at m _ out j h (p .places))
-      k l (made-below P (q .0 .legal) _ _ _ (p .events .each k l) (p .channels .each k l) (p .items .each k l))
+      (λ j h. ap (λ (x : List ℕ). getD x j 0) (filled-take m _ out) ∙ list-at m _ j h)
+      k l (made-below P (q .0 .legal) _ _ _ (p .events-fit .each k l) (p .channels-fit .each k l) (p .items-fit .each k l))
 
   -- and its parts
   module _ (k : ℕ) (l : k < n) where
     lawful : Legal P
     lawful = legal first second (p .format)
 
-    pub item-packed : itemIn P (fieldIn P words k) ≡ getD is k 0
+    pub item-packed : itemIn P (fieldIn P words k) ≡ getD items k 0
     unfolding packingOf
-    item-packed = ap (itemIn P) (field-packed k l) ∙ item-back P lawful _ _ _ (p .events .each k l) (p .channels .each k l)
+    item-packed = ap (itemIn P) (field-packed k l) ∙ item-back P lawful _ _ _ (p .events-fit .each k l) (p .channels-fit .each k l)
 
-    pub event-packed : eventIn P (fieldIn P words k) ≡ getD es k 0
+    pub event-packed : eventIn P (fieldIn P words k) ≡ getD events k 0
     unfolding packingOf
-    event-packed = ap (eventIn P) (field-packed k l) ∙ event-back P lawful _ _ _ (p .events .each k l) (p .channels .each k l)
+    event-packed = ap (eventIn P) (field-packed k l) ∙ event-back P lawful _ _ _ (p .events-fit .each k l) (p .channels-fit .each k l)
 
-    pub channel-packed : channelIn P (fieldIn P words k) ≡ getD cs k 0
+    pub channel-packed : channelIn P (fieldIn P words k) ≡ getD channels k 0
     unfolding packingOf
-    channel-packed = ap (channelIn P) (field-packed k l) ∙ channel-back P lawful _ _ _ (p .events .each k l) (p .channels .each k l)
+    channel-packed = ap (channelIn P) (field-packed k l) ∙ channel-back P lawful _ _ _ (p .events-fit .each k l) (p .channels-fit .each k l)
 
 -- What `pack` wrote, handed to `unpack` with room for as many, is accepted, and gives the items, the event tags and the channel tags back.
 pub pack-then-unpack : (first second : ℕ) (items events channels out : List ℕ) (d : Done ℕ (List ℕ))
@@ -118,16 +119,16 @@ pub pack-then-unpack : (first second : ℕ) (items events channels out : List �
     × (take (length items) (leftOf answer b .events) ≡ events)
     × (take (length items) (leftOf answer b .channels) ≡ channels)
 unfolding packOf packCheck unpackOf unpackCheck
-pack-then-unpack first second is es cs out d e b hi he hc =
-    let n = length is in
-    let a = first-passed (packList first second is es cs (length out)) _ d e in
-    let k = pack-passed first second is es cs (length out) (none-given (packList first second is es cs (length out)) _ (a .0)) in
-    let ws = words first second is es cs out k in
+pack-then-unpack first second items events channels out d e b hi he hc =
+    let n = length items in
+    let a = first-passed (packList first second items events channels (length out)) _ d e in
+    let k = pack-passed first second items events channels (length out) (none-given (packList first second items events channels (length out)) _ (a .0)) in
+    let ws = words first second items events channels out k in
     let c = unpack-passes first second n (length ws) (length (b .items)) (length (b .events)) (length (b .channels))
     (record {
       format = k .format;
       count = k .count;
-      there = words-length first second is es cs out k;
+      there = words-length first second items events channels out k;
       items = hi;
       events = he;
       channels = hc;
@@ -136,39 +137,30 @@ pack-then-unpack first second is es cs out d e b hi he hc =
     first-fine (unpackList first second n (length ws) (length (b .items)) (length (b .events)) (length (b .channels))) tt tt _ c in
     rw (← accepted-same (a .1), f) (
       refl,
-      filled-front n _ (b .items) is hi refl (item-packed first second is es cs out k),
-      filled-front n _ (b .events) es he (k .events .many) (event-packed first second is es cs out k),
-      filled-front n _ (b .channels) cs hc (k .channels .many) (channel-packed first second is es cs out k),
+      filled-front n _ (b .items) items refl (item-packed first second items events channels out k),
+      filled-front n _ (b .events) events (k .events-fit .many) (event-packed first second items events channels out k),
+      filled-front n _ (b .channels) channels (k .channels-fit .many) (channel-packed first second items events channels out k),
     )
 
 -- ---- unpacked, then packed
 
--- lists that hold the parts of the words' fields
-record Parts (first n : ℕ) (ws is es cs : List ℕ) : Type 0 where
-  items : length is ≡ n
-  events : length es ≡ n
-  channels : length cs ≡ n
-  item : (k : ℕ) → k < n → getD is k 0 ≡ itemIn (packingOf first) (fieldIn (packingOf first) ws k)
-  event : (k : ℕ) → k < n → getD es k 0 ≡ eventIn (packingOf first) (fieldIn (packingOf first) ws k)
-  channel : (k : ℕ) → k < n → getD cs k 0 ≡ channelIn (packingOf first) (fieldIn (packingOf first) ws k)
+-- lists of n entries that are the parts of the words' fields
+record Parts (first n : ℕ) (ws items events channels : List ℕ) : Type 0 where
+  many : (length items ≡ n) × (length events ≡ n) × (length channels ≡ n)
+  item : (k : ℕ) → k < n → getD items k 0 ≡ itemIn (packingOf first) (fieldIn (packingOf first) ws k)
+  event : (k : ℕ) → k < n → getD events k 0 ≡ eventIn (packingOf first) (fieldIn (packingOf first) ws k)
+  channel : (k : ℕ) → k < n → getD channels k 0 ≡ channelIn (packingOf first) (fieldIn (packingOf first) ws k)
 
--- the front of a buffer that was filled
-front-length : (n : ℕ) (h : ℕ → ℕ) (l : List ℕ) → n ≤ length l → length (take n (filled n h l)) ≡ n
-front-length n h l r = length-take-le n (filled n h l) (omega (arith, filled-length n h l))
-
-front-at : (n : ℕ) (h : ℕ → ℕ) (l : List ℕ) → n ≤ length l → (k : ℕ) → k < n → getD (take n (filled n h l)) k 0 ≡ h k
-front-at n h l r k q = getD-take n (filled n h l) k 0 q ∙ filled-at n h l k q r
-
-parts-of : (first second n m : ℕ) (ws : List ℕ) (b b′ : Buffers) → UnpackPassed first second n m (length (b .items)) (length (b .events)) (length (b .channels))
-    → b′ ≡ unpacked (packingOf first) n ws b → Parts first n ws (take n (b′ .items)) (take n (b′ .events)) (take n (b′ .channels))
-parts-of first second n m ws b b′ k e = rw e (record {
-  items = front-length n _ (b .items) (k .items);
-  events = front-length n _ (b .events) (k .events);
-  channels = front-length n _ (b .channels) (k .channels);
-  item = front-at n _ (b .items) (k .items);
-  event = front-at n _ (b .events) (k .events);
-  channel = front-at n _ (b .channels) (k .channels);
-})
+parts-of : (first n : ℕ) (ws : List ℕ) (b : Buffers)
+    → let left = unpacked (packingOf first) n ws b in Parts first n ws (take n (left .items)) (take n (left .events)) (take n (left .channels))
+parts-of first n ws b =
+    rw (filled-take n _ (b .items), filled-take n _ (b .events), filled-take n _ (b .channels))
+    (record {
+      many = (list-length n _, list-length n _, list-length n _);
+      item = list-at n _;
+      event = list-at n _;
+      channel = list-at n _;
+    })
 
 -- an item of a field fits its bits
 item-small : (p : Packing) → Legal p → (ws : List ℕ) (k : ℕ) → itemIn p (fieldIn p ws k) < 2 ^ p .item
@@ -177,46 +169,48 @@ item-small p l ws k =
     let e : p .item + (p .field - p .item) ≡ p .field = omega arith in
     shr-lt (p .item) (p .field - p .item) (rw e (below (p .carry) (streamBits (p .carry) ws) (p .field * k) (p .field)))
 
-module _ (first second n : ℕ) (ws is es cs out : List ℕ) (f : formatBad first second ≡ false) (c : countBad first second n ≡ false)
-    (there : length ws ≡ wordsFor first n) (h : Parts first n ws is es cs) (room : length ws ≤ length out) where
-  repacks : PackPassed first second is es cs (length out)
+module _ (first second n : ℕ) (ws items events channels out : List ℕ) (f : formatBad first second ≡ false) (c : countBad first second n ≡ false)
+    (there : length ws ≡ wordsFor first n) (h : Parts first n ws items events channels) (room : length ws ≤ length out) where
+  repacks : PackPassed first second items events channels (length out)
   unfolding packingOf
   repacks =
-      let item-fits : (k : ℕ) → k < n → getD is k 0 < 2 ^ itemSize first = λ k q. rw (h .item k q) (item-small (packingOf first) (legal first second f) ws k) in
-      let event-fits : (k : ℕ) → k < n → getD es k 0 < 2 ^ eventSize first = λ k q. rw (h .event k q) (mod-lt _ (pow-pos (eventSize first))) in
-      let channel-fits : (k : ℕ) → k < n → getD cs k 0 < 2 ^ channelSize first = λ k q. rw (h .channel k q) (mod-lt _ (pow-pos (channelSize first))) in
+      let item-fits : (k : ℕ) → k < n → getD items k 0 < 2 ^ itemSize first =
+      λ k q. rw (h .item k q) (item-small (packingOf first) (legal first second f) ws k) in
+      let event-fits : (k : ℕ) → k < n → getD events k 0 < 2 ^ eventSize first = λ k q. rw (h .event k q) (mod-lt _ (pow-pos (eventSize first))) in
+      let channel-fits : (k : ℕ) → k < n → getD channels k 0 < 2 ^ channelSize first = λ k q. rw (h .channel k q) (mod-lt _ (pow-pos (channelSize first))) in
       record {
         format = f;
-        count = rw (h .items) c;
-        places = rw (h .items, ← there) room;
-        items = record { many = refl; each = λ k l. item-fits k (omega (arith, h .items)) };
-        events = record { many = h .events ∙ sym (h .items); each = λ k l. event-fits k (omega (arith, h .items)) };
-        channels = record { many = h .channels ∙ sym (h .items); each = λ k l. channel-fits k (omega (arith, h .items)) };
+        count = rw (h .many .0) c;
+        places = rw (h .many .0, ← there) room;
+        items-fit = record { many = refl; each = λ k l. item-fits k (omega (arith, h .many .0)) };
+        events-fit = record { many = h .many .1 ∙ sym (h .many .0); each = λ k l. event-fits k (omega (arith, h .many .0)) };
+        channels-fit = record { many = h .many .2 ∙ sym (h .many .0); each = λ k l. channel-fits k (omega (arith, h .many .0)) };
       }
 
   -- the fields are those of the words, and the words come back
-  repacked : ((j : ℕ) → getD ws j 0 < 2 ^ 32) → Clean first n ws → take (length ws) (packed (packingOf first) (length is) is es cs out) ≡ ws
+  repacked : ((j : ℕ) → getD ws j 0 < 2 ^ 32) → Clean first n ws → take (length ws) (packed (packingOf first) (length items) items events channels out) ≡ ws
   unfolding packingOf wordsFor
   repacked w z =
-      let g : ℕ → ℕ = fieldsOf (packingOf first) is es cs in
+      let g : ℕ → ℕ = fieldsOf (packingOf first) items events channels in
       let same : (k : ℕ) → k < n → g k ≡ fieldIn (packingOf first) ws k =
       λ k l. rw (h .item k l, h .event k l, h .channel k l)
       (made-back (packingOf first) (legal first second f) (fieldIn (packingOf first) ws k) (z .unused k l)) in
       let past : (k : ℕ) → n ≤ k → g k ≡ 0 =
-      λ k l. fields-blank (packingOf first) k is es cs (omega (arith, h .items)) (omega (arith, h .events)) (omega (arith, h .channels)) in
+      λ k l. fields-blank (packingOf first) k items events channels (omega (arith, h .many .0)) (omega (arith, h .many .1)) (omega (arith, h .many .2)) in
       let back : (j : ℕ) → j < length ws → wordOf (carriedBits first) (packingSize first) g j ≡ getD ws j 0 =
       λ j l. word-back (carriedBits first) (packingSize first) n g ws j (field-some first) (carry-some first) (carry-most first) same past (z .padding) (w j)
       (z .uncarried j) in
-      rw (h .items, ← there) (filled-front (length ws) (wordOf (carriedBits first) (packingSize first) g) out ws room refl back)
+      rw (h .many .0, ← there) (filled-front (length ws) (wordOf (carriedBits first) (packingSize first) g) out ws refl back)
 
   packs-back : ((j : ℕ) → getD ws j 0 < 2 ^ 32) → Clean first n ws
-      → let answer = packOf first second is es cs out in (saidOf answer ≡ accepted (length ws)) × (take (length ws) (leftOf answer out) ≡ ws)
+      → let answer = packOf first second items events channels out in (saidOf answer ≡ accepted (length ws)) × (take (length ws) (leftOf answer out) ≡ ws)
   unfolding packOf packCheck
   packs-back w z =
-      let done : Done ℕ (List ℕ) = record { says = wordsFor first (length is); leaves = packed (packingOf first) (length is) is es cs out } in
-      let f : packOf first second is es cs out ≡ accepted done =
-      first-fine (packList first second is es cs (length out)) tt tt _ (pack-passes first second is es cs (length out) repacks) in
-      rw f (rw (h .items, ← there), repacked w z)
+      let done : Done ℕ (List ℕ) =
+      record { says = wordsFor first (length items); leaves = packed (packingOf first) (length items) items events channels out } in
+      let f : packOf first second items events channels out ≡ accepted done =
+      first-fine (packList first second items events channels (length out)) tt tt _ (pack-passes first second items events channels (length out) repacks) in
+      rw f (rw (h .many .0, ← there), repacked w z)
 
 -- What `unpack` gave, handed to `pack` with room for as many words, is accepted, and gives the words back where they were clean.
 pub unpack-then-pack : (first second n : ℕ) (ws : List ℕ) → ((j : ℕ) → getD ws j 0 < 2 ^ 32) → Clean first n ws → (b : Buffers) (v : ℕ)
@@ -231,5 +225,5 @@ unpack-then-pack first second n ws w z b v e out room =
     let passed = first-passed list _ (t .0) (t .1) .0 in
     let k = unpack-passed first second n (length ws) (length (b .items)) (length (b .events)) (length (b .channels)) (none-given list _ passed) in
     let f : unpackOf first second n ws b ≡ accepted (record { says = n; leaves = unpacked (packingOf first) n ws b }) = none-given list _ passed in
-    let h = parts-of first second n (length ws) ws b (unpacked (packingOf first) n ws b) k refl in
+    let h = parts-of first n ws b in
     rw f (packs-back first second n ws _ _ _ out (k .format) (k .count) (k .there) h room w z)

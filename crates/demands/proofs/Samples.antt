@@ -14,13 +14,13 @@ use Rattle.packet.specs.Parts.{fractionOf, partsOf, bodyOf, packetOf}
 use Rattle.packet.specs.Read.{timeOver, classBad, readBy}
 use Rattle.bitstream.specs.Stream.{bit, span}
 use Rattle.bitstream.specs.Carried.{streamBits, packingField, wordOf, needed}
-use Rattle.bitstream.specs.Filled.{filled}
+use Rattle.bitstream.specs.Filled.{listOf, filled}
 use Rattle.payload_format.specs.Format.{wideProcessing, formatBad, carriedBits, packingOf}
 use Rattle.payload_format.specs.Count.{unitOf, countBad, wordsFor}
-use Rattle.payload_format.specs.Field.{fitting}
-use Rattle.payload_pack.specs.Pack.{packOf}
+use Rattle.payload_pack.specs.Pack.{fitting, valueBad, packOf}
 use Rattle.payload_unpack.specs.Unpack.{unpackOf}
-use Rattle.payload_format.specs.Signs.{twosComplement, signedOf}
+use Rattle.words.specs.Signed.{twosComplement}
+use Rattle.payload_format.specs.Signs.{signedOf}
 use Rattle.record.specs.Counts.{missedOf}
 use Rattle.panel.specs.Values.{unitsOf, share, over, lowerHalf}
 use Rattle.panel.specs.Readings.{isFrequency, shownOf}
@@ -33,8 +33,8 @@ unfolding bench classBad part bitsOf above all fieldSize asciiWords listWords wo
     asciiRule listsRule ruleOf spanOf obeyed bodyWords lowBitsSet otherLength ruleBroken trailed tsmOf reservedOf streamed hasSeconds hasFraction classAt
     secondsAt fractionAt bodyAt requiredOf bodyLength wordIf classHigh classLow fractionOf partsOf bodyOf packetOf timeOver readBy bit span streamBits
     packingField
-    wordOf needed filled wideProcessing formatBad carriedBits packingOf unitOf countBad wordsFor fitting packOf unpackOf twosComplement signedOf missedOf
-    unitsOf lowerHalf share over isFrequency shownOf trailingZeros
+    wordOf needed listOf filled wideProcessing formatBad carriedBits packingOf unitOf countBad wordsFor fitting valueBad packOf unpackOf twosComplement signedOf
+    missedOf unitsOf lowerHalf share over isFrequency shownOf trailingZeros
 samples =
     refl and refl and refl and refl and refl and refl and refl and refl and refl and refl and refl and refl and refl and refl and refl and refl and refl and
     refl and refl and refl and refl and tt

@@ -15,7 +15,8 @@ use Rattle.packet_write.specs.Write.{writeList, writtenDone, writeOf}
 use Rattle.payload_format.specs.Count.{wordsFor, neededList, neededOf}
 use Rattle.payload_format.specs.Format.{packingOf}
 use Rattle.payload_pack.specs.Pack.{packed, packList, packOf}
-use Rattle.payload_format.specs.Signs.{twosComplement, signedList, signedOf}
+use Rattle.words.specs.Signed.{twosComplement}
+use Rattle.payload_format.specs.Signs.{signedList, signedOf}
 use Rattle.payload_unpack.specs.Unpack.{Buffers, unpacked, unpackList, unpackOf}
 use Rattle.table.specs.Layout.{base, recordAt}
 use Rattle.table.specs.Identifiers.{streamOf}

@@ -7,7 +7,12 @@ mod sizes;
 
 pub use carried::Next;
 pub use carried::next_field;
+pub use format::channel_size;
+pub use format::event_size;
 pub use format::format_ok;
+pub use format::item_size;
+pub use format::packing_size;
+pub use format::real_complex;
 pub use layout::Walked;
 pub use layout::walk;
 pub use rules::first_ok;

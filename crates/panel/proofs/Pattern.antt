@@ -11,8 +11,8 @@ use lib.Ieee.{binary32, size, odd, toBits}
 use lib.Ieee.Digits.{size-lt, size-le, size-reaches}
 use lib.Ieee.Exact.{odd-sign}
 use Rattle.panel.specs.Values.{share, over}
-use Rattle.payload_format.specs.Signs.{twosComplement}
-use Rattle.panel.proofs.ValueLaws.{value-mag}
+use Rattle.words.specs.Signed.{twosComplement}
+use Rattle.words.proofs.PowerLaws.{signed-mag}
 use Rattle.panel.proofs.Quotient.{pattern, bits-of, share-odd}
 
 -- ---- how many bits a number has
@@ -104,7 +104,7 @@ pub half-pattern : (k half : ℕ) → k ≤ 125 → half < 2 ^ 16
     toBits binary32 (over k z) ≡ signField z * 2 ^ 31 + exponentField k (natAbs z) * 2 ^ 23 + fractionField (natAbs z)
 half-pattern k half hk h =
     let z = twosComplement 16 half in
-    over-pattern k z hk (near z (value-mag 16 half (lit≤ tt) h))
+    over-pattern k z hk (near z (signed-mag 16 half (lit≤ tt) h))
   where
     near : (z : ℤ) → mag z < 2 ^ 15 → natAbs z < 2 ^ 24
     near (pos n) b = omega arith

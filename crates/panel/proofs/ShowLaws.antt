@@ -7,7 +7,7 @@ use lib.Signed.{mag}
 use mir.Syntax.{w64}
 use mir.Val.{toZ, ofZ}
 use Rattle.words.specs.Outcome.{accepted}
-use Rattle.payload_format.specs.Signs.{twosComplement}
+use Rattle.words.specs.Signed.{twosComplement}
 use Rattle.panel.specs.Values.{unitsOf, floorDiv, over, lowerHalf, upperHalf}
 use Rattle.panel.specs.Readings.{frequency, level, gain, temperature, other, isFrequency, shownOf}
 use Rattle.panel.proofs.ValueLaws.{back, parts-is}

@@ -7,7 +7,7 @@ use borrow.Author.Needs.{sfits-of}
 use lib.Dec.{T, lit≤, le→leb, lt→ltb}
 use lib.IntN.{ℤ, pos, negsuc, negℤ, _+ℤ_, _-ℤ_, _*ℤ_}
 use lib.Ieee.{Float, binary32, inFloat, div, ofInt}
-use lib.Pow.{pow-add, pow-mono}
+use lib.Pow.{pow-mono}
 use lib.Signed.{mag, ltZ, quotZ, remZ, mag-rem}
 use mir.Syntax.{w64}
 use mir.Val.{SFits, toZ, ofZ}
@@ -16,7 +16,9 @@ use Rattle.words.specs.Tests.{pick}
 use Rattle.words.specs.Outcome.{refused, accepted}
 use Rattle.words.specs.Word.{highFirst}
 use Rattle.words.proofs.Cases.{le-or-lt, accepted-same}
-use Rattle.payload_format.specs.Signs.{twosComplement, signedOf}
+use Rattle.words.proofs.PowerLaws.{signed-low, signed-high, signed-mag}
+use Rattle.words.specs.Signed.{twosComplement}
+use Rattle.payload_format.specs.Signs.{signedOf}
 use Rattle.payload_format.specs.Answers.{shownPaper}
 use Rattle.payload_format.specs.declared.signs.Shown.{Shown}
 use Rattle.payload_format.specs.declared.signs.Shown.the-variants as shown
@@ -27,25 +29,6 @@ pub back : (z : ℤ) {y : ℤ} → mag z < 2 ^ 63 → z ≡ y → toZ w64 (ofZ w
 back z h e = toZ-ofZ w64 z (sfits-of h) ∙ e
 
 -- ---- two's complement
-
--- the weight of the sign bit, twice, is the number of patterns
-twice : (w : ℕ) → 1 ≤ w → 2 ^ w ≡ 2 ^ (w - 1) + 2 ^ (w - 1)
-twice w h = ap (λ (k : ℕ). 2 ^ k) {x = w} {y = w - 1 + 1} (omega arith) ∙ pow-add 2 (w - 1) 1 ∙ omega arith
-
-value-low : (w n : ℕ) → n < 2 ^ (w - 1) → twosComplement w n ≡ pos n
-unfolding twosComplement
-value-low w n h = rw (lt-ltb n (2 ^ (w - 1)) h)
-
-value-high : (w n : ℕ) → 2 ^ (w - 1) ≤ n → n < 2 ^ w → twosComplement w n ≡ negsuc (2 ^ w - suc n)
-unfolding twosComplement
-value-high w n h b = simp (le-ltb n (2 ^ (w - 1)) h, lt-ltb n (2 ^ w) b)
-
--- the range of w bits
-pub value-mag : (w n : ℕ) → 1 ≤ w → n < 2 ^ w → mag (twosComplement w n) < 2 ^ (w - 1)
-value-mag w n h b =
-    ⊎-elim (λ (g : 2 ^ (w - 1) ≤ n). rw (value-high w n g b) (omega (arith, twice w h)))
-    (λ (g : n < 2 ^ (w - 1)). rw (value-low w n g) g)
-    (le-or-lt (2 ^ (w - 1)) n)
 
 -- what `payload_format` answers of bits that fit
 module _ (w x : ℕ) (lo : 1 ≤ w) (hi : w ≤ 64) (b : x < 2 ^ w) where
@@ -58,7 +41,7 @@ module _ (w x : ℕ) (lo : 1 ≤ w) (hi : w ≤ 64) (b : x < 2 ^ w) where
     value-told z f =
         let i : z ≡ twosComplement w x = accepted-same (sym (ap shownPaper f) ∙ e ∙ value-fits) in
         let most : 2 ^ (w - 1) ≤ 2 ^ 63 = pow-mono {i = w - 1} {j = 63} (omega arith) in
-        back z (subst (λ (y : ℤ). mag y < 2 ^ 63) (sym i) (lt-of-lt-of-le (value-mag w x lo b) most)) i
+        back z (subst (λ (y : ℤ). mag y < 2 ^ 63) (sym i) (lt-of-lt-of-le (signed-mag w x lo b) most)) i
 
     pub value-untold : (n : ℕ) (y : ℤ) → k ≡ shown.Refused n → y ≡ twosComplement w x
     value-untold n y f =
@@ -70,8 +53,8 @@ pub parts-is : (h l : ℕ) → h < 2 ^ 32 → l < 2 ^ 32 → floorRem (unitsOf h
 unfolding unitsOf
 parts-is h l p q =
     let k : highFirst h l < 2 ^ 64 = omega arith in
-    ⊎-elim (λ (g : 2 ^ 63 ≤ highFirst h l). rw (value-high 64 (highFirst h l) g k) (omega arith))
-    (λ (g : highFirst h l < 2 ^ 63). rw (value-low 64 (highFirst h l) g) (omega arith))
+    ⊎-elim (λ (g : 2 ^ 63 ≤ highFirst h l). rw (signed-high 64 (highFirst h l) g k) (omega arith))
+    (λ (g : highFirst h l < 2 ^ 63). rw (signed-low 64 (highFirst h l) g) (omega arith))
     (le-or-lt (2 ^ 63) (highFirst h l))
 
 -- ---- a signed number that an f32 has
@@ -84,7 +67,7 @@ in-float (negsuc n) h = lt→ltb n (2 ^ 24) h
 module _ (half : ℕ) (z : ℤ) (h : half < 65536) (b : mag z < 2 ^ 63) (e : z ≡ twosComplement 16 half) where
   pub half-in-float : T (inFloat binary32 (toZ w64 (ofZ w64 z)))
   half-in-float =
-      subst (λ (y : ℤ). T (inFloat binary32 y)) (sym (back z b e)) (in-float (twosComplement 16 half) (omega (arith, value-mag 16 half (lit≤ tt) h)))
+      subst (λ (y : ℤ). T (inFloat binary32 y)) (sym (back z b e)) (in-float (twosComplement 16 half) (omega (arith, signed-mag 16 half (lit≤ tt) h)))
 
   pub half-over : (by : Float) → div binary32 (ofInt binary32 (toZ w64 (ofZ w64 z))) by ≡ div binary32 (ofInt binary32 (twosComplement 16 half)) by
   half-over by = ap (λ (y : ℤ). div binary32 (ofInt binary32 y) by) (back z b e)

@@ -1,11 +1,11 @@
 -- Document 01, 'Readings for the panel': numbers out of held words. "These three are f32 and exact: the promise fixes each f32 by its sign, exponent and
--- fraction as whole numbers, zero being plus zero." Two's complement is that of crate `payload_format`.
+-- fraction as whole numbers, zero being plus zero." Two's complement is that of crate `words`.
 use Rattle.words.specs.Kit.{ℕ, zero, suc, _-_, _/_, _%_, _^_, Bool, true, false}
 use lib.IntN.{ℤ, pos, negsuc}
 use lib.Count.{trailingZeros}
 use lib.Ieee.{Float, fin, minus}
 use Rattle.words.specs.Word.{bits, highFirst}
-use Rattle.payload_format.specs.Signs.{twosComplement}
+use Rattle.words.specs.Signed.{twosComplement}
 
 -- ---- frequencies
 

@@ -4,7 +4,7 @@ ghost use lib.IntN.{pos};
 ghost use lib.Signed.{ltZ};
 ghost use lib.Ieee.{binary32, ofInt, div};
 ghost use Rattle.words.specs.Tests.{pick};
-ghost use Rattle.payload_format.specs.Signs.{twosComplement};
+ghost use Rattle.words.specs.Signed.{twosComplement};
 ghost use Rattle.panel.specs.Values.{unitsOf, floorDiv, over};
 
 // The two's complement value of some bits, as `payload_format` gives it; it refuses none that fit a width of 1 to 64.

@@ -1,22 +1,14 @@
 -- A packing field and its parts. The idea: the tags together stay below the item's place, so the parts of a field that is made of them come out again,
--- and a field whose unused bits are 0 is made of its parts. And numbers that fit, tested all at once by the bits that any of them has.
-use Rattle.words.proofs.Kit.{_≡_, refl, sym, ap, ap₂, _∙_, subst, Bool, true, ⊎-elim, List, ℕ, zero, suc, _+_, _-_, _*_, _/_, _%_, _^_, _≤_, _<_}
-use Rattle.words.proofs.Kit.{arith, getD, length, ltb, leb, lt-ltb, le-ltb, le-leb, lt-leb}
+-- and a field whose unused bits are 0 is made of its parts.
+use Rattle.words.proofs.Kit.{_≡_, sym, ap, ap₂, _∙_, subst, List, ℕ, _+_, _-_, _*_, _/_, _%_, _^_, _≤_, _<_, arith, getD, length}
 use native.Mathlib.Nat.{add-assoc, mul-assoc, add-mul, lt-of-lt-of-le, mul-le-mul, mod-le}
-use native.Mathlib.Numerals.{add-one}
 use lib.ListN.{List·getD-eq-default}
 use lib.Arith.{digits-lt}
-use lib.Bits.{bitOr, or-lt, or-add-and, and-le-l, and-le-r}
-use lib.Pow.{high, low, pow-add, pow-mono, pow-pos, mod-pow-add, shl-exact, shl-lt}
+use lib.Pow.{high, low, pow-add, pow-mono, mod-pow-add, shl-exact, shl-lt}
 use lib.Pow as Pow
-use borrow.Author.Tests.{ltb-true}
-use Rattle.words.specs.Tests.{both}
-use Rattle.words.specs.All.{all}
-use Rattle.words.proofs.Cases.{le-or-lt}
-use Rattle.words.proofs.AllLaws.{all-at}
 use Rattle.payload_format.specs.declared.inner.Packing.{Packing}
-use Rattle.payload_format.specs.Format.{Legal}
-use Rattle.payload_format.specs.Field.{itemIn, eventIn, channelIn, unusedIn, made, fieldsOf, fitting, anyBits}
+use Rattle.payload_format.specs.inner.Legal.{Legal}
+use Rattle.payload_format.specs.Field.{itemIn, eventIn, channelIn, unusedIn, made, fieldsOf}
 
 -- ---- a field that holds an item alone
 module _ (p : Packing) (l : Legal p) (i : ℕ) (h : i < 2 ^ p .item) where
@@ -28,8 +20,8 @@ module _ (p : Packing) (l : Legal p) (i : ℕ) (h : i < 2 ^ p .item) where
       let q : p .item + (p .field - p .item) ≡ p .field = omega arith in
       subst (λ (x : ℕ). i * 2 ^ (p .field - p .item) < 2 ^ x) q (shl-lt (p .item) (p .field - p .item) h)
 
-pub items-blank : (is : List ℕ) (j m : ℕ) → length is ≤ j → getD is j 0 * m ≡ 0
-items-blank is j m h = rw (List·getD-eq-default is 0 h) (omega arith)
+pub items-blank : (items : List ℕ) (j m : ℕ) → length items ≤ j → getD items j 0 * m ≡ 0
+items-blank items j m h = rw (List·getD-eq-default items 0 h) (omega arith)
 
 -- two tags beside each other stay far below 2 ^ 64
 pub tags-fit : (a b k : ℕ) → a < 2 ^ 16 → b < 2 ^ 16 → k ≤ 15 → (a * 2 ^ k) % 2 ^ 64 + b < 2 ^ 64
@@ -96,51 +88,10 @@ made-back p l v u =
     ap (λ (x : ℕ). itemIn p v * 2 ^ (p .field - p .item) + x) (sym tags ∙ sym rest) ∙ Pow.split v (p .field - p .item)
 
 -- no field past the lists' ends
-pub fields-blank : (p : Packing) (j : ℕ) (is es cs : List ℕ) → length is ≤ j → length es ≤ j → length cs ≤ j → fieldsOf p is es cs j ≡ 0
-fields-blank p j is es cs a b d =
-    let i : getD is j 0 ≡ 0 = List·getD-eq-default is 0 a in
-    let e : getD es j 0 ≡ 0 = List·getD-eq-default es 0 b in
-    let c : getD cs j 0 ≡ 0 = List·getD-eq-default cs 0 d in
+pub fields-blank : (p : Packing) (j : ℕ) (items events channels : List ℕ) → length items ≤ j → length events ≤ j → length channels ≤ j
+    → fieldsOf p items events channels j ≡ 0
+fields-blank p j items events channels a b d =
+    let i : getD items j 0 ≡ 0 = List·getD-eq-default items 0 a in
+    let e : getD events j 0 ≡ 0 = List·getD-eq-default events 0 b in
+    let c : getD channels j 0 ≡ 0 = List·getD-eq-default channels 0 d in
     rw (i, e, c) (omega arith)
-
--- ---- numbers that fit, all at once
-or-over : (a b : ℕ) → (a ≤ bitOr a b) × (b ≤ bitOr a b)
-or-over a b = (omega (arith, or-add-and a b, and-le-r a b), omega (arith, or-add-and a b, and-le-l a b))
-
-pub joined-none : (l : List ℕ) → 0 ≡ anyBits 0 l
-unfolding anyBits
-joined-none l = refl
-
-pub joined-more : (n : ℕ) (l : List ℕ) (x : ℕ) → x ≡ anyBits n l → bitOr x (getD l n 0) ≡ anyBits (n + 1) l
-unfolding anyBits
-joined-more n l x e = rw (add-one n, e)
-
--- all fit w bits exactly when the bits that any of them has do
-pub fitting-joined : (w n : ℕ) (l : List ℕ) → fitting w n l ≡ ltb (anyBits n l) (2 ^ w)
-unfolding fitting anyBits all
-fitting-joined w zero l = sym (lt-ltb 0 (2 ^ w) (pow-pos w))
-fitting-joined w (suc n) l =
-    let a : ℕ = anyBits n l in
-    let b : ℕ = getD l n 0 in
-    let o = or-over a b in
-    ap (λ (t : Bool). both t (ltb b (2 ^ w))) (fitting-joined w n l)
-    ∙ ⊎-elim
-    (λ (p : 2 ^ w ≤ a). rw (le-ltb a (2 ^ w) p, le-ltb (bitOr a b) (2 ^ w) (omega (arith, o .0))))
-    (λ (p : a < 2 ^ w). rw (lt-ltb a (2 ^ w) p)
-    (⊎-elim
-    (λ (q : 2 ^ w ≤ b). rw (le-ltb b (2 ^ w) q, le-ltb (bitOr a b) (2 ^ w) (omega (arith, o .1))))
-    (λ (q : b < 2 ^ w). rw (lt-ltb b (2 ^ w) q, lt-ltb (bitOr a b) (2 ^ w) (or-lt w a b p q)))
-    (le-or-lt (2 ^ w) b)))
-    (le-or-lt (2 ^ w) a)
-
--- at most m is below what follows m
-pub leb-ltb : (x m n : ℕ) → m + 1 ≡ n → leb x m ≡ ltb x n
-leb-ltb x m n e =
-    ⊎-elim
-    (λ (l : x ≤ m). le-leb x m l ∙ sym (lt-ltb x n (omega arith)))
-    (λ (l : m < x). lt-leb x m l ∙ sym (le-ltb x n (omega arith)))
-    (le-or-lt x m)
-
-pub fitting-each : (w n : ℕ) (l : List ℕ) → fitting w n l ≡ true → (k : ℕ) → k < n → getD l k 0 < 2 ^ w
-unfolding fitting
-fitting-each w n l e k h = ltb-true (getD l k 0) (2 ^ w) (all-at (λ j. ltb (getD l j 0) (2 ^ w)) n k h e)

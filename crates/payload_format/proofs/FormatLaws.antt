@@ -11,7 +11,8 @@ use Rattle.words.proofs.Cases.{both-right, true-is-false, accepted-same}
 use Rattle.words.proofs.RefusalLaws.{first-passed}
 use Rattle.fields.specs.Format.{realComplex, itemCode, eventSize, channelSize, packingSize, itemSize, formatOk, codeKnown, codeFits}
 use Rattle.payload_format.specs.declared.inner.Packing.{Packing}
-use Rattle.payload_format.specs.Format.{linkEfficient, formatBad, carriedBits, packingOf, Legal}
+use Rattle.payload_format.specs.Format.{linkEfficient, formatBad, carriedBits, packingOf}
+use Rattle.payload_format.specs.inner.Legal.{Legal}
 use Rattle.bitstream.specs.Carried.{needed}
 use Rattle.payload_format.specs.Count.{countBad, wordsFor, neededList, neededOf}
 

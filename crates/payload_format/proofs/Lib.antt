@@ -2,7 +2,7 @@
 
 -- what is known where FORMAT and COUNT are not given
 pub mod FormatLaws
--- a packing field and its parts, and numbers that fit
+-- a packing field and its parts
 pub mod FieldLaws
 -- the two's complement value
 pub mod SignLaws

@@ -6,8 +6,8 @@ use lib.IntN.{negsuc}
 use mir.Syntax.{w64}
 use mir.Val.{toZ}
 use Rattle.words.specs.Outcome.{accepted}
-use Rattle.bitstream.proofs.SpanLaws.{halves}
-use Rattle.payload_format.specs.Signs.{twosComplement, signedOf}
+use Rattle.words.proofs.PowerLaws.{halves, signed-low, signed-high}
+use Rattle.payload_format.specs.Signs.{signedOf}
 
 module _ (w x : ℕ) (lo : 1 ≤ w) (hi : w ≤ 64) where
   half-most : 2 ^ (w - 1) ≤ 2 ^ 63
@@ -15,18 +15,18 @@ module _ (w x : ℕ) (lo : 1 ≤ w) (hi : w ≤ 64) where
 
   -- the sign bit is 0
   pub sign-zero : x < 2 ^ (w - 1) → accepted (toZ w64 x) ≡ signedOf w x
-  unfolding signedOf twosComplement
+  unfolding signedOf
   sign-zero l =
       let a : x < 2 ^ 63 = omega (arith, half-most) in
       let b : x < 2 ^ w = omega (arith, halves w lo) in
-      simp (lt-ltb x (2 ^ 63) a, le-ltb w 1 lo, le-ltb 64 w hi, lt-leb (2 ^ w) x b, lt-ltb x (2 ^ (w - 1)) l)
+      simp (lt-ltb x (2 ^ 63) a, le-ltb w 1 lo, le-ltb 64 w hi, lt-leb (2 ^ w) x b, signed-low w x l)
 
   -- the sign bit is 1
   pub sign-one : 2 ^ (w - 1) ≤ x → x < 2 ^ w → (c : ℕ) → c + x + 1 ≡ 2 ^ w → accepted (toZ w64 (2 ^ 64 - 1 - c)) ≡ signedOf w x
-  unfolding signedOf twosComplement
+  unfolding signedOf
   sign-one l b c e =
       let t : 2 ^ (w - 1) ≤ 2 ^ 63 = half-most in
       let a : 2 ^ 63 ≤ 2 ^ 64 - 1 - c = omega (arith, halves w lo) in
       let q : 2 ^ 64 - suc (2 ^ 64 - 1 - c) ≡ 2 ^ w - suc x = omega (arith, halves w lo) in
-      simp (le-ltb (2 ^ 64 - 1 - c) (2 ^ 63) a, le-ltb w 1 lo, le-ltb 64 w hi, lt-leb (2 ^ w) x b, le-ltb x (2 ^ (w - 1)) l, lt-ltb x (2 ^ w) b)
+      simp (le-ltb (2 ^ 64 - 1 - c) (2 ^ 63) a, le-ltb w 1 lo, le-ltb 64 w hi, lt-leb (2 ^ w) x b, signed-high w x l b)
       (ap (λ (n : ℕ). accepted (negsuc n)) q)

@@ -1,7 +1,5 @@
 -- Document 01, 'Payload': "A packing field holds the item at its left, unused bits, event tags, then the channel tag at its right."
-use Rattle.words.specs.Kit.{ℕ, zero, suc, _+_, _-_, _*_, _/_, _%_, _^_, Bool, List, getD, ltb}
-use lib.Bits.{bitOr}
-use Rattle.words.specs.All.{all}
+use Rattle.words.specs.Kit.{ℕ, _+_, _-_, _*_, _/_, _%_, _^_, List, getD}
 use Rattle.bitstream.specs.Carried.{packingField}
 use Rattle.payload_format.specs.declared.inner.Packing.{Packing}
 
@@ -34,13 +32,4 @@ made p i e c = i * 2 ^ (p .field - p .item) + (e * 2 ^ p .channel + c)
 
 -- the fields of three lists; past their ends they are 0
 abbrev pub fieldsOf : Packing → List ℕ → List ℕ → List ℕ → ℕ → ℕ
-fieldsOf p is es cs k = made p (getD is k 0) (getD es k 0) (getD cs k 0)
-
--- the first n numbers of a list fit w bits
-unfoldable pub fitting : ℕ → ℕ → List ℕ → Bool
-fitting w n l = all n (λ k. ltb (getD l k 0) (2 ^ w))
-
--- and the bits that any of them has, by which a call tests them all at once
-unfoldable pub anyBits : ℕ → List ℕ → ℕ
-anyBits zero l = 0
-anyBits (suc n) l = bitOr (anyBits n l) (getD l n 0)
+fieldsOf p items events channels k = made p (getD items k 0) (getD events k 0) (getD channels k 0)

@@ -1,5 +1,5 @@
 -- Document 01, 'Payload': the format's two words. The parts of the first that field 15's rule speaks of are named in crate `fields`.
-use Rattle.words.specs.Kit.{ℕ, _+_, _*_, _/_, _≤_, _<_, _≡_, Bool, true, not, eqb, ltb, leb}
+use Rattle.words.specs.Kit.{ℕ, _+_, _*_, _/_, Bool, true, not, eqb, ltb, leb}
 use Rattle.words.specs.Tests.{pick, both}
 use Rattle.words.specs.Word.{bits, has}
 use Rattle.fields.specs.Format.{eventSize, channelSize, packingSize, itemSize, formatOk}
@@ -56,15 +56,3 @@ packingOf first = record {
   event = eventSize first;
   channel = channelSize first;
 }
-
--- what is known of the sizes where FORMAT is not given
-pub record Legal (p : Packing) : Type 0 where
-  pub some : 0 < p .carry
-  pub most : p .carry ≤ 32
-  pub narrow : p .field ≤ 32 → p .field ≤ p .carry
-  pub wide : 32 < p .field → p .carry ≡ 32
-  pub item : 1 ≤ p .item
-  pub parts : p .item + p .event + p .channel ≤ p .field
-  pub few : p .field ≤ 64
-  pub event : p .event ≤ 7
-  pub channel : p .channel ≤ 15

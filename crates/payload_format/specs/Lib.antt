@@ -10,3 +10,5 @@ pub mod Field
 pub mod Signs
 -- each answer's number and values
 pub mod Answers
+-- what only the contracts inside cite
+pub mod inner

@@ -1,14 +1,11 @@
 -- Document 01: "Another answer gives the two's complement value of a 1 to 64 bit item"; "Signed value: FORMAT, VALUE".
-use Rattle.words.specs.Kit.{ℕ, _-_, _^_, [], _∷_, ltb, leb}
-use lib.IntN.{ℤ, pos, subℕ}
-use Rattle.words.specs.Tests.{pick, either}
+use Rattle.words.specs.Kit.{ℕ, _^_, [], _∷_, ltb, leb}
+use lib.IntN.{ℤ}
+use Rattle.words.specs.Tests.{either}
+use Rattle.words.specs.Signed.{twosComplement}
 use Rattle.words.specs.Outcome.{Outcome, accepted}
 use Rattle.words.specs.Refusals.{Refusals, firstGiven}
 use Rattle.words.specs.Numbers.{FORMAT, VALUE}
-
--- x where its sign bit is 0, and x - 2 ^ w where it is 1
-unfoldable pub twosComplement : ℕ → ℕ → ℤ
-twosComplement w x = pick (ltb x (2 ^ (w - 1))) (pos x) (subℕ x (2 ^ w))
 
 -- "an item width outside 1 to 64"; "an item to be shown signed, does not fit its bits"
 abbrev pub signedList : ℕ → ℕ → Refusals

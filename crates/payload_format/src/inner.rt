@@ -1,8 +1,14 @@
 // The format's two words: the sizes that they give, FORMAT, COUNT, and the words that fields take.
 ghost use Rattle.words.specs.Kit.{_≡_, _≤_, _<_};
 ghost use Rattle.bitstream.specs.Carried.{needed};
-ghost use Rattle.payload_format.specs.Format.{wideProcessing, formatBad, carriedBits, packingOf};
+ghost use Rattle.payload_format.specs.Format.{linkEfficient, componentRepeat, repeatSize, vectorSize, wideProcessing, formatBad, carriedBits, packingOf};
 ghost use Rattle.payload_format.specs.Count.{unitOf, countBad};
+use fields::inner::channel_size;
+use fields::inner::event_size;
+use fields::inner::format_ok;
+use fields::inner::item_size;
+use fields::inner::packing_size;
+use fields::inner::real_complex;
 
 // The sizes of a packing, in bits: how many of each word carry fields, and those of a field and its parts.
 pub struct Packing {
@@ -13,14 +19,42 @@ pub struct Packing {
     pub channel: usize,
 }
 
+// Whether a format is link-efficient.
+fn link_efficient(first: u32) -> bool
+    ensures { λ r. ⌜ r ≡ linkEfficient first ⌝ }
+{
+    first / 0x8000_0000 % 2 == 1
+}
+
+// Whether a format has bit 23, component repeat.
+fn component_repeat(first: u32) -> bool
+    ensures { λ r. ⌜ r ≡ componentRepeat first ⌝ }
+{
+    first / 0x80_0000 % 2 == 1
+}
+
+// How often each item is repeated.
+fn repeat_size(second: u32) -> u32
+    ensures { λ r. ⌜ r ≡ repeatSize second ⌝ }
+{
+    second / 0x1_0000 % 0x1_0000 + 1
+}
+
+// How many items a vector has.
+fn vector_size(second: u32) -> u32
+    ensures { λ r. ⌜ r ≡ vectorSize second ⌝ }
+{
+    second % 0x1_0000 + 1
+}
+
 // Whether a format is processing-efficient with a field of 33 to 63 bits.
 fn wide_processing(first: u32) -> bool
     ensures { λ r. ⌜ r ≡ wideProcessing first ⌝ }
 {
-    if first / 0x8000_0000 % 2 == 1 {
+    if link_efficient(first) {
         return false;
     }
-    let field = first / 64 % 64 + 1;
+    let field = packing_size(first);
     32 < field && field < 64
 }
 
@@ -28,14 +62,13 @@ fn wide_processing(first: u32) -> bool
 pub fn format_bad(first: u32, second: u32) -> bool
     ensures { λ r. ⌜ r ≡ formatBad first second ⌝ }
 {
-    if !fields::inner::format_ok(first) {
+    if !format_ok(first) {
         return true;
     }
-    let repeat = second / 0x1_0000 % 0x1_0000 + 1;
-    if repeat != 1 {
+    if repeat_size(second) != 1 {
         return true;
     }
-    if first / 0x80_0000 % 2 == 1 {
+    if component_repeat(first) {
         return true;
     }
     wide_processing(first)
@@ -45,10 +78,10 @@ pub fn format_bad(first: u32, second: u32) -> bool
 fn carry(first: u32) -> usize
     ensures { λ r. ⌜ (r ≡ carriedBits first) × (r ≤ 32) ⌝ }
 {
-    if first / 0x8000_0000 % 2 == 1 {
+    if link_efficient(first) {
         return 32;
     }
-    let field = (first / 64 % 64 + 1) as usize;
+    let field = packing_size(first) as usize;
     if field <= 32 {
         return 32 / field * field;
     }
@@ -61,10 +94,10 @@ pub fn packing_of(first: u32) -> Packing
 {
     Packing {
         carry: carry(first),
-        field: (first / 64 % 64 + 1) as usize,
-        item: (first % 64 + 1) as usize,
-        event: (first / 0x10_0000 % 8) as usize,
-        channel: (first / 0x1_0000 % 16) as usize,
+        field: packing_size(first) as usize,
+        item: item_size(first) as usize,
+        event: event_size(first) as usize,
+        channel: channel_size(first) as usize,
     }
 }
 
@@ -72,8 +105,8 @@ pub fn packing_of(first: u32) -> Packing
 fn unit(first: u32, second: u32) -> usize
     ensures { λ r. ⌜ (r ≡ unitOf first second) × (0 < r) ⌝ }
 {
-    let vector = (second % 0x1_0000 + 1) as usize;
-    if first / 0x2000_0000 % 4 == 0 {
+    let vector = vector_size(second) as usize;
+    if real_complex(first) == 0 {
         return vector;
     }
     vector * 2

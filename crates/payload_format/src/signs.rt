@@ -19,7 +19,7 @@ pub fn signed(width: u32, item: u64) -> Shown
     if 64 < width {
         return Shown::Refused(words::FORMAT);
     }
-    let half = bitstream::inner::power(width as usize - 1);
+    let half = words::inner::power(width as usize - 1);
     let most = half - 1 + half;
     if most < item {
         return Shown::Refused(words::VALUE);

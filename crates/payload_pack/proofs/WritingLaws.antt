@@ -7,13 +7,12 @@ use Rattle.bitstream.specs.Stream.{span}
 use Rattle.bitstream.specs.Carried.{wordOf, needed}
 use Rattle.bitstream.specs.Filled.{filled}
 use Rattle.bitstream.specs.declared.inner.accumulator.Held.{Held}
-use Rattle.bitstream.specs.Accumulator.{Behind, Pushed, FieldPushable, Finished}
+use Rattle.bitstream.specs.inner.Accumulator.{Behind, Pushed, FieldPushable, Finished}
 use Rattle.bitstream.proofs.SpanLaws.{whole}
 use Rattle.bitstream.proofs.CarriedLaws.{enough}
-use Rattle.bitstream.proofs.FilledLaws.{filled-long}
-use Rattle.bitstream.proofs.WriteLaws.{behind-none, finished}
+use Rattle.bitstream.proofs.WriteLaws.{behind-none, behind-long, finished}
 use Rattle.payload_format.specs.declared.inner.Packing.{Packing}
-use Rattle.payload_pack.specs.Pack.{Packable}
+use Rattle.payload_pack.specs.inner.Packable.{Packable}
 
 -- ---- a loop over the fields: k of them are put
 pub record Writing (c f : ℕ) (g : ℕ → ℕ) (first out : List ℕ) (s : Held) (k : ℕ) : Type 0 where
@@ -25,7 +24,7 @@ pub writing-start : (c f : ℕ) (g : ℕ → ℕ) (out : List ℕ) → 0 < c →
 writing-start c f g out h = record { place = omega arith; few = h; behind = behind-none c f g out }
 
 pub writing-length : {c f : ℕ} {g : ℕ → ℕ} {first out : List ℕ} {s : Held} {k : ℕ} → Writing c f g first out s k → length out ≡ length first
-writing-length {first = first} {out = out} w = filled-long _ _ first out (w .behind .written)
+writing-length w = behind-long (w .behind)
 
 module _ (p : Packing) (n : ℕ) (g : ℕ → ℕ) (first out : List ℕ) (s : Held) (k : ℕ) (u : Packable p n (length first))
     (w : Writing (p .carry) (p .field) g first out s k) where
@@ -62,7 +61,7 @@ module _ (p : Packing) (n : ℕ) (g : ℕ → ℕ) (first out : List ℕ) (s : H
       → out′ ≡ filled (needed (p .carry) (p .field) n) (wordOf (p .carry) (p .field) g) first
   writing-done out′ e z h =
       finished (p .carry) (p .field) n g first out out′ s (u .legal .some) (u .legal .most) (omega (arith, u .legal .item, u .legal .parts)) z
-      (w .few) (w .place ∙ ap (λ (x : ℕ). p .field * x) e) (w .behind) h
+      (w .few) (w .place ∙ ap (λ (x : ℕ). p .field * x) e) (writing-last e .1) (w .behind) h
 
 pub writing-next : {c f : ℕ} {g : ℕ → ℕ} {first out out′ : List ℕ} {s r : Held} {k v : ℕ} → Writing c f g first out s k → Pushed c f s v out out′ r
     → v ≡ g k → g k < 2 ^ f → Writing c f g first out′ r (k + 1)

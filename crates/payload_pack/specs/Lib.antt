@@ -2,3 +2,5 @@
 
 -- what `pack` answers and leaves
 pub mod Pack
+-- what only the contracts inside cite
+pub mod inner

@@ -1,13 +1,12 @@
 // The refusals of packing: FORMAT, COUNT, VALUE, ROOM.
 ghost use Rattle.words.specs.Kit.{_≡_, _≤_, _<_, length};
 ghost use Rattle.words.specs.Outcome.{checked};
-ghost use Rattle.payload_format.specs.Field.{fitting, anyBits};
-ghost use Rattle.payload_pack.specs.Pack.{packCheck};
-use payload_format::inner::count_bad;
-use payload_format::inner::format_bad;
-use payload_format::inner::packing_of;
-use payload_format::inner::words_of;
+ghost use Rattle.payload_pack.specs.Pack.{fitting, valueBad};
+ghost use Rattle.payload_pack.specs.inner.AnyBits.{anyBits};
+ghost use Rattle.payload_pack.specs.inner.Packable.{packCheck};
+use payload_format::words_needed;
 use words::Check;
+use words::Length;
 
 // The bits that any of the items has.
 fn join_items(items: &[u64]) -> u64
@@ -51,28 +50,41 @@ fn join_channels(channels: &[u16]) -> u16
 // Whether all items fit w bits.
 fn items_fit(w: usize, items: &[u64]) -> bool
     requires { ⌜ (1 ≤ w) × (w ≤ 64) ⌝ }
-    ensures { λ r. ⌜ r ≡ fitting w (length (now (items .entry))) (now (items .entry)) ⌝ }
+    ensures { λ r. ⌜ r ≡ fitting w (now (items .entry)) ⌝ }
 {
-    join_items(items) <= bitstream::inner::ones(w)
+    join_items(items) <= words::inner::ones(w)
 }
 
 // Whether all event tags fit w bits.
 fn events_fit(w: usize, events: &[u8]) -> bool
     requires { ⌜ w < 64 ⌝ }
-    ensures { λ r. ⌜ r ≡ fitting w (length (now (events .entry))) (now (events .entry)) ⌝ }
+    ensures { λ r. ⌜ r ≡ fitting w (now (events .entry)) ⌝ }
 {
-    (join_events(events) as u64) < bitstream::inner::power(w)
+    (join_events(events) as u64) < words::inner::power(w)
 }
 
 // Whether all channel tags fit w bits.
 fn channels_fit(w: usize, channels: &[u16]) -> bool
     requires { ⌜ w < 64 ⌝ }
-    ensures { λ r. ⌜ r ≡ fitting w (length (now (channels .entry))) (now (channels .entry)) ⌝ }
+    ensures { λ r. ⌜ r ≡ fitting w (now (channels .entry)) ⌝ }
 {
-    (join_channels(channels) as u64) < bitstream::inner::power(w)
+    (join_channels(channels) as u64) < words::inner::power(w)
 }
 
-// The first refusal of packing, by the inputs and how many places there are.
+// Whether an item or a tag does not fit its size.
+fn value_bad(first: u32, items: &[u64], events: &[u8], channels: &[u16]) -> bool
+    ensures { λ r. ⌜ r ≡ valueBad first (now (items .entry)) (now (events .entry)) (now (channels .entry)) ⌝ }
+{
+    if !items_fit(fields::inner::item_size(first) as usize, items) {
+        return true;
+    }
+    if !events_fit(fields::inner::event_size(first) as usize, events) {
+        return true;
+    }
+    !channels_fit(fields::inner::channel_size(first) as usize, channels)
+}
+
+// The first refusal of packing, by the inputs and how many places there are. FORMAT and COUNT of the items are asked as `words_needed` asks them.
 pub fn pack_check(
     first: u32,
     second: u32,
@@ -84,30 +96,23 @@ pub fn pack_check(
     ensures { λ r. ⌜ checked r ≡ packCheck first second (now (items .entry)) (now (events .entry)) (now (channels .entry)) room ⌝ }
 {
     let n = items.len();
-    if format_bad(first, second) {
-        return Check::Refused(words::FORMAT);
+    let needed = words_needed(first, second, n);
+    match needed {
+        Length::Refused(number) => Check::Refused(number),
+        Length::Accepted(m) => {
+            if events.len() != n {
+                return Check::Refused(words::COUNT);
+            }
+            if channels.len() != n {
+                return Check::Refused(words::COUNT);
+            }
+            if value_bad(first, items, events, channels) {
+                return Check::Refused(words::VALUE);
+            }
+            if room < m {
+                return Check::Refused(words::ROOM);
+            }
+            Check::Fine
+        }
     }
-    if count_bad(first, second, n) {
-        return Check::Refused(words::COUNT);
-    }
-    if events.len() != n {
-        return Check::Refused(words::COUNT);
-    }
-    if channels.len() != n {
-        return Check::Refused(words::COUNT);
-    }
-    let p = packing_of(first);
-    if !items_fit(p.item, items) {
-        return Check::Refused(words::VALUE);
-    }
-    if !events_fit(p.event, events) {
-        return Check::Refused(words::VALUE);
-    }
-    if !channels_fit(p.channel, channels) {
-        return Check::Refused(words::VALUE);
-    }
-    if room < words_of(p.carry, p.field, n) {
-        return Check::Refused(words::ROOM);
-    }
-    Check::Fine
 }

@@ -2,9 +2,10 @@
 ghost use Rattle.words.specs.Kit.{_≡_, _-_, _*_, _^_, _<_, length, getD};
 ghost use Rattle.bitstream.specs.Carried.{needed, wordOf};
 ghost use Rattle.bitstream.specs.Filled.{filled};
-ghost use Rattle.payload_format.specs.Format.{Legal};
+ghost use Rattle.payload_format.specs.inner.Legal.{Legal};
 ghost use Rattle.payload_format.specs.Field.{made};
-ghost use Rattle.payload_pack.specs.Pack.{packed, Packable, Fitting};
+ghost use Rattle.payload_pack.specs.Pack.{packed};
+ghost use Rattle.payload_pack.specs.inner.Packable.{Packable, Fitting};
 use bitstream::inner::accumulator::Held;
 use bitstream::inner::accumulator::finish;
 use bitstream::inner::accumulator::push_field;

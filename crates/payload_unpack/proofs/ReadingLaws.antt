@@ -5,12 +5,12 @@ use native.Mathlib.Nat.{mul-add, mul-le-mul-left}
 use Rattle.bitstream.specs.Carried.{packingField}
 use Rattle.bitstream.specs.declared.inner.accumulator.Held.{Held}
 use Rattle.bitstream.specs.declared.inner.accumulator.Taken.{Taken}
-use Rattle.bitstream.specs.Accumulator.{Ahead, AheadBy, Takeable, Took, TookItem, FieldTakeable, heldOf}
+use Rattle.bitstream.specs.inner.Accumulator.{Ahead, AheadBy, Takeable, Took, TookItem, FieldTakeable, heldOf}
 use Rattle.bitstream.proofs.CarriedLaws.{room-at}
 use Rattle.bitstream.proofs.ReadLaws.{ahead-none, ahead-by-none}
 use Rattle.payload_format.specs.declared.inner.Packing.{Packing}
-use Rattle.payload_format.specs.Format.{Legal}
-use Rattle.payload_unpack.specs.Unpack.{Unpackable}
+use Rattle.payload_format.specs.inner.Legal.{Legal}
+use Rattle.payload_unpack.specs.inner.Unpackable.{Unpackable}
 
 -- ---- a loop over the fields: k of them are taken
 pub record Reading (c f : ℕ) (ws : List ℕ) (s : Held) (k : ℕ) : Type 0 where

@@ -1,5 +1,5 @@
 -- What is known where nothing of unpacking is refused, what fields without tags hold, and the answers of `unpack_check` and `unpack`.
-use Rattle.words.proofs.Kit.{_≡_, refl, sym, ap, _∙_, false, not, List, [], _∷_, ℕ, _+_, _*_, _/_, _%_, _^_, _≤_, _<_, arith, length, getD, ltb, eqb}
+use Rattle.words.proofs.Kit.{_≡_, sym, ap, _∙_, false, not, List, [], _∷_, ℕ, _+_, _*_, _/_, _%_, _^_, _≤_, _<_, arith, length, getD, ltb, eqb}
 use Rattle.words.proofs.Kit.{ltb-false, eqb-true, not-false}
 use native.Mathlib.Nat.{mod-one, div-one}
 use Rattle.words.specs.declared.Check.{Check}
@@ -13,7 +13,7 @@ use Rattle.words.specs.Numbers.{COUNT, ROOM}
 use Rattle.words.specs.Word.{highFirst}
 use Rattle.words.proofs.RefusalLaws.{first-passed, either-passed, first-refused, first-fine}
 use Rattle.words.proofs.MeetLaws.{meets-refused, meets-length}
-use Rattle.bitstream.specs.Filled.{filled}
+use Rattle.bitstream.specs.Filled.{listOf, filled}
 use Rattle.bitstream.proofs.CarriedLaws.{enough, none-over, field-word, field-words}
 use Rattle.bitstream.proofs.FilledLaws.{filled-same}
 use Rattle.payload_format.specs.declared.inner.Packing.{Packing}
@@ -21,7 +21,8 @@ use Rattle.payload_format.specs.Format.{formatBad, packingOf, carriedBits}
 use Rattle.payload_format.specs.Count.{countBad, wordsFor, neededOf}
 use Rattle.payload_format.specs.Field.{fieldIn, itemIn}
 use Rattle.payload_format.proofs.FormatLaws.{legal, count-few, carry-some, needed-first, needed-words}
-use Rattle.payload_unpack.specs.Unpack.{Buffers, buffers, unpacked, unpackList, unpackCheck, unpackOf, Unpackable}
+use Rattle.payload_unpack.specs.Unpack.{Buffers, buffers, unpacked, unpackList, unpackOf}
+use Rattle.payload_unpack.specs.inner.Unpackable.{unpackCheck, Unpackable}
 
 -- ---- fields without tags
 
@@ -30,15 +31,16 @@ no-tags : (e n : ℕ) (h : ℕ → ℕ) (l : List ℕ) → e ≡ 0 → filled n 
 no-tags e n h l z = rw z (filled-same n (λ k. 0) (λ k. h k % 2 ^ 0) l (λ k q. sym (mod-one (h k))))
 
 module _ (p : Packing) (ws : List ℕ) where
-  pub unpacked-none : (n : ℕ) (is es cs : List ℕ) → n ≡ 0 → buffers is es cs ≡ unpacked p n ws (buffers is es cs)
-  unfolding filled
-  unpacked-none n is es cs z = rw z
+  pub unpacked-none : (n : ℕ) (items events channels : List ℕ) → n ≡ 0 → buffers items events channels ≡ unpacked p n ws (buffers items events channels)
+  unfolding filled listOf
+  unpacked-none n items events channels z = rw z
 
-  pub unpacked-plain : (n : ℕ) (is es cs is′ es′ cs′ : List ℕ) → p .event + p .channel ≡ 0 → is′ ≡ filled n (λ k. itemIn p (fieldIn p ws k)) is
-      → es′ ≡ filled n (λ k. 0) es → cs′ ≡ filled n (λ k. 0) cs → buffers is′ es′ cs′ ≡ unpacked p n ws (buffers is es cs)
-  unpacked-plain n is es cs is′ es′ cs′ z x y t =
-      let y′ = y ∙ no-tags (p .event) n (λ k. fieldIn p ws k / 2 ^ p .channel) es (omega arith) in
-      let t′ = t ∙ no-tags (p .channel) n (fieldIn p ws) cs (omega arith) in
+  pub unpacked-plain : (n : ℕ) (items events channels items′ events′ channels′ : List ℕ) → p .event + p .channel ≡ 0
+      → items′ ≡ filled n (λ k. itemIn p (fieldIn p ws k)) items → events′ ≡ filled n (λ k. 0) events → channels′ ≡ filled n (λ k. 0) channels
+      → buffers items′ events′ channels′ ≡ unpacked p n ws (buffers items events channels)
+  unpacked-plain n items events channels items′ events′ channels′ z x y t =
+      let y′ = y ∙ no-tags (p .event) n (λ k. fieldIn p ws k / 2 ^ p .channel) events (omega arith) in
+      let t′ = t ∙ no-tags (p .channel) n (fieldIn p ws) channels (omega arith) in
       cc
 
 -- items that are whole words, and pairs of words
@@ -124,21 +126,24 @@ unfolding wordsFor packingOf
 fields-fill first n m e = rw e (none-over (carriedBits first) _ n (carry-some first))
 
 -- ---- the answers of `unpack`, by what `unpack_check` found
-module _ (first second n : ℕ) (ws is es cs : List ℕ) (answer : Check) where
+module _ (first second n : ℕ) (ws items events channels : List ℕ) (answer : Check) where
   abbrev list : Refusals
-  list = unpackList first second n (length ws) (length is) (length es) (length cs)
+  list = unpackList first second n (length ws) (length items) (length events) (length channels)
 
-  module _ (e : checked answer ≡ unpackCheck first second n (length ws) (length is) (length es) (length cs)) where
+  abbrev lent : Buffers
+  lent = buffers items events channels
+
+  module _ (e : checked answer ≡ unpackCheck first second n (length ws) (length items) (length events) (length channels)) where
     pub unpack-refused : (k : ℕ) → answer ≡ found.Refused k
-        → Meets measured (unpackOf first second n ws (buffers is es cs)) (buffers is es cs) (Refused k) (buffers is es cs)
+        → Meets measured (unpackOf first second n ws lent) lent (Refused k) lent
     unfolding unpackOf unpackCheck
     unpack-refused k r = meets-refused (first-refused list tt k _ (sym e ∙ ap checked r))
 
     module _ (fine : answer ≡ found.Fine) where
-      through : UnpackPassed first second n (length ws) (length is) (length es) (length cs)
-      through = unpack-passed first second n (length ws) (length is) (length es) (length cs) (sym e ∙ ap checked fine)
+      through : UnpackPassed first second n (length ws) (length items) (length events) (length channels)
+      through = unpack-passed first second n (length ws) (length items) (length events) (length channels) (sym e ∙ ap checked fine)
 
-      pub unpackable : (p : Packing) → p ≡ packingOf first → Unpackable p n ws (length is)
+      pub unpackable : (p : Packing) → p ≡ packingOf first → Unpackable p n ws (length items)
       unpackable p q =
           rw q
           (record {
@@ -149,13 +154,13 @@ module _ (first second n : ℕ) (ws is es cs : List ℕ) (answer : Check) where
             places = through .items;
           })
 
-      pub events-room : n ≤ length es
+      pub events-room : n ≤ length events
       events-room = through .events
 
-      pub channels-room : n ≤ length cs
+      pub channels-room : n ≤ length channels
       channels-room = through .channels
 
-      pub unpack-accepted : (p : Packing) (after : Buffers) → p ≡ packingOf first → after ≡ unpacked p n ws (buffers is es cs)
-          → Meets measured (unpackOf first second n ws (buffers is es cs)) (buffers is es cs) (Accepted n) after
+      pub unpack-accepted : (p : Packing) (after : Buffers) → p ≡ packingOf first → after ≡ unpacked p n ws lent
+          → Meets measured (unpackOf first second n ws lent) lent (Accepted n) after
       unfolding unpackOf unpackCheck
       unpack-accepted p after q left = meets-length (first-fine list tt tt _ (sym e ∙ ap checked fine)) (rw q at left)

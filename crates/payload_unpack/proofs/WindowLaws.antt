@@ -7,13 +7,14 @@ use lib.Pow.{shr-le, shr-lt, shr-shr}
 use Rattle.words.specs.Word.{highFirst}
 use Rattle.bitstream.specs.Stream.{span}
 use Rattle.bitstream.specs.Carried.{streamBits, packingField}
-use Rattle.bitstream.specs.Filled.{filled, filledFrom}
+use Rattle.bitstream.specs.Filled.{filled}
+use Rattle.bitstream.specs.inner.FilledOn.{FilledOn}
 use Rattle.bitstream.proofs.SpanLaws.{split, first, below, whole}
 use Rattle.bitstream.proofs.AccumulatorLaws.{append-below, appended, left}
-use Rattle.bitstream.proofs.FilledLaws.{filled-same, filled-more, from-same, Fills, fills-end, fills-all}
+use Rattle.bitstream.proofs.FilledLaws.{filled-same, filled-more, Fills, fills-as, fills-all}
 use Rattle.payload_format.specs.declared.inner.Packing.{Packing}
 use Rattle.payload_format.specs.Field.{fieldIn, itemIn}
-use Rattle.payload_unpack.specs.Unpack.{Unpackable, Placed}
+use Rattle.payload_unpack.specs.inner.Unpackable.{Unpackable, Placed}
 
 -- ---- words joined: x without its first o bits, and behind it the first o bits of the word y
 next-below : (y o : ℕ) → o < 32 → y < 2 ^ 32 → y / 2 ^ (32 - o) < 2 ^ o
@@ -178,8 +179,8 @@ module _ {p : Packing} {n room : ℕ} {ws : List ℕ} (u : Placed p n ws room) w
 
   pub items-last : {a k : ℕ} {l l′ : List ℕ} → ((j : ℕ) → getD ws j 0 < 2 ^ 32) → length ws * 32 ≤ a * p .field + 32
       → Fills a n k (λ j. getD ws (length ws - 1) 0 * 2 ^ (j * p .field % 32) % 2 ^ 32 / 2 ^ (32 - p .item)) l l′ → n ≤ k
-      → l′ ≡ filledFrom a n (λ j. itemIn p (fieldIn p ws j)) l
-  items-last {a} {k} {l} small last f q = fills-end f q ∙ from-same a n _ _ l (λ j from turn. item-last small a j _ last from turn refl)
+      → FilledOn a n (λ j. itemIn p (fieldIn p ws j)) l l′
+  items-last {a} small last f q = fills-as f q (λ j from turn. item-last small a j _ last from turn refl)
 
   -- the same with places for the items that are another list, as long
   pub placed-still : {other : ℕ} → other ≡ room → Placed p n ws other
@@ -208,11 +209,12 @@ module _ {p : Packing} {n room : ℕ} {ws : List ℕ} (u : Unpackable p n ws roo
       omega (arith, wide-there (n - 1 + 1) (omega arith), add-mul (n - 1) 1 (p .field))
 
   -- the items of the fields before the last, and then the last
-  pub items-wide : {k v : ℕ} {l l′ : List ℕ} → 0 < n → Fills 0 (n - 1) k (λ j. span 32 (streamBits 32 ws) (j * p .field) 64 / 2 ^ (64 - p .item)) l l′
+  pub items-wide : {k v : ℕ} {l l′ : List ℕ} → 0 < n → n ≤ length l
+      → Fills 0 (n - 1) k (λ j. span 32 (streamBits 32 ws) (j * p .field) 64 / 2 ^ (64 - p .item)) l l′
       → n - 1 ≤ k → v ≡ span 32 (streamBits 32 ws) ((n - 1) * p .field) 64
       → set l′ (n - 1) (v / 2 ^ (64 - p .item)) ≡ filled n (λ j. itemIn p (fieldIn p ws j)) l
-  items-wide {v = v} {l} {l′} some f q e =
+  items-wide {v = v} {l} {l′} some room f q e =
       let z : n - 1 + 1 ≡ n = omega arith in
-      filled-more (n - 1) _ l l′ _ (fills-all f q) (ap (λ (x : ℕ). x / 2 ^ (64 - p .item)) e)
+      filled-more (n - 1) _ l l′ _ (omega arith) (fills-all f q) (ap (λ (x : ℕ). x / 2 ^ (64 - p .item)) e)
       ∙ ap (λ (x : ℕ). filled x (λ j. span 32 (streamBits 32 ws) (j * p .field) 64 / 2 ^ (64 - p .item)) l) z
       ∙ filled-same n _ _ l (λ j r. item-wide j _ refl)

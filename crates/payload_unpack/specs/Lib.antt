@@ -2,3 +2,5 @@
 
 -- what `unpack` answers and leaves
 pub mod Unpack
+-- what only the contracts inside cite
+pub mod inner

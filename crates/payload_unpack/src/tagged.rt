@@ -1,8 +1,9 @@
 // Fields with tags: the item, the event tags and the channel tag of each.
 ghost use Rattle.words.specs.Kit.{_≡_, _+_, _*_, _≤_, _<_, length};
-ghost use Rattle.payload_format.specs.Format.{Legal};
+ghost use Rattle.payload_format.specs.inner.Legal.{Legal};
 ghost use Rattle.payload_format.specs.Field.{eventIn, channelIn};
-ghost use Rattle.payload_unpack.specs.Unpack.{buffers, unpacked, unpackedFrom, Unpackable, Placed};
+ghost use Rattle.payload_unpack.specs.Unpack.{buffers, unpacked};
+ghost use Rattle.payload_unpack.specs.inner.Unpackable.{Unpackable, Placed, UnpackedOn};
 use crate::window;
 use bitstream::inner::accumulator::Held;
 use bitstream::inner::accumulator::take_field;
@@ -13,7 +14,7 @@ fn event_of(p: Packing, v: u64) -> u8
     requires { ⌜ Legal p ⌝ }
     ensures { λ r. ⌜ r ≡ eventIn p v ⌝ }
 {
-    bitstream::inner::low(v >> p.channel, p.event) as u8
+    words::inner::low(v >> p.channel, p.event) as u8
 }
 
 // The channel tag of a field.
@@ -21,21 +22,21 @@ fn channel_of(p: Packing, v: u64) -> u16
     requires { ⌜ Legal p ⌝ }
     ensures { λ r. ⌜ r ≡ channelIn p v ⌝ }
 {
-    bitstream::inner::low(v, p.channel) as u16
+    words::inner::low(v, p.channel) as u16
 }
 
 // The parts of the first n fields, one taken after the other.
 fn unpack_parts(
     p: Packing,
     n: usize,
-    words: &[u32],
+    payload: &[u32],
     items: &mut [u64],
     events: &mut [u8],
     channels: &mut [u16],
 )
-    requires { ⌜ Unpackable p n (now words) (length (now items)) × (n ≤ length (now events)) × (n ≤ length (now channels)) ⌝ }
+    requires { ⌜ Unpackable p n (now payload) (length (now items)) × (n ≤ length (now events)) × (n ≤ length (now channels)) ⌝ }
     ensures { λ _. ⌜ buffers (now (items .exit)) (now (events .exit)) (now (channels .exit))
-        ≡ unpacked p n (now (words .entry)) (buffers (now (items .entry)) (now (events .entry)) (now (channels .entry))) ⌝ }
+        ≡ unpacked p n (now (payload .entry)) (buffers (now (items .entry)) (now (events .entry)) (now (channels .entry))) ⌝ }
 {
     let c = p.carry;
     let f = p.field;
@@ -47,7 +48,7 @@ fn unpack_parts(
     };
     let mut k: usize = 0;
     while k < n {
-        let t = take_field(c, f, s, words);
+        let t = take_field(c, f, s, payload);
         let v = t.value;
         s = Held {
             acc: t.acc,
@@ -66,20 +67,20 @@ fn unpack_parts_last(
     p: Packing,
     from: usize,
     n: usize,
-    words: &[u32],
+    payload: &[u32],
     items: &mut [u64],
     events: &mut [u8],
     channels: &mut [u16],
 )
-    requires { ⌜ Placed p n (now words) (length (now items)) × (n ≤ length (now events)) × (n ≤ length (now channels))
-        × (from ≤ n) × (length (now words) * 32 ≤ from * p .field + 32) ⌝ }
-    ensures { λ _. ⌜ buffers (now (items .exit)) (now (events .exit)) (now (channels .exit))
-        ≡ unpackedFrom p from n (now (words .entry)) (buffers (now (items .entry)) (now (events .entry)) (now (channels .entry))) ⌝ }
+    requires { ⌜ Placed p n (now payload) (length (now items)) × (n ≤ length (now events)) × (n ≤ length (now channels))
+        × (from ≤ n) × (length (now payload) * 32 ≤ from * p .field + 32) ⌝ }
+    ensures { λ _. ⌜ UnpackedOn p from n (now (payload .entry)) (buffers (now (items .entry)) (now (events .entry)) (now (channels .entry)))
+        (buffers (now (items .exit)) (now (events .exit)) (now (channels .exit))) ⌝ }
 {
     let f = p.field;
     let up = p.field - p.item;
     let down = 32 - p.field;
-    let word = words[words.len() - 1];
+    let word = payload[payload.len() - 1];
     let mut k = from;
     while k < n {
         let v = (window::bits_last(word, k * f) >> down) as u64;
@@ -94,46 +95,46 @@ fn unpack_parts_last(
 fn unpack_parts_narrow(
     p: Packing,
     n: usize,
-    words: &[u32],
+    payload: &[u32],
     items: &mut [u64],
     events: &mut [u8],
     channels: &mut [u16],
 )
-    requires { ⌜ Placed p n (now words) (length (now items)) × (n ≤ length (now events)) × (n ≤ length (now channels)) ⌝ }
+    requires { ⌜ Placed p n (now payload) (length (now items)) × (n ≤ length (now events)) × (n ≤ length (now channels)) ⌝ }
     ensures { λ _. ⌜ buffers (now (items .exit)) (now (events .exit)) (now (channels .exit))
-        ≡ unpacked p n (now (words .entry)) (buffers (now (items .entry)) (now (events .entry)) (now (channels .entry))) ⌝ }
+        ≡ unpacked p n (now (payload .entry)) (buffers (now (items .entry)) (now (events .entry)) (now (channels .entry))) ⌝ }
 {
     let f = p.field;
     let up = p.field - p.item;
     let down = 32 - p.field;
-    let last_begins = 32 * (words.len() - 1);
+    let last_begins = 32 * (payload.len() - 1);
     let mut k: usize = 0;
     while k * f < last_begins {
-        let v = (window::bits(words, k * f) >> down) as u64;
+        let v = (window::bits(payload, k * f) >> down) as u64;
         items[k] = v >> up;
         events[k] = event_of(p, v);
         channels[k] = channel_of(p, v);
         k += 1;
     }
-    unpack_parts_last(p, k, n, words, items, events, channels);
+    unpack_parts_last(p, k, n, payload, items, events, channels);
 }
 
 // The parts of the first n fields.
 pub fn unpack_tagged(
     p: Packing,
     n: usize,
-    words: &[u32],
+    payload: &[u32],
     items: &mut [u64],
     events: &mut [u8],
     channels: &mut [u16],
 )
-    requires { ⌜ Unpackable p n (now words) (length (now items)) × (n ≤ length (now events)) × (n ≤ length (now channels)) × (0 < n) ⌝ }
+    requires { ⌜ Unpackable p n (now payload) (length (now items)) × (n ≤ length (now events)) × (n ≤ length (now channels)) × (0 < n) ⌝ }
     ensures { λ _. ⌜ buffers (now (items .exit)) (now (events .exit)) (now (channels .exit))
-        ≡ unpacked p n (now (words .entry)) (buffers (now (items .entry)) (now (events .entry)) (now (channels .entry))) ⌝ }
+        ≡ unpacked p n (now (payload .entry)) (buffers (now (items .entry)) (now (events .entry)) (now (channels .entry))) ⌝ }
 {
     if p.carry == 32 && p.field <= 32 {
-        unpack_parts_narrow(p, n, words, items, events, channels);
+        unpack_parts_narrow(p, n, payload, items, events, channels);
         return;
     }
-    unpack_parts(p, n, words, items, events, channels);
+    unpack_parts(p, n, payload, items, events, channels);
 }

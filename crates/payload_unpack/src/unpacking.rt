@@ -1,7 +1,8 @@
 // Unpacking: items and their tags from words.
 ghost use Rattle.words.specs.Kit.{_≡_, _≤_, length};
 ghost use Rattle.words.specs.Outcome.{checked, measured, Meets};
-ghost use Rattle.payload_unpack.specs.Unpack.{buffers, unpacked, unpackCheck, unpackOf, Unpackable};
+ghost use Rattle.payload_unpack.specs.Unpack.{buffers, unpacked, unpackOf};
+ghost use Rattle.payload_unpack.specs.inner.Unpackable.{unpackCheck, Unpackable};
 use crate::plain::clear_tags;
 use crate::plain::unpack_plain;
 use crate::tagged::unpack_tagged;
@@ -48,24 +49,24 @@ fn unpack_check(
 fn unpack_fields(
     p: Packing,
     n: usize,
-    words: &[u32],
+    payload: &[u32],
     items: &mut [u64],
     events: &mut [u8],
     channels: &mut [u16],
 )
-    requires { ⌜ Unpackable p n (now words) (length (now items)) × (n ≤ length (now events)) × (n ≤ length (now channels)) ⌝ }
+    requires { ⌜ Unpackable p n (now payload) (length (now items)) × (n ≤ length (now events)) × (n ≤ length (now channels)) ⌝ }
     ensures { λ _. ⌜ buffers (now (items .exit)) (now (events .exit)) (now (channels .exit))
-        ≡ unpacked p n (now (words .entry)) (buffers (now (items .entry)) (now (events .entry)) (now (channels .entry))) ⌝ }
+        ≡ unpacked p n (now (payload .entry)) (buffers (now (items .entry)) (now (events .entry)) (now (channels .entry))) ⌝ }
 {
     if n == 0 {
         return;
     }
     if p.event + p.channel == 0 {
-        unpack_plain(p, n, words, items);
+        unpack_plain(p, n, payload, items);
         clear_tags(n, events, channels);
         return;
     }
-    unpack_tagged(p, n, words, items, events, channels);
+    unpack_tagged(p, n, payload, items, events, channels);
 }
 
 // The n items in the words, with their event and channel tags, under a format: how many there are, or the number of the first refusal of FORMAT,
@@ -74,13 +75,13 @@ pub fn unpack(
     first: u32,
     second: u32,
     n: usize,
-    words: &[u32],
+    payload: &[u32],
     items: &mut [u64],
     events: &mut [u8],
     channels: &mut [u16],
 ) -> Length
     ensures { λ r. ⌜ Meets measured
-        (unpackOf first second n (now (words .entry)) (buffers (now (items .entry)) (now (events .entry)) (now (channels .entry))))
+        (unpackOf first second n (now (payload .entry)) (buffers (now (items .entry)) (now (events .entry)) (now (channels .entry))))
         (buffers (now (items .entry)) (now (events .entry)) (now (channels .entry))) r
         (buffers (now (items .exit)) (now (events .exit)) (now (channels .exit))) ⌝ }
 {
@@ -88,7 +89,7 @@ pub fn unpack(
         first,
         second,
         n,
-        words.len(),
+        payload.len(),
         items.len(),
         events.len(),
         channels.len(),
@@ -96,6 +97,6 @@ pub fn unpack(
     if let Check::Refused(number) = checked {
         return Length::Refused(number);
     }
-    unpack_fields(packing_of(first), n, words, items, events, channels);
+    unpack_fields(packing_of(first), n, payload, items, events, channels);
     Length::Accepted(n)
 }

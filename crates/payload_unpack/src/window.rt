@@ -34,12 +34,12 @@ fn join_wide(high: u64, low: u32, o: usize) -> u64
 }
 
 // The 32 bits from bit b on. The word's number is worked out in 32 bits, which compiles to fewer instructions.
-pub fn bits(words: &[u32], b: usize) -> u32
-    requires { ⌜ (b < 2 ^ 32) × (b + 32 < length (now words) * 32) ⌝ }
-    ensures { λ r. ⌜ r ≡ span 32 (streamBits 32 (now (words .entry))) b 32 ⌝ }
+pub fn bits(payload: &[u32], b: usize) -> u32
+    requires { ⌜ (b < 2 ^ 32) × (b + 32 < length (now payload) * 32) ⌝ }
+    ensures { λ r. ⌜ r ≡ span 32 (streamBits 32 (now (payload .entry))) b 32 ⌝ }
 {
     let i = (b as u32 / 32) as usize;
-    join(words[i], words[i + 1], b % 32)
+    join(payload[i], payload[i + 1], b % 32)
 }
 
 // The 32 bits from bit b on, which lies in this word, the last; those past it are 0.
@@ -50,27 +50,27 @@ pub fn bits_last(word: u32, b: usize) -> u32
 }
 
 // The 64 bits from bit b on.
-pub fn bits_wide(words: &[u32], b: usize) -> u64
-    requires { ⌜ b + 64 < length (now words) * 32 ⌝ }
-    ensures { λ r. ⌜ r ≡ span 32 (streamBits 32 (now (words .entry))) b 64 ⌝ }
+pub fn bits_wide(payload: &[u32], b: usize) -> u64
+    requires { ⌜ b + 64 < length (now payload) * 32 ⌝ }
+    ensures { λ r. ⌜ r ≡ span 32 (streamBits 32 (now (payload .entry))) b 64 ⌝ }
 {
     let i = b / 32;
     join_wide(
-        words::inner::high_first(words[i], words[i + 1]),
-        words[i + 2],
+        words::inner::high_first(payload[i], payload[i + 1]),
+        payload[i + 2],
         b % 32,
     )
 }
 
 // The same where the third word may be past the last: its bits are then 0.
-pub fn bits_wide_last(words: &[u32], b: usize) -> u64
-    requires { ⌜ b + 32 < length (now words) * 32 ⌝ }
-    ensures { λ r. ⌜ r ≡ span 32 (streamBits 32 (now (words .entry))) b 64 ⌝ }
+pub fn bits_wide_last(payload: &[u32], b: usize) -> u64
+    requires { ⌜ b + 32 < length (now payload) * 32 ⌝ }
+    ensures { λ r. ⌜ r ≡ span 32 (streamBits 32 (now (payload .entry))) b 64 ⌝ }
 {
     let i = b / 32;
-    let next = words::inner::word_at(words, i + 2);
+    let next = words::inner::word_at(payload, i + 2);
     join_wide(
-        words::inner::high_first(words[i], words[i + 1]),
+        words::inner::high_first(payload[i], payload[i + 1]),
         next,
         b % 32,
     )

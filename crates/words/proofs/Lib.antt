@@ -12,6 +12,8 @@ pub mod MeetLaws
 pub mod Once
 -- a word and its fields
 pub mod WordLaws
+-- powers of two, and two's complement
+pub mod PowerLaws
 -- words bit by bit: `&`, `|`, words that agree at every bit
 pub mod BitLaws
 -- set bits, leading zeros, counts of ones

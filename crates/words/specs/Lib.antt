@@ -12,6 +12,8 @@ pub mod Outcome
 pub mod Refusals
 -- a word's bits, and a word as fields by their widths
 pub mod Word
+-- two's complement
+pub mod Signed
 -- the set bits of a number, highest first
 pub mod SetBits
 -- a part of a list, and a list with a part replaced

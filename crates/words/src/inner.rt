@@ -1,8 +1,13 @@
-// Helpers for the crates above: reads and copies of words, and tests.
+// Helpers for the crates above: reads and copies of words, tests, and powers of two.
+mod powers;
+
 ghost use Rattle.words.specs.Kit.{_≡_, _+_, _≤_, length, take, getD};
 ghost use Rattle.words.specs.Tests.{when, both};
 ghost use Rattle.words.specs.Word.{highFirst};
 ghost use Rattle.words.specs.Part.{part, put};
+pub use powers::low;
+pub use powers::ones;
+pub use powers::power;
 
 // The word at a place, and 0 past the end.
 pub fn word_at(ws: &[u32], i: usize) -> u32

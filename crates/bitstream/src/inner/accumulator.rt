@@ -1,8 +1,8 @@
 // An accumulator of bits: fields taken from words, and words made of fields.
 ghost use Rattle.words.specs.Kit.{_≡_, _+_, _^_, _≤_, _<_, length};
 ghost use Rattle.bitstream.specs.Carried.{streamBits};
-ghost use Rattle.bitstream.specs.Accumulator.{Takeable, Refilled, Took, TookItem, FieldTakeable, Pushable, Pushed, FieldPushable, Finished};
-use crate::inner::low;
+ghost use Rattle.bitstream.specs.inner.Accumulator.{Takeable, Refilled, Took, TookItem, FieldTakeable, Pushable, Pushed, FieldPushable, Finished};
+use words::inner::low;
 
 // The last `have` bits of acc are held; `at` is the next word to read or to write.
 pub struct Held {
@@ -20,35 +20,35 @@ pub struct Taken {
 }
 
 // The bits of a word that carry fields.
-fn carried_at(c: usize, words: &[u32], at: usize) -> u64
-    requires { ⌜ (0 < c) × (c ≤ 32) × (at < length (now words)) ⌝ }
-    ensures { λ r. ⌜ (r ≡ streamBits c (now (words .entry)) at) × (r < 2 ^ c) ⌝ }
+fn carried_at(c: usize, payload: &[u32], at: usize) -> u64
+    requires { ⌜ (0 < c) × (c ≤ 32) × (at < length (now payload)) ⌝ }
+    ensures { λ r. ⌜ (r ≡ streamBits c (now (payload .entry)) at) × (r < 2 ^ c) ⌝ }
 {
-    words[at] as u64 >> (32 - c)
+    payload[at] as u64 >> (32 - c)
 }
 
 // The state with at least w bits: as it is where it has them, and else with the bits that the next word carries put behind those that it has.
-fn refill(c: usize, w: usize, s: Held, words: &[u32]) -> Held
-    requires { ⌜ Takeable c w s (now words) ⌝ }
-    ensures { λ r. ⌜ Refilled c w s (now (words .entry)) r ⌝ }
+fn refill(c: usize, w: usize, s: Held, payload: &[u32]) -> Held
+    requires { ⌜ Takeable c w s (now payload) ⌝ }
+    ensures { λ r. ⌜ Refilled c w s (now (payload .entry)) r ⌝ }
 {
     let at = s.at;
     if w <= s.have {
         return s;
     }
     Held {
-        acc: (s.acc << c) + carried_at(c, words, at),
+        acc: (s.acc << c) + carried_at(c, payload, at),
         have: s.have + c,
         at: at + 1,
     }
 }
 
 // The next w bits.
-fn take(c: usize, w: usize, s: Held, words: &[u32]) -> Taken
-    requires { ⌜ Takeable c w s (now words) × (s .have < c) × (w ≤ 32) ⌝ }
-    ensures { λ r. ⌜ Took c w s (now (words .entry)) r ⌝ }
+fn take(c: usize, w: usize, s: Held, payload: &[u32]) -> Taken
+    requires { ⌜ Takeable c w s (now payload) × (s .have < c) × (w ≤ 32) ⌝ }
+    ensures { λ r. ⌜ Took c w s (now (payload .entry)) r ⌝ }
 {
-    let h = refill(c, w, s, words);
+    let h = refill(c, w, s, payload);
     let left = h.have - w;
     Taken {
         value: low(h.acc >> left, w),
@@ -60,11 +60,11 @@ fn take(c: usize, w: usize, s: Held, words: &[u32]) -> Taken
 
 // The item of the next field. The field has f bits: the item, and u bits to its right. The state says that it has u bits more than it has, so that shifting by
 // the bits left after the field cuts off those u bits too: one shift where there would be two.
-pub fn take_item(c: usize, f: usize, u: usize, s: Held, words: &[u32]) -> Taken
-    requires { ⌜ Takeable c (f + u) s (now words) × (u < f) × (f ≤ 32) ⌝ }
-    ensures { λ r. ⌜ TookItem c f u s (now (words .entry)) r ⌝ }
+pub fn take_item(c: usize, f: usize, u: usize, s: Held, payload: &[u32]) -> Taken
+    requires { ⌜ Takeable c (f + u) s (now payload) × (u < f) × (f ≤ 32) ⌝ }
+    ensures { λ r. ⌜ TookItem c f u s (now (payload .entry)) r ⌝ }
 {
-    let h = refill(c, f + u, s, words);
+    let h = refill(c, f + u, s, payload);
     let left = h.have - f;
     Taken {
         value: low(h.acc >> left, f - u),
@@ -75,20 +75,20 @@ pub fn take_item(c: usize, f: usize, u: usize, s: Held, words: &[u32]) -> Taken
 }
 
 // The next field, of f bits: one of more than 32 in two parts.
-pub fn take_field(c: usize, f: usize, s: Held, words: &[u32]) -> Taken
-    requires { ⌜ FieldTakeable c f s (now words) ⌝ }
-    ensures { λ r. ⌜ Took c f s (now (words .entry)) r ⌝ }
+pub fn take_field(c: usize, f: usize, s: Held, payload: &[u32]) -> Taken
+    requires { ⌜ FieldTakeable c f s (now payload) ⌝ }
+    ensures { λ r. ⌜ Took c f s (now (payload .entry)) r ⌝ }
 {
     if f <= 32 {
-        return take(c, f, s, words);
+        return take(c, f, s, payload);
     }
-    let high = take(c, f - 32, s, words);
+    let high = take(c, f - 32, s, payload);
     let h = Held {
         acc: high.acc,
         have: high.have,
         at: high.at,
     };
-    let low = take(c, 32, h, words);
+    let low = take(c, 32, h, payload);
     Taken {
         value: high.value * 0x1_0000_0000 + low.value,
         acc: low.acc,

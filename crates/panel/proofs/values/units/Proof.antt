@@ -1,7 +1,7 @@
 -- `units` meets its promise: two words are 64 bits.
 use Rattle.words.proofs.Kit.{ap, _∙_, needs}
 use Rattle.panel.specs.Values.{unitsOf}
-use Rattle.payload_format.specs.Signs.{twosComplement}
+use Rattle.words.specs.Signed.{twosComplement}
 use Rattle.panel.proofs.ValueLaws.{back}
 use Rattle.panel.proofs.values.units.Statement.{statement}
 use Rattle.panel.proofs.values.units.Tie as tie

@@ -1,29 +1,32 @@
--- `carry` meets its promise: each return is a line of the definition.
+-- `carry` meets its promise: each return is a line of the definition, by what the parts of the word are.
 use Rattle.payload_format.specs.Format.{carriedBits}
-use Rattle.words.proofs.Kit.{arith, _+_, _/_, _%_, _≤_, needs}
+use Rattle.words.proofs.Kit.{_≡_, refl, _*_, _/_, _≤_, leb, arith, needs}
 use native.Mathlib.Nat.{div-mul-le-self}
+use Rattle.words.specs.Tests.{pick}
 use Rattle.words.proofs.Cases.{cases}
 use Rattle.payload_format.proofs.inner.carry.Statement.{statement}
 use Rattle.payload_format.proofs.inner.carry.Tie as tie
 
 returns : tie.Need-returns
 unfolding carriedBits
-returns c = search cases
+returns c = rw (← (c .before .link-efficient .ensures)) (search cases)
 
-mul-result : tie.Need-mul-result
-mul-result c = let k = c .before .before .args .first in omega (arith, div-mul-le-self 32 (k / 64 % 64 + 1))
-
-returns-2 : tie.Need-returns-2
+-- the definition past its first line
+lines : (c : tie.After-packing-size) →
+    let start : tie.Start = search in
+    let f = c .packing-size .result in
+    carriedBits (start .args .first) ≡ pick (leb f 32) (32 / f * f) 32
 unfolding carriedBits
-returns-2 c =
-    let k = c .before .before .args .first in
-    let l : k / 64 % 64 + 1 ≤ 32 = omega arith in
-    (search cases, div-mul-le-self 32 (k / 64 % 64 + 1))
+lines c =
+    let at-link : tie.After-link-efficient = search in
+    rw (← (at-link .link-efficient .ensures), ← (c .packing-size .ensures), c .before .if1 .left) refl
 
-returns-3 : tie.Need-returns-3
-unfolding carriedBits
-returns-3 c = search cases
+whole-fields : (c : tie.After-packing-size) → let f = c .packing-size .result in 32 / f * f ≤ 32
+whole-fields c = div-mul-le-self 32 (c .packing-size .result)
 
 pub carry-spec : {M : Type 1} → statement M
 carry-spec =
-    tie.close (tie.spec returns (λ c. search needs) (λ c. search needs) (λ c. search needs) mul-result returns-2 returns-3)
+    tie.close
+    (tie.spec
+    (λ c κs. search needs) returns (λ c κs. search needs) (λ c. search needs) (λ c. search needs) (λ c. omega (arith, whole-fields (search)))
+    (λ c. rw (lines (search)) (search (cases, whole-fields))) (λ c. rw (lines (search)) (search cases)))

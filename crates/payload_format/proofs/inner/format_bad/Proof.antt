@@ -1,39 +1,37 @@
--- `format_bad` meets its promise: each return is a line of the definition.
-use Rattle.words.proofs.Kit.{not, arith, sym, _∙_, ap, _+_, _/_, _%_, eq-eqb, ne-eqb, needs}
-use Rattle.payload_format.specs.Format.{formatBad}
+-- `format_bad` meets its promise: each return is a line of the definition, by what the parts of the words are.
+use Rattle.words.proofs.Kit.{_≡_, true, refl, not, eqb, eq-eqb, arith, needs}
+use Rattle.words.specs.Tests.{pick}
+use Rattle.words.proofs.Cases.{cases}
+use Rattle.payload_format.specs.Format.{componentRepeat, wideProcessing, formatBad}
 use Rattle.payload_format.proofs.inner.format_bad.Statement.{statement}
 use Rattle.payload_format.proofs.inner.format_bad.Tie as tie
 
 returns : tie.Need-returns
 unfolding formatBad
-returns c = let e = ap not (sym (c .before .format-ok .ensures)) ∙ c .if1 .taken in simp e
+returns c = rw (← (c .before .format-ok .ensures)) (search cases)
 
-returns-2 : tie.Need-returns-2
-unfolding formatBad
-returns-2 c =
-    let e = ap not (sym (c .before .before .format-ok .ensures)) ∙ c .before .if1 .left in
-    let q = ne-eqb (c .before .before .before .args .second / 65536 % 65536 + 1) 1 (c .if2 .taken) in
-    simp (e, q)
-
-returns-3 : tie.Need-returns-3
-unfolding formatBad
-returns-3 c =
+-- the definition past its first line, and past its second
+lines : (c : tie.After-repeat-size) →
     let start : tie.Start = search in
-    let e = ap not (sym (c .before .before .before .format-ok .ensures)) ∙ c .before .before .if1 .left in
-    let q = eq-eqb (start .args .second / 65536 % 65536 + 1) 1 (omega arith) in
-    let h = eq-eqb (start .args .first / 8388608 % 2) 1 (c .if3 .taken) in
-    simp (e, q, h)
-
-returns-4 : tie.Need-returns-4
+    let first = start .args .first in
+    formatBad first (start .args .second)
+    ≡ pick (not (eqb (c .repeat-size .result) 1)) true (pick (componentRepeat first) true (wideProcessing first))
 unfolding formatBad
-returns-4 c =
-    let at-format-ok : tie.After-format-ok = search in
+lines c =
+    let at-ok : tie.After-format-ok = search in
+    rw (← (at-ok .format-ok .ensures), ← (c .repeat-size .ensures), c .before .if1 .left) refl
+
+rest : (c : tie.After-component-repeat) →
     let start : tie.Start = search in
-    let e = ap not (sym (at-format-ok .format-ok .ensures)) ∙ c .before .before .before .if1 .left in
-    let q = eq-eqb (start .args .second / 65536 % 65536 + 1) 1 (omega arith) in
-    let h = ne-eqb (start .args .first / 8388608 % 2) 1 (c .before .if3 .left) in
-    simp (e, q, h) (c .wide-processing .ensures)
+    formatBad (start .args .first) (start .args .second) ≡ pick (c .component-repeat .result) true (wideProcessing (start .args .first))
+rest c =
+    let at-repeat : tie.After-repeat-size = search in
+    let e = eq-eqb (at-repeat .repeat-size .result) 1 (omega arith) in
+    rw (lines at-repeat, e, ← (c .component-repeat .ensures)) refl
 
 pub format-bad-spec : {M : Type 1} → statement M
 format-bad-spec =
-    tie.close (tie.spec (λ c κs. search needs) returns (λ c. search needs) returns-2 returns-3 (λ c κs. search needs) returns-4)
+    tie.close
+    (tie.spec
+    (λ c κs. search needs) returns (λ c κs. search needs) (λ c. rw (lines (search)) (search cases)) (λ c κs. search needs)
+    (λ c. rw (rest (search)) (search cases)) (λ c κs. search needs) (λ c. rw (rest (search), c .before .if3 .left) (c .wide-processing .ensures)))

@@ -6,11 +6,11 @@ use Rattle.payload_format.proofs.inner.packing_of.Tie as tie
 
 returns : tie.Need-returns
 unfolding packingOf
-returns c = rw (c .carry .ensures .0)
+returns c = cc
 
 pub packing-of-spec : {M : Type 1} → statement M
 packing-of-spec =
     tie.close
     (tie.spec
-    (λ c κs. search needs) (λ c. search needs) (λ c. search needs) (λ c. search needs) (λ c. search needs) (λ c. search needs) (λ c. search needs)
-    returns)
+    (λ c κs. search needs) (λ c κs. search needs) (λ c. search needs) (λ c κs. search needs) (λ c. search needs) (λ c κs. search needs)
+    (λ c. search needs) (λ c κs. search needs) (λ c. search needs) returns)

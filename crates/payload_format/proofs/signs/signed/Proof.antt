@@ -1,7 +1,7 @@
 -- `signed` meets its promise: the refusals are lines of the definition, and `sign-zero` and `sign-one` say the value by the sign bit.
 use Rattle.payload_format.proofs.SignLaws.{sign-zero, sign-one}
 use Rattle.payload_format.specs.Signs.{signedOf}
-use Rattle.bitstream.proofs.SpanLaws.{halves}
+use Rattle.words.proofs.PowerLaws.{halves}
 use Rattle.words.proofs.Kit.{arith, _+_, _-_, _^_, _≤_, needs}
 use Rattle.words.proofs.Cases.{cases}
 use Rattle.payload_format.proofs.signs.signed.Statement.{statement}

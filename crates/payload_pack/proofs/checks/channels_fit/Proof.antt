@@ -1,6 +1,6 @@
 -- `channels_fit` meets its promise: all fit where the bits that any of them has do (`fitting-joined`).
-use Rattle.payload_format.proofs.FieldLaws.{fitting-joined}
-use Rattle.words.proofs.Kit.{length, sym, needs}
+use Rattle.payload_pack.proofs.FitLaws.{fitting-joined}
+use Rattle.words.proofs.Kit.{sym, needs}
 use Rattle.payload_pack.proofs.checks.channels_fit.Statement.{statement}
 use Rattle.payload_pack.proofs.checks.channels_fit.Tie as tie
 
@@ -8,7 +8,7 @@ returns : tie.Need-returns
 returns c =
     let a = c .before .before .before .args in
     let l = a .channels .now in
-    rw (c .before .join-channels .ensures, c .power .ensures .0) (sym (fitting-joined (a .w) (length l) l))
+    rw (c .before .join-channels .ensures, c .power .ensures .0) (sym (fitting-joined (a .w) l))
 
 pub channels-fit-spec : {M : Type 1} → statement M
 channels-fit-spec =

@@ -1,6 +1,6 @@
 -- `events_fit` meets its promise: all fit where the bits that any of them has do (`fitting-joined`).
-use Rattle.payload_format.proofs.FieldLaws.{fitting-joined}
-use Rattle.words.proofs.Kit.{length, sym, needs}
+use Rattle.payload_pack.proofs.FitLaws.{fitting-joined}
+use Rattle.words.proofs.Kit.{sym, needs}
 use Rattle.payload_pack.proofs.checks.events_fit.Statement.{statement}
 use Rattle.payload_pack.proofs.checks.events_fit.Tie as tie
 
@@ -8,7 +8,7 @@ returns : tie.Need-returns
 returns c =
     let a = c .before .before .before .args in
     let l = a .events .now in
-    rw (c .before .join-events .ensures, c .power .ensures .0) (sym (fitting-joined (a .w) (length l) l))
+    rw (c .before .join-events .ensures, c .power .ensures .0) (sym (fitting-joined (a .w) l))
 
 pub events-fit-spec : {M : Type 1} → statement M
 events-fit-spec =

@@ -1,7 +1,9 @@
 -- `items_fit` meets its promise: all items fit where the bits that any of them has do (`fitting-joined`).
-use Rattle.payload_format.specs.Field.{anyBits}
-use Rattle.payload_format.proofs.FieldLaws.{fitting-joined, leb-ltb}
-use Rattle.words.proofs.Kit.{length, sym, _∙_, _^_, needs}
+use lib.Dec.{leb, leb·suc-suc}
+use native.Mathlib.Numerals.{add-one}
+use Rattle.payload_pack.specs.inner.AnyBits.{anyBits}
+use Rattle.payload_pack.proofs.FitLaws.{fitting-joined}
+use Rattle.words.proofs.Kit.{length, suc, sym, ap, _∙_, needs}
 use Rattle.payload_pack.proofs.checks.items_fit.Statement.{statement}
 use Rattle.payload_pack.proofs.checks.items_fit.Tie as tie
 
@@ -9,8 +11,11 @@ returns : tie.Need-returns
 returns c =
     let a = c .before .before .before .args in
     let l = a .items .now in
+    let m = c .ones .result in
     rw (c .before .join-items .ensures)
-    (leb-ltb (anyBits (length l) l) (c .ones .result) (2 ^ a .w) (c .ones .ensures) ∙ sym (fitting-joined (a .w) (length l) l))
+    (sym (leb·suc-suc (anyBits (length l) l) m)
+    ∙ ap (leb (suc (anyBits (length l) l))) (sym (add-one m) ∙ c .ones .ensures)
+    ∙ sym (fitting-joined (a .w) l))
 
 pub items-fit-spec : {M : Type 1} → statement M
 items-fit-spec =

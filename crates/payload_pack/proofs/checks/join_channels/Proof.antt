@@ -1,6 +1,6 @@
 -- `join_channels` meets its promise. The invariant: the bits that any of the first k has; `joined-more` carries the turn.
-use Rattle.payload_format.specs.Field.{anyBits}
-use Rattle.payload_format.proofs.FieldLaws.{joined-none, joined-more}
+use Rattle.payload_pack.specs.inner.AnyBits.{anyBits}
+use Rattle.payload_pack.proofs.FitLaws.{joined-none, joined-more}
 use Rattle.words.proofs.Kit.{length, _≡_, _-_, _≤_, arith, needs}
 use Rattle.payload_pack.proofs.checks.join_channels.Statement.{statement}
 use Rattle.payload_pack.proofs.checks.join_channels.Tie as tie

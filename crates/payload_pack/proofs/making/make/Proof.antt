@@ -1,7 +1,7 @@
 -- `make` meets its promise: no shift loses a bit (`made-exact`), and the field fits (`made-below`).
 use Rattle.words.proofs.Kit.{ℕ, _+_, _-_, _*_, _%_, _^_, _<_, arith, needs}
 use Rattle.payload_format.specs.declared.inner.Packing.{Packing}
-use Rattle.payload_format.specs.Format.{Legal}
+use Rattle.payload_format.specs.inner.Legal.{Legal}
 use Rattle.payload_format.proofs.FieldLaws.{made-below, made-exact, made-fits, tags-fit}
 use Rattle.payload_pack.proofs.making.make.Statement.{statement}
 use Rattle.payload_pack.proofs.making.make.Tie as tie

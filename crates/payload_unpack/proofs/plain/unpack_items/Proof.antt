@@ -7,10 +7,10 @@ use Rattle.payload_unpack.proofs.plain.unpack_items.Statement.{statemen
 use Rattle.payload_unpack.proofs.plain.unpack_items.Tie as tie
 
 abbrev Inv-loop : tie.InvT-loop
-Inv-loop n words items₀ c f up s₀ k₀ items s k = Fills 0 n k (λ j. packingField c f words j / 2 ^ up) items₀ items × ReadingItems c f up words s k
+Inv-loop n payload items₀ c f up s₀ k₀ items s k = Fills 0 n k (λ j. packingField c f payload j / 2 ^ up) items₀ items × ReadingItems c f up payload s k
 
 abbrev μ-loop : tie.MeasureT-loop
-μ-loop n words items₀ c f up s₀ k₀ items s k = n - k
+μ-loop n payload items₀ c f up s₀ k₀ items s k = n - k
 
 pub unpack-items-spec : {M : Type 1} → statement M
 unpack-items-spec =

@@ -7,12 +7,12 @@ use Rattle.payload_unpack.proofs.plain.unpack_last.Statement.{statement
 use Rattle.payload_unpack.proofs.plain.unpack_last.Tie as tie
 
 abbrev Inv-loop : tie.InvT-loop
-Inv-loop from n words items₀ f down word k₀ items k = Fills from n k (λ j. word * 2 ^ (j * f % 32) % 2 ^ 32 / 2 ^ down) items₀ items
+Inv-loop from n payload items₀ f down word k₀ items k = Fills from n k (λ j. word * 2 ^ (j * f % 32) % 2 ^ 32 / 2 ^ down) items₀ items
 
 abbrev μ-loop : tie.MeasureT-loop
-μ-loop from n words items₀ f down word k₀ items k = n - k
+μ-loop from n payload items₀ f down word k₀ items k = n - k
 
-words-small : (c : tie.After-shared-slice-known Inv-loop μ-loop) (j : ℕ) → getD (now (c .before .args .words)) j 0 < 2 ^ 32
+words-small : (c : tie.After-shared-slice-known Inv-loop μ-loop) (j : ℕ) → getD (now (c .before .args .payload)) j 0 < 2 ^ 32
 words-small c j = omega (arith, c .shared-slice-known .given j)
 
 place : (c : tie.In-loop Inv-loop μ-loop) →

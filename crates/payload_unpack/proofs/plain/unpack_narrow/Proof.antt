@@ -7,10 +7,10 @@ use Rattle.payload_unpack.proofs.plain.unpack_narrow.Statement.{stateme
 use Rattle.payload_unpack.proofs.plain.unpack_narrow.Tie as tie
 
 abbrev Inv-loop : tie.InvT-loop
-Inv-loop p n words items₀ f down last-begins k₀ items k = Fills 0 n k (λ j. itemIn p (fieldIn p words j)) items₀ items
+Inv-loop p n payload items₀ f down last-begins k₀ items k = Fills 0 n k (λ j. itemIn p (fieldIn p payload j)) items₀ items
 
 abbrev μ-loop : tie.MeasureT-loop
-μ-loop p n words items₀ f down last-begins k₀ items k = n - k
+μ-loop p n payload items₀ f down last-begins k₀ items k = n - k
 
 place : (c : tie.At-loop Inv-loop μ-loop) →
     let start : tie.Start Inv-loop μ-loop = search in

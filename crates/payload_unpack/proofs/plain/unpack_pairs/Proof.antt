@@ -6,10 +6,10 @@ use Rattle.payload_unpack.proofs.plain.unpack_pairs.Statement.{statemen
 use Rattle.payload_unpack.proofs.plain.unpack_pairs.Tie as tie
 
 abbrev Inv-loop : tie.InvT-loop
-Inv-loop n words items₀ k₀ items k = Fills 0 n k (λ j. highFirst (getD words (2 * j) 0) (getD words (2 * j + 1) 0)) items₀ items
+Inv-loop n payload items₀ k₀ items k = Fills 0 n k (λ j. highFirst (getD payload (2 * j) 0) (getD payload (2 * j + 1) 0)) items₀ items
 
 abbrev μ-loop : tie.MeasureT-loop
-μ-loop n words items₀ k₀ items k = n - k
+μ-loop n payload items₀ k₀ items k = n - k
 
 pub unpack-pairs-spec : {M : Type 1} → statement M
 unpack-pairs-spec =

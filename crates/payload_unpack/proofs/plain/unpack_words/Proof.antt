@@ -5,10 +5,10 @@ use Rattle.payload_unpack.proofs.plain.unpack_words.Statement.{statemen
 use Rattle.payload_unpack.proofs.plain.unpack_words.Tie as tie
 
 abbrev Inv-loop : tie.InvT-loop
-Inv-loop n words items₀ k₀ items k = Fills 0 n k (λ j. getD words j 0) items₀ items
+Inv-loop n payload items₀ k₀ items k = Fills 0 n k (λ j. getD payload j 0) items₀ items
 
 abbrev μ-loop : tie.MeasureT-loop
-μ-loop n words items₀ k₀ items k = n - k
+μ-loop n payload items₀ k₀ items k = n - k
 
 cast-items : tie.Need-cast-items Inv-loop μ-loop
 cast-items c = omega (arith, c .shared-slice-known .given (c .before .before .loop .k))

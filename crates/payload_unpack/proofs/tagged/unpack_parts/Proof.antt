@@ -6,11 +6,11 @@ use Rattle.payload_unpack.proofs.tagged.unpack_parts.Statement.{stateme
 use Rattle.payload_unpack.proofs.tagged.unpack_parts.Tie as tie
 
 abbrev Inv-loop : tie.InvT-loop
-Inv-loop p n words items₀ events₀ channels₀ c f up s₀ k₀ items events channels s k =
-    Parts p words 0 n k items₀ events₀ channels₀ items events channels × Reading (p .carry) (p .field) words s k
+Inv-loop p n payload items₀ events₀ channels₀ c f up s₀ k₀ items events channels s k =
+    Parts p payload 0 n k items₀ events₀ channels₀ items events channels × Reading (p .carry) (p .field) payload s k
 
 abbrev μ-loop : tie.MeasureT-loop
-μ-loop p n words items₀ events₀ channels₀ c f up s₀ k₀ items events channels s k = n - k
+μ-loop p n payload items₀ events₀ channels₀ c f up s₀ k₀ items events channels s k = n - k
 
 pub unpack-parts-spec : {M : Type 1} → statement M
 unpack-parts-spec =

@@ -6,13 +6,13 @@ use Rattle.payload_unpack.proofs.tagged.unpack_parts_last.Statement.{st
 use Rattle.payload_unpack.proofs.tagged.unpack_parts_last.Tie as tie
 
 abbrev Inv-loop : tie.InvT-loop
-Inv-loop p from n words items₀ events₀ channels₀ f up down word k₀ items events channels k =
-    Parts p words from n k items₀ events₀ channels₀ items events channels
+Inv-loop p from n payload items₀ events₀ channels₀ f up down word k₀ items events channels k =
+    Parts p payload from n k items₀ events₀ channels₀ items events channels
 
 abbrev μ-loop : tie.MeasureT-loop
-μ-loop p from n words items₀ events₀ channels₀ f up down word k₀ items events channels k = n - k
+μ-loop p from n payload items₀ events₀ channels₀ f up down word k₀ items events channels k = n - k
 
-words-small : (c : tie.After-shared-slice-known Inv-loop μ-loop) (j : ℕ) → getD (now (c .before .args .words)) j 0 < 2 ^ 32
+words-small : (c : tie.After-shared-slice-known Inv-loop μ-loop) (j : ℕ) → getD (now (c .before .args .payload)) j 0 < 2 ^ 32
 words-small c j = omega (arith, c .shared-slice-known .given j)
 
 place : (c : tie.In-loop Inv-loop μ-loop) →

@@ -6,11 +6,11 @@ use Rattle.payload_unpack.proofs.tagged.unpack_parts_narrow.Statement.{
 use Rattle.payload_unpack.proofs.tagged.unpack_parts_narrow.Tie as tie
 
 abbrev Inv-loop : tie.InvT-loop
-Inv-loop p n words items₀ events₀ channels₀ f up down last-begins k₀ items events channels k =
-    Parts p words 0 n k items₀ events₀ channels₀ items events channels
+Inv-loop p n payload items₀ events₀ channels₀ f up down last-begins k₀ items events channels k =
+    Parts p payload 0 n k items₀ events₀ channels₀ items events channels
 
 abbrev μ-loop : tie.MeasureT-loop
-μ-loop p n words items₀ events₀ channels₀ f up down last-begins k₀ items events channels k = n - k
+μ-loop p n payload items₀ events₀ channels₀ f up down last-begins k₀ items events channels k = n - k
 
 place : (c : tie.At-loop Inv-loop μ-loop) →
     let start : tie.Start Inv-loop μ-loop = search in

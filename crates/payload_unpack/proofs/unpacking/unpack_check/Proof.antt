@@ -5,7 +5,7 @@ use Rattle.words.specs.Outcome.{accepted}
 use Rattle.words.specs.Refusals.{firstGiven}
 use Rattle.words.specs.Numbers.{COUNT, ROOM}
 use Rattle.words.proofs.Cases.{cases}
-use Rattle.payload_unpack.specs.Unpack.{unpackCheck}
+use Rattle.payload_unpack.specs.inner.Unpackable.{unpackCheck}
 use Rattle.payload_unpack.proofs.UnpackLaws.{needed-refused, counted}
 use Rattle.payload_unpack.proofs.unpacking.unpack_check.Statement.{statement}
 use Rattle.payload_unpack.proofs.unpacking.unpack_check.Tie as tie

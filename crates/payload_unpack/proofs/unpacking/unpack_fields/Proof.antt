@@ -5,10 +5,10 @@ use Rattle.payload_unpack.proofs.unpacking.unpack_fields.Statement.{sta
 use Rattle.payload_unpack.proofs.unpacking.unpack_fields.Tie as tie
 
 returns : tie.Need-returns
-returns c = let start : tie.Start = search in search (unpacked-none (start .args .p) (now (start .args .words)))
+returns c = let start : tie.Start = search in search (unpacked-none (start .args .p) (now (start .args .payload)))
 
 returns-2 : tie.Need-returns-2
-returns-2 c = let start : tie.Start = search in search (unpacked-plain (start .args .p) (now (start .args .words)))
+returns-2 c = let start : tie.Start = search in search (unpacked-plain (start .args .p) (now (start .args .payload)))
 
 pub unpack-fields-spec : {M : Type 1} → statement M
 unpack-fields-spec =

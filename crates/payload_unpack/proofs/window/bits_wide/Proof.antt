@@ -4,7 +4,7 @@ use Rattle.payload_unpack.proofs.WindowLaws.{bits-wide-are}
 use Rattle.payload_unpack.proofs.window.bits_wide.Statement.{statement}
 use Rattle.payload_unpack.proofs.window.bits_wide.Tie as tie
 
-words-small : (c : tie.After-shared-slice-known) (j : ℕ) → getD (now (c .before .args .words)) j 0 < 2 ^ 32
+words-small : (c : tie.After-shared-slice-known) (j : ℕ) → getD (now (c .before .args .payload)) j 0 < 2 ^ 32
 words-small c j = omega (arith, c .shared-slice-known .given j)
 
 pub bits-wide-spec : {M : Type 1} → statement M

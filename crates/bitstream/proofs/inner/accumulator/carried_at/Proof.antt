@@ -5,7 +5,7 @@ use Rattle.bitstream.proofs.CarriedLaws.{carried-below}
 use Rattle.bitstream.proofs.inner.accumulator.carried_at.Statement.{statement}
 use Rattle.bitstream.proofs.inner.accumulator.carried_at.Tie as tie
 
-word-small : (c : tie.After-shared-slice-known) → getD (now (c .before .args .words)) (c .before .args .at) 0 < 2 ^ 32
+word-small : (c : tie.After-shared-slice-known) → getD (now (c .before .args .payload)) (c .before .args .at) 0 < 2 ^ 32
 word-small c = omega (arith, c .shared-slice-known .given (c .before .args .at))
 
 returns : tie.Need-returns

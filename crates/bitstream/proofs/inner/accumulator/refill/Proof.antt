@@ -7,7 +7,7 @@ use Rattle.bitstream.proofs.inner.accumulator.refill.Tie as tie
 add-t12 : tie.Need-add-t12
 add-t12 c =
     let start : tie.Start = search in
-    let there : start .args .s .at < length (now (start .args .words)) = search next-there in
+    let there : start .args .s .at < length (now (start .args .payload)) = search next-there in
     omega arith
 
 pub refill-spec : {M : Type 1} → statement M

@@ -1,8 +1,8 @@
 -- `ones` meets its promise: 2 ^ n is twice 2 ^ (n - 1) (`halves`).
 use Rattle.words.proofs.Kit.{needs, arith}
-use Rattle.bitstream.proofs.SpanLaws.{halves}
-use Rattle.bitstream.proofs.inner.ones.Statement.{statement}
-use Rattle.bitstream.proofs.inner.ones.Tie as tie
+use Rattle.words.proofs.PowerLaws.{halves}
+use Rattle.words.proofs.inner.powers.ones.Statement.{statement}
+use Rattle.words.proofs.inner.powers.ones.Tie as tie
 
 returns : tie.Need-returns
 returns c = omega (arith, halves (c .before .args .n) (c .before .pre .0))

@@ -1,9 +1,9 @@
 -- `power` meets its promise: a shift of 1 stays below 2 ^ 64.
 use Rattle.words.proofs.Kit.{needs, _≡_, refl, ap, _∙_, ℕ, _*_, _%_, _^_}
 use native.Mathlib.Nat.{one-mul, mod-eq-of-lt, le-of-suc-le-suc}
 use lib.Pow.{pow-pos, pow-lt, pow-mono}
-use Rattle.bitstream.proofs.inner.power.Statement.{statement}
-use Rattle.bitstream.proofs.inner.power.Tie as tie
+use Rattle.words.proofs.inner.powers.power.Statement.{statement}
+use Rattle.words.proofs.inner.powers.power.Tie as tie
 
 returns : tie.Need-returns
 returns c =

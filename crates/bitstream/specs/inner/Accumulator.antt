@@ -66,6 +66,7 @@ pub record FieldTakeable (c f : ℕ) (s : Held) (ws : List ℕ) : Type 0 where
 
 -- the words before `at` are written, and s holds the bits of the fields' stream that follow them
 pub record Behind (c f : ℕ) (g : ℕ → ℕ) (first out : List ℕ) (s : Held) : Type 0 where
+  pub inside : s .at ≤ length first
   pub written : out ≡ filled (s .at) (wordOf c f g) first
   pub held : s .acc % 2 ^ s .have ≡ span f g (c * s .at) (s .have)
 

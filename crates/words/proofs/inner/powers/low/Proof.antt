@@ -1,9 +1,9 @@
 -- `low` meets its promise: a remainder by a power of two.
 use Rattle.words.proofs.Kit.{needs, refl}
 use native.Mathlib.Nat.{mod-lt}
 use lib.Pow.{pow-pos}
-use Rattle.bitstream.proofs.inner.low.Statement.{statement}
-use Rattle.bitstream.proofs.inner.low.Tie as tie
+use Rattle.words.proofs.inner.powers.low.Statement.{statement}
+use Rattle.words.proofs.inner.powers.low.Tie as tie
 
 returns : tie.Need-returns
 returns c = rw (c .power .ensures .0) (refl, mod-lt (c .before .args .v) (pow-pos (c .before .args .n)))

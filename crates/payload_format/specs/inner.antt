@@ -1,0 +1,4 @@
+-- Definitions that only the contracts inside cite.
+
+-- the sizes of a legal packing
+pub mod Legal
