@@ -4,6 +4,7 @@ use Rattle.table.proofs.StartLaws.{start-well-made}
 use Rattle.demands.specs.Calls.{calls}
 use Rattle.demands.specs.Program.{ours}
 use Rattle.demands.specs.Demands.{Demand1, Demand2, Demand3}
+use Rattle.demands.proofs.Answered.{some-outcome}
 use Rattle.demands.proofs.Once.{one-outcome, each-refusal}
 use Rattle.demands.proofs.InOrder.{in-order}
 use Rattle.demands.proofs.WellMade.{judged}
@@ -18,7 +19,7 @@ use Rattle.demands.proofs.PastUnread.{past-unread}
 use Rattle.demands.proofs.Separate.{apart, refused-apart}
 
 pub demand-1 : Demand1
-demand-1 = record { once = one-outcome; numbers = in-order; well-made = judged; refusals = each-refusal calls }
+demand-1 = record { answered = some-outcome; once = one-outcome; numbers = in-order; well-made = judged; refusals = each-refusal calls }
 
 pub demand-2 : Demand2 ours
 demand-2 = record {

@@ -2,6 +2,8 @@
 
 -- proofs one after the other
 pub mod Listing
+-- some outcome meets every promise
+pub mod Answered
 -- every promise leaves one outcome, and a refusal the lent words
 pub mod Once
 -- each call gives the first refusal of its list that applies

@@ -14,7 +14,7 @@ use Rattle.payload_pack.specs.Pack.{packOf}
 use Rattle.table.specs.Layout.{base, recordAt}
 use Rattle.table.specs.Identifiers.{listed, listGood}
 use Rattle.play.specs.declared.Heard.{Heard}
-use Rattle.demands.specs.Calls.{OneOutcome, RefusalLeaves, Each, calls}
+use Rattle.demands.specs.Calls.{SomeOutcome, OneOutcome, RefusalLeaves, Each, calls}
 use Rattle.demands.specs.Refusals.{InOrder}
 use Rattle.demands.specs.WellMade.{Judged}
 use Rattle.demands.specs.Clean.{Clean}
@@ -31,7 +31,8 @@ use Rattle.demands.specs.Altered.{Altered, ownAnswers, RefusedApart}
 
 pub record Demand1 : Type 0 where
   -- "Every word slice handed in gets an answer, and each call finishes": the prover accepts no function that may not return, or that asks more than its
-  -- `requires`, and no public call has one. The promise of each leaves one outcome, answer and lent words.
+  -- `requires`, and no public call has one. The promise of each is met by some outcome, answer and lent words, whatever is handed in, and leaves one.
+  pub answered : Each SomeOutcome calls
   pub once : Each OneOutcome calls
   -- "Bad packets, tables, pages and formats are refused with the number in our list, given exactly when the list says."
   pub numbers : InOrder
