@@ -8,6 +8,7 @@ use Rattle.demands.proofs.Answered.{some-outcome}
 use Rattle.demands.proofs.Once.{one-outcome, each-refusal}
 use Rattle.demands.proofs.InOrder.{in-order}
 use Rattle.demands.proofs.WellMade.{judged}
+use Rattle.demands.proofs.FieldFound.{fields-found}
 use Rattle.demands.proofs.Again.{written-again}
 use Rattle.demands.proofs.Back.{written-back}
 use Rattle.demands.proofs.RoundTrip.{pack-then-unpack, unpack-then-pack}
@@ -24,9 +25,11 @@ demand-1 = record { answered = some-outcome; once = one-outcome; numbers = in-or
 pub demand-2 : Demand2 ours
 demand-2 = record {
   reads = λ ws. refl;
+  finds = λ b body. refl;
   writes = λ p body out at. refl;
   packs = λ first second items events channels out. refl;
   unpacks = λ first second n ws b. refl;
+  fields = fields-found;
   again = written-again;
   back = written-back;
   unpacked = pack-then-unpack;

@@ -10,6 +10,8 @@ pub mod Once
 pub mod InOrder
 -- which tables and pages are well made
 pub mod WellMade
+-- the fields of a Context packet are found
+pub mod FieldFound
 -- an accepted packet written again gives the same words, and what was written reads back
 pub mod Again
 pub mod Back

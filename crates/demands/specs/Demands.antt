@@ -4,6 +4,7 @@ use Rattle.words.specs.Kit.{_≡_, ℕ, _+_, _≤_, _<_, true, List, [], _++_, 
 use Rattle.words.specs.Numbers.{ROOM}
 use Rattle.words.specs.Part.{part}
 use Rattle.words.specs.Outcome.{Outcome, refused, accepted, Done, saidOf, leftOf}
+use Rattle.fields.specs.Layout.{foundOf}
 use Rattle.packet.specs.declared.Packet.{Packet}
 use Rattle.packet.specs.declared.Parts.{Parts}
 use Rattle.packet.specs.Parts.{bodyAt}
@@ -20,6 +21,7 @@ use Rattle.demands.specs.WellMade.{Judged}
 use Rattle.demands.specs.Clean.{Clean}
 use Rattle.demands.specs.Trace.{traceOf, answersAfter}
 use Rattle.demands.specs.Program.{Program, Accepts, AreWords, playAll, saidAll}
+use Rattle.demands.specs.FieldFound.{FieldFound}
 use Rattle.demands.specs.Right.{Right, pastOf}
 use Rattle.demands.specs.Shown.{Shown}
 use Rattle.demands.specs.Resumed.{Saves, Resumes, Stop, Day, DayRight}
@@ -45,10 +47,13 @@ pub record Demand1 : Type 0 where
 pub record Demand2 (P : Program) : Type 0 where
   -- the layouts of document 01
   pub reads : (ws : List ℕ) → P .read ws ≡ readOf ws
+  pub finds : (b : ℕ) (body : List ℕ) → P .find b body ≡ foundOf b body
   pub writes : (p : Parts) (body out : List ℕ) (at : ℕ) → P .write p body out at ≡ writeOf p body out at
   pub packs : (first second : ℕ) (items events channels out : List ℕ)
       → P .pack first second items events channels out ≡ packOf first second items events channels out
   pub unpacks : (first second n : ℕ) (ws : List ℕ) (b : Buffers) → P .unpack first second n ws b ≡ unpackOf first second n ws b
+  -- "context fields .. are read": of an accepted Context packet, each field that the indicator carries is found, and no other
+  pub fields : (ws : List ℕ) (p : Packet) → P .read ws ≡ accepted p → p .parts .kind ≡ 4 → (b : ℕ) → FieldFound P b (part (p .place) (p .length) ws)
   -- "An accepted packet written again gives the same words": its parts and body, written anywhere with room
   pub again : (ws : List ℕ) → AreWords ws → (p : Packet) → P .read ws ≡ accepted p → (out : List ℕ) (at : ℕ) → at + p .size ≤ length out
       → P .write (p .parts) (part (p .place) (p .length) ws) out at

@@ -24,6 +24,8 @@ pub mod Recording
 pub mod Refusals
 -- which tables and pages are well made
 pub mod WellMade
+-- the fields of a Context packet
+pub mod FieldFound
 -- packed words, as a writer makes them
 pub mod Clean
 -- every public call, with its promise
