@@ -14,7 +14,7 @@ use Rattle.demands.proofs.Back.{written-back}
 use Rattle.demands.proofs.RoundTrip.{pack-then-unpack, unpack-then-pack}
 use Rattle.demands.proofs.RightLaws.{start-accepts, right-start, right-on, answers-on, past-on}
 use Rattle.demands.proofs.Resumed.{saves, resumes, no-room, days}
-use Rattle.demands.proofs.Shown.{shows}
+use Rattle.demands.proofs.PanelShows.{shows}
 use Rattle.demands.proofs.RunLaws.{runs}
 use Rattle.demands.proofs.PastUnread.{past-unread}
 use Rattle.demands.proofs.Separate.{apart, refused-apart}

@@ -30,7 +30,7 @@ pub mod RightLaws
 -- the rules leave nothing open
 pub mod Determined
 -- what is seen is what is held
-pub mod Shown
+pub mod PanelShows
 -- stopping and resuming, any number of times
 pub mod Resumed
 -- words past a table's layout

@@ -152,7 +152,7 @@ module _ (ids : List ℕ) (first : List (List ℕ)) (t : List ℕ) (r : Right id
 -- ---- a day
 
 -- what is kept to, from where the day has had the packets `before`: u is the morning's table
-record On (ids : List ℕ) (first : List (List ℕ)) (u : List ℕ) (before packets : List (List ℕ)) (answers : List (Outcome Heard)) (stops : List Stop)
+record DayOn (ids : List ℕ) (first : List (List ℕ)) (u : List ℕ) (before packets : List (List ℕ)) (answers : List (Outcome Heard)) (stops : List Stop)
     (last : List ℕ) : Type 0 where
   right : Right ids ((first ++ before) ++ packets) last
   ruled : answers ≡ answersAfter (traceOf ids (first ++ before)) (traceOf ids packets)
@@ -160,7 +160,7 @@ record On (ids : List ℕ) (first : List (List ℕ)) (u : List ℕ) (before pack
 
 module _ (ids : List ℕ) (first : List (List ℕ)) (u : List ℕ) (morning : Right ids first u) where
   day-on : {before packets : List (List ℕ)} {t last : List ℕ} {answers : List (Outcome Heard)} {later : List Stop} → Right ids (first ++ before) t
-      → Day ours before t packets answers later last → On ids first u before packets answers later last
+      → Day ours before t packets answers later last → DayOn ids first u before packets answers later last
   day-on {before} r over = record { right = rw (append-nil (first ++ before)) r; ruled = refl; pages = tt }
   day-on {before} {t = t} r (plays {packets = packets} {last = last} {answers = answers} ws d) =
       let more : first ++ (before ++ (ws ∷ [])) ≡ (first ++ before) ++ (ws ∷ []) = sym (append-assoc first before (ws ∷ [])) in

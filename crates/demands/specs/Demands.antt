@@ -23,7 +23,7 @@ use Rattle.demands.specs.Trace.{traceOf, answersAfter}
 use Rattle.demands.specs.Program.{Program, Accepts, AreWords, playAll, saidAll}
 use Rattle.demands.specs.FieldFound.{FieldFound}
 use Rattle.demands.specs.Right.{Right, pastOf}
-use Rattle.demands.specs.Shown.{Shown}
+use Rattle.demands.specs.PanelShows.{PanelShows}
 use Rattle.demands.specs.Resumed.{Saves, Resumes, Stop, Day, DayRight}
 use Rattle.demands.specs.Recording.{Runs}
 use Rattle.demands.specs.PastUnread.{IsLayout, PastUnread}
@@ -38,6 +38,7 @@ pub record Demand1 : Type 0 where
   pub once : Each OneOutcome calls
   -- "Bad packets, tables, pages and formats are refused with the number in our list, given exactly when the list says."
   pub numbers : InOrder
+  -- and which tables and pages are bad
   pub well-made : Judged
   -- "A refusal changes no word of any buffer it was lent."
   pub refusals : Each RefusalLeaves calls
@@ -91,8 +92,8 @@ pub record Demand3 (P : Program) : Type 0 where
   pub past : (ids t : List ℕ) (d : Done ℕ (List ℕ)) → P .start ids t ≡ accepted d → (packets : List (List ℕ))
       → pastOf ids (playAll P (d .leaves) packets) ≡ pastOf ids t
   -- what the panel and the caller see of a stream is that value, and these counts
-  pub shows : (ids : List ℕ) (packets : List (List ℕ)) (t : List ℕ) → Right ids packets t → (s : ℕ) → s < length ids → Shown P ids packets t s
-  -- the same of many packets in one slice of words
+  pub shows : (ids : List ℕ) (packets : List (List ℕ)) (t : List ℕ) → Right ids packets t → (s : ℕ) → s < length ids → PanelShows P ids packets t s
+  -- many packets in one slice of words are played as one by one
   pub runs : Runs P
   -- "A lent table may be longer than its layout: words past it are neither read nor changed": two tables with one layout get the same answers and layouts
   pub unread : (l x : List ℕ) → IsLayout l → PastUnread P l x

@@ -9,7 +9,7 @@ pub mod Trace
 -- tables that the rules fix
 pub mod Right
 -- what the panel and the caller see
-pub mod Shown
+pub mod PanelShows
 -- stopping and resuming, any number of times
 pub mod Resumed
 -- words past a table's layout
