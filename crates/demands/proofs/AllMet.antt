@@ -5,28 +5,39 @@ use Rattle.demands.specs.Calls.{calls}
 use Rattle.demands.specs.Program.{ours}
 use Rattle.demands.specs.Demands.{Demand1, Demand2, Demand3}
 use Rattle.demands.proofs.Sources.{sources}
+use Rattle.demands.proofs.Answered.{some-outcome}
 use Rattle.demands.proofs.Once.{one-outcome, each-refusal}
 use Rattle.demands.proofs.InOrder.{in-order}
 use Rattle.demands.proofs.WellMade.{judged}
+use Rattle.demands.proofs.FieldFound.{fields-found}
 use Rattle.demands.proofs.Again.{written-again}
 use Rattle.demands.proofs.Back.{written-back}
 use Rattle.demands.proofs.RoundTrip.{pack-then-unpack, unpack-then-pack}
 use Rattle.demands.proofs.RightLaws.{start-accepts, right-start, right-on, answers-on, past-on}
 use Rattle.demands.proofs.Resumed.{saves, resumes, no-room, days}
-use Rattle.demands.proofs.Shown.{shows}
+use Rattle.demands.proofs.PanelShows.{shows}
 use Rattle.demands.proofs.RunLaws.{runs}
 use Rattle.demands.proofs.PastUnread.{past-unread}
 use Rattle.demands.proofs.Separate.{apart, refused-apart}
 
 pub demand-1 : Demand1
-demand-1 = record { sources = sources; once = one-outcome; numbers = in-order; well-made = judged; refusals = each-refusal calls }
+demand-1 = record {
+  sources = sources;
+  answered = some-outcome;
+  once = one-outcome;
+  numbers = in-order;
+  well-made = judged;
+  refusals = each-refusal calls;
+}
 
 pub demand-2 : Demand2 ours
 demand-2 = record {
   reads = λ ws. refl;
+  finds = λ b body. refl;
   writes = λ p body out at. refl;
   packs = λ first second items events channels out. refl;
   unpacks = λ first second n ws b. refl;
+  fields = fields-found;
   again = written-again;
   back = written-back;
   unpacked = pack-then-unpack;

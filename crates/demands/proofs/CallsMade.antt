@@ -1,5 +1,5 @@
 -- Demand 3 of calls as they are made. The idea: an outcome that meets a promise is the one that the definition gives, answer and lent words; so calls one
--- after the other are `playAll` and `saidAll`.
+-- after the other are `playAll` and `saidAll` (`played`), and a day of calls is a day of the definitions (`day`).
 use Rattle.words.proofs.Kit.{_≡_, refl, sym, ap, _∙_, List, [], _∷_, ℕ, true, take}
 use mathlib.Core.List.{map}
 use Rattle.words.specs.Outcome.{accepted, saidOf}
@@ -47,9 +47,8 @@ saved t page m = let k = meets-accepted (m .meets) (m .accepts) in cc (m .wrote,
 day : {before packets : List (List ℕ)} {t last : List ℕ} {rs : List Played} {stops : List Stop} → DayMade before t packets rs stops last
     → Day ours before t packets (map playedPaper rs) stops last
 day over = Resumed.over
-day {before} {t = t} (Made.plays {packets = packets} {ws = ws} {after = after} {last = last} {r = r} {rs = rs} {stops = stops} m d) =
-    rw (m .answer) (Resumed.plays ws (rw (m .buffer) at (day d)))
-day {before} {t = t} (Made.stops {page = page} {back = back} {later = later} s b d) =
+day (Made.plays {ws = ws} m d) = rw (m .answer) (Resumed.plays ws (rw (m .buffer) at (day d)))
+day {t = t} (Made.stops {page = page} s b d) =
     let k = meets-accepted (s .meets) (s .accepts) in
     let e : page ≡ take (k .done .says) (k .done .leaves) = saved t page s in
     let l = meets-accepted (b .meets) (b .accepts) in

@@ -2,12 +2,16 @@
 
 -- proofs one after the other
 pub mod Listing
+-- some outcome meets every promise
+pub mod Answered
 -- every promise leaves one outcome, and a refusal the lent words
 pub mod Once
 -- each call gives the first refusal of its list that applies
 pub mod InOrder
 -- which tables and pages are well made
 pub mod WellMade
+-- the fields of a Context packet are found
+pub mod FieldFound
 -- an accepted packet written again gives the same words, and what was written reads back
 pub mod Again
 pub mod Back
@@ -26,7 +30,7 @@ pub mod RightLaws
 -- the rules leave nothing open
 pub mod Determined
 -- what is seen is what is held
-pub mod Shown
+pub mod PanelShows
 -- stopping and resuming, any number of times
 pub mod Resumed
 -- words past a table's layout

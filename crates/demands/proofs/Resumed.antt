@@ -55,7 +55,7 @@ module _ (ids : List ℕ) (packets : List (List ℕ)) (t rest : List ℕ) (r : R
 
 -- ---- saving
 
--- its page, which it saves where there is room
+-- a well-made table saves its page where there is room, and else gives ROOM
 pub saves-as : (t : List ℕ) → wellMade t ≡ true → SavesAs ours t (pageOf t)
 saves-as t w lent h =
     let l : pageLength t ≡ length (pageOf t) = sym (page-whole t w) in
@@ -89,7 +89,7 @@ page-words t buffer w e s =
 pub saved-page : (t p : List ℕ) → wellMade t ≡ true → SavesAs ours t p → pageOf t ≡ p
 saved-page t p w f = sym (page-words t p w _ (f p (omega arith))) ∙ take-at p (drop (length p) p) (length p) refl
 
--- a page looks at the layout alone
+-- tables that are right for the same packets have one page, since a page looks at the layout alone
 page-layout : (ids : List ℕ) (packets : List (List ℕ)) (t u : List ℕ) → Right ids packets t → Right ids packets u → pageOf t ≡ pageOf u
 page-layout ids packets t u p q =
     let back : (v : List ℕ) → Right ids packets v → (rest : List ℕ) → pageOf (layoutOf ids v ++ rest) ≡ pageOf v =
@@ -144,15 +144,15 @@ module _ (ids : List ℕ) (first : List (List ℕ)) (t : List ℕ) (r : Right id
       let same : record { says = base (length ids); leaves = back } ≡ done = accepted-same (sym (put-back h) ∙ e) in
       rw (ap (λ (d : Done ℕ (List ℕ)). d .leaves) same) at here)
       (λ (h : length lent < base (length ids)).
-      let both : refused ROOM ≡ accepted done = sym (no-room h) ∙ e in
+      let no : refused ROOM ≡ accepted done = sym (no-room h) ∙ e in
       let z : _≡_ {A = ℕ} 0 1 = cc in
       absurd (omega arith))
       (le-or-lt (base (length ids)) (length lent))
 
 -- ---- a day
 
--- what is kept to, from where the day has had the packets `before`: u is the morning's table
-record On (ids : List ℕ) (first : List (List ℕ)) (u : List ℕ) (before packets : List (List ℕ)) (answers : List (Outcome Heard)) (stops : List Stop)
+-- what holds of a day from where it has had the packets `before`; u is the morning's table
+record DayOn (ids : List ℕ) (first : List (List ℕ)) (u : List ℕ) (before packets : List (List ℕ)) (answers : List (Outcome Heard)) (stops : List Stop)
     (last : List ℕ) : Type 0 where
   right : Right ids ((first ++ before) ++ packets) last
   ruled : answers ≡ answersAfter (traceOf ids (first ++ before)) (traceOf ids packets)
@@ -160,9 +160,9 @@ record On (ids : List ℕ) (first : List (List ℕ)) (u : List ℕ) (before pack
 
 module _ (ids : List ℕ) (first : List (List ℕ)) (u : List ℕ) (morning : Right ids first u) where
   day-on : {before packets : List (List ℕ)} {t last : List ℕ} {answers : List (Outcome Heard)} {later : List Stop} → Right ids (first ++ before) t
-      → Day ours before t packets answers later last → On ids first u before packets answers later last
+      → Day ours before t packets answers later last → DayOn ids first u before packets answers later last
   day-on {before} r over = record { right = rw (append-nil (first ++ before)) r; ruled = refl; pages = tt }
-  day-on {before} {t = t} r (plays {packets = packets} {last = last} {answers = answers} ws d) =
+  day-on {before} {t = t} r (plays {packets = packets} ws d) =
       let more : first ++ (before ++ (ws ∷ [])) ≡ (first ++ before) ++ (ws ∷ []) = sym (append-assoc first before (ws ∷ [])) in
       let k = day-on (rw more (right-more ids (first ++ before) t r ws)) d in
       record {

@@ -84,43 +84,43 @@ apart ids t u r q s h ps qs a =
 -- ---- refused packets
 
 -- a trace without its refused packets
-abbrev heeded : Trace → Trace
-heeded trace = map accepted (acceptedOf trace)
+abbrev unrefused : Trace → Trace
+unrefused trace = map accepted (acceptedOf trace)
 
-heeded-append : (xs ys : Trace) → heeded (xs ++ ys) ≡ heeded xs ++ heeded ys
-heeded-append [] ys = refl
-heeded-append (refused n ∷ xs) ys = heeded-append xs ys
-heeded-append (accepted a ∷ xs) ys = ap (λ (l : Trace). accepted a ∷ l) (heeded-append xs ys)
+unrefused-append : (xs ys : Trace) → unrefused (xs ++ ys) ≡ unrefused xs ++ unrefused ys
+unrefused-append [] ys = refl
+unrefused-append (refused n ∷ xs) ys = unrefused-append xs ys
+unrefused-append (accepted a ∷ xs) ys = ap (λ (l : Trace). accepted a ∷ l) (unrefused-append xs ys)
 
-own-heeded : (s : ℕ) (trace : Trace) → own s trace ≡ own s (heeded trace)
-own-heeded s [] = refl
-own-heeded s (refused n ∷ trace) = own-heeded s trace
-own-heeded s (accepted a ∷ trace) = ap (λ (l : List Arrival). pick (eqb (a .stream) s) (a ∷ l) l) (own-heeded s trace)
+own-unrefused : (s : ℕ) (trace : Trace) → own s trace ≡ own s (unrefused trace)
+own-unrefused s [] = refl
+own-unrefused s (refused n ∷ trace) = own-unrefused s trace
+own-unrefused s (accepted a ∷ trace) = ap (λ (l : List Arrival). pick (eqb (a .stream) s) (a ∷ l) l) (own-unrefused s trace)
 
 -- the accepted answers are those of the trace without them
-answers-heeded : (before trace : Trace) → acceptedOf (answersAfter before trace) ≡ acceptedOf (answersAfter (heeded before) (heeded trace))
-answers-heeded before [] = refl
-answers-heeded before (refused n ∷ trace) =
-    answers-heeded (before ++ (refused n ∷ [])) trace
-    ∙ ap (λ (l : Trace). acceptedOf (answersAfter l (heeded trace))) (heeded-append before (refused n ∷ []) ∙ append-nil (heeded before))
-answers-heeded before (accepted a ∷ trace) =
-    rw (answers-heeded (before ++ (accepted a ∷ [])) trace, heeded-append before (accepted a ∷ []), own-heeded (a .stream) before)
+answers-unrefused : (before trace : Trace) → acceptedOf (answersAfter before trace) ≡ acceptedOf (answersAfter (unrefused before) (unrefused trace))
+answers-unrefused before [] = refl
+answers-unrefused before (refused n ∷ trace) =
+    answers-unrefused (before ++ (refused n ∷ [])) trace
+    ∙ ap (λ (l : Trace). acceptedOf (answersAfter l (unrefused trace))) (unrefused-append before (refused n ∷ []) ∙ append-nil (unrefused before))
+answers-unrefused before (accepted a ∷ trace) =
+    rw (answers-unrefused (before ++ (accepted a ∷ [])) trace, unrefused-append before (accepted a ∷ []), own-unrefused (a .stream) before)
 
 pub refused-apart : (ids : List ℕ) → RefusedApart ours ids
 refused-apart ids = record {
   unowned = λ ws n e s. rw e;
   answer = λ packets t r ws n e. play-is ids t (right-listed r) ws ∙ rw e;
   altered = λ before ps qs t u r q e.
-      let same : heeded (traceOf ids ps) ≡ heeded (traceOf ids qs) = ap (map accepted) e in
+      let same : unrefused (traceOf ids ps) ≡ unrefused (traceOf ids qs) = ap (map accepted) e in
       let said : (v : List ℕ) → Right ids before v → (xs : List (List ℕ))
-      → acceptedOf (saidAll ours v xs) ≡ acceptedOf (answersAfter (heeded (traceOf ids before)) (heeded (traceOf ids xs))) =
-      λ v k xs. ap acceptedOf (answers-on ids before xs v k) ∙ answers-heeded (traceOf ids before) (traceOf ids xs) in
-      let owned : (s : ℕ) (xs : List (List ℕ)) → own s (traceOf ids (before ++ xs)) ≡ own s (traceOf ids before) ++ own s (heeded (traceOf ids xs)) =
+      → acceptedOf (saidAll ours v xs) ≡ acceptedOf (answersAfter (unrefused (traceOf ids before)) (unrefused (traceOf ids xs))) =
+      λ v k xs. ap acceptedOf (answers-on ids before xs v k) ∙ answers-unrefused (traceOf ids before) (traceOf ids xs) in
+      let owned : (s : ℕ) (xs : List (List ℕ)) → own s (traceOf ids (before ++ xs)) ≡ own s (traceOf ids before) ++ own s (unrefused (traceOf ids xs)) =
       λ s xs.
       ap (own s) (trace-append ids before xs) ∙ own-append s (traceOf ids before) (traceOf ids xs)
-      ∙ ap (λ (l : List Arrival). own s (traceOf ids before) ++ l) (own-heeded s (traceOf ids xs)) in (
+      ∙ ap (λ (l : List Arrival). own s (traceOf ids before) ++ l) (own-unrefused s (traceOf ids xs)) in (
         layouts-same ids (before ++ ps) (before ++ qs) _ _ (right-on ids before ps t r) (right-on ids before qs u q)
             (λ s. owned s ps ∙ ap (λ (l : Trace). own s (traceOf ids before) ++ own s l) same ∙ sym (owned s qs)),
-        said t r ps ∙ ap (λ (l : Trace). acceptedOf (answersAfter (heeded (traceOf ids before)) l)) same ∙ sym (said u q qs),
+        said t r ps ∙ ap (λ (l : Trace). acceptedOf (answersAfter (unrefused (traceOf ids before)) l)) same ∙ sym (said u q qs),
       );
 }

@@ -28,6 +28,11 @@ pub data Call : Type 1 where
   answers : {H A B : Type 0} → (A → B) → (H → B) → Call
   lends : {H A B L : Type 0} → (A → Outcome B) → (H → Outcome (Done B L)) → (H → L) → Call
 
+-- "gets an answer": whatever is handed in, some answer, with lent words afterwards, meets the promise
+abbrev pub SomeOutcome : Call → Type 0
+SomeOutcome (answers {H} {A} paper want) = (h : H) → (r : A) × (paper r ≡ want h)
+SomeOutcome (lends {H} {A} {B} {L} paper want lent) = (h : H) → (r : A) × (after : L) × Meets paper (want h) (lent h) r after
+
 -- "Prove that two outcomes meeting it are equal": the answers, and the lent words afterwards
 abbrev pub OneOutcome : Call → Type 0
 OneOutcome (answers {H} {A} paper want) = (h : H) (r s : A) → paper r ≡ want h → paper s ≡ want h → r ≡ s

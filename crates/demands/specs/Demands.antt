@@ -4,6 +4,7 @@ use Rattle.words.specs.Kit.{_≡_, ℕ, _+_, _≤_, _<_, true, List, [], _++_, 
 use Rattle.words.specs.Numbers.{ROOM}
 use Rattle.words.specs.Part.{part}
 use Rattle.words.specs.Outcome.{Outcome, refused, accepted, Done, saidOf, leftOf}
+use Rattle.fields.specs.Layout.{foundOf}
 use Rattle.packet.specs.declared.Packet.{Packet}
 use Rattle.packet.specs.declared.Parts.{Parts}
 use Rattle.packet.specs.Parts.{bodyAt}
@@ -14,15 +15,16 @@ use Rattle.payload_pack.specs.Pack.{packOf}
 use Rattle.table.specs.Layout.{base, recordAt}
 use Rattle.table.specs.Identifiers.{listed, listGood}
 use Rattle.play.specs.declared.Heard.{Heard}
-use Rattle.demands.specs.Calls.{OneOutcome, RefusalLeaves, Each, calls}
+use Rattle.demands.specs.Calls.{SomeOutcome, OneOutcome, RefusalLeaves, Each, calls}
 use Rattle.demands.specs.Sources.{Sources}
 use Rattle.demands.specs.Refusals.{InOrder}
 use Rattle.demands.specs.WellMade.{Judged}
 use Rattle.demands.specs.Clean.{Clean}
 use Rattle.demands.specs.Trace.{traceOf, answersAfter}
 use Rattle.demands.specs.Program.{Program, Accepts, AreWords, playAll, saidAll}
+use Rattle.demands.specs.FieldFound.{FieldFound}
 use Rattle.demands.specs.Right.{Right, pastOf}
-use Rattle.demands.specs.Shown.{Shown}
+use Rattle.demands.specs.PanelShows.{PanelShows}
 use Rattle.demands.specs.Resumed.{Saves, Resumes, Stop, Day, DayRight}
 use Rattle.demands.specs.Recording.{Runs}
 use Rattle.demands.specs.PastUnread.{IsLayout, PastUnread}
@@ -32,12 +34,14 @@ use Rattle.demands.specs.Altered.{Altered, ownAnswers, RefusedApart}
 
 pub record Demand1 : Type 1 where
   -- "Every word slice handed in gets an answer, and each call finishes": no public call asks anything of what it is handed, and each promise is its function's
-  -- own; that the code returns and keeps it says proofs/Sources.antt
+  -- own (that the code returns and keeps it says proofs/Sources.antt)
   pub sources : Sources
-  -- the promise of each leaves one outcome, answer and lent words
+  -- the promise of each is met by some outcome, answer and lent words, whatever is handed in, and leaves one
+  pub answered : Each SomeOutcome calls
   pub once : Each OneOutcome calls
   -- "Bad packets, tables, pages and formats are refused with the number in our list, given exactly when the list says."
   pub numbers : InOrder
+  -- and which tables and pages are bad
   pub well-made : Judged
   -- "A refusal changes no word of any buffer it was lent."
   pub refusals : Each RefusalLeaves calls
@@ -47,10 +51,13 @@ pub record Demand1 : Type 1 where
 pub record Demand2 (P : Program) : Type 0 where
   -- the layouts of document 01
   pub reads : (ws : List ℕ) → P .read ws ≡ readOf ws
+  pub finds : (b : ℕ) (body : List ℕ) → P .find b body ≡ foundOf b body
   pub writes : (p : Parts) (body out : List ℕ) (at : ℕ) → P .write p body out at ≡ writeOf p body out at
   pub packs : (first second : ℕ) (items events channels out : List ℕ)
       → P .pack first second items events channels out ≡ packOf first second items events channels out
   pub unpacks : (first second n : ℕ) (ws : List ℕ) (b : Buffers) → P .unpack first second n ws b ≡ unpackOf first second n ws b
+  -- "context fields .. are read": of an accepted Context packet, each field that the indicator carries is found, and no other
+  pub fields : (ws : List ℕ) (p : Packet) → P .read ws ≡ accepted p → p .parts .kind ≡ 4 → (b : ℕ) → FieldFound P b (part (p .place) (p .length) ws)
   -- "An accepted packet written again gives the same words": its parts and body, written anywhere with room
   pub again : (ws : List ℕ) → AreWords ws → (p : Packet) → P .read ws ≡ accepted p → (out : List ℕ) (at : ℕ) → at + p .size ≤ length out
       → P .write (p .parts) (part (p .place) (p .length) ws) out at
@@ -88,8 +95,8 @@ pub record Demand3 (P : Program) : Type 0 where
   pub past : (ids t : List ℕ) (d : Done ℕ (List ℕ)) → P .start ids t ≡ accepted d → (packets : List (List ℕ))
       → pastOf ids (playAll P (d .leaves) packets) ≡ pastOf ids t
   -- what the panel and the caller see of a stream is that value, and these counts
-  pub shows : (ids : List ℕ) (packets : List (List ℕ)) (t : List ℕ) → Right ids packets t → (s : ℕ) → s < length ids → Shown P ids packets t s
-  -- the same of many packets in one slice of words
+  pub shows : (ids : List ℕ) (packets : List (List ℕ)) (t : List ℕ) → Right ids packets t → (s : ℕ) → s < length ids → PanelShows P ids packets t s
+  -- many packets in one slice of words are played as one by one
   pub runs : Runs P
   -- "A lent table may be longer than its layout: words past it are neither read nor changed": two tables with one layout get the same answers and layouts
   pub unread : (l x : List ℕ) → IsLayout l → PastUnread P l x

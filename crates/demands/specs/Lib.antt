@@ -9,7 +9,7 @@ pub mod Trace
 -- tables that the rules fix
 pub mod Right
 -- what the panel and the caller see
-pub mod Shown
+pub mod PanelShows
 -- stopping and resuming, any number of times
 pub mod Resumed
 -- words past a table's layout
@@ -24,6 +24,8 @@ pub mod Recording
 pub mod Refusals
 -- which tables and pages are well made
 pub mod WellMade
+-- the fields of a Context packet
+pub mod FieldFound
 -- packed words, as a writer makes them
 pub mod Clean
 -- every public call, with its promise

@@ -2,6 +2,7 @@
 -- project: each call by the definition that its promise cites, so that what is proved of `ours` is proved of the code.
 use Rattle.words.specs.Kit.{_≡_, ℕ, _^_, _<_, Bool, List, [], _∷_, getD}
 use Rattle.words.specs.Outcome.{Outcome, accepted, Done, saidOf, leftOf}
+use Rattle.fields.specs.Layout.{foundOf}
 use Rattle.packet.specs.declared.Packet.{Packet}
 use Rattle.packet.specs.declared.Parts.{Parts}
 use Rattle.packet.specs.Read.{readOf}
@@ -19,9 +20,11 @@ use Rattle.page.specs.PutBack.{putBackOf}
 use Rattle.panel.specs.HeldWords.{heldWordsOf}
 use Rattle.panel.specs.Readings.{Reading, readingOf}
 
--- what its calls answer, each by the words that it is handed; `Done` has what an accepted call says and the lent words afterwards
+-- what its calls answer, each by the words that it is handed; `Done` has what an accepted call says and the lent words afterwards. `find` gives the place of a
+-- field and its number of words, or nothing
 pub record Program : Type 0 where
   pub read : List ℕ → Outcome Packet
+  pub find : (bit : ℕ) (body : List ℕ) → List ℕ
   pub write : Parts → (body out : List ℕ) (at : ℕ) → Outcome (Done ℕ (List ℕ))
   pub pack : (first second : ℕ) (items events channels out : List ℕ) → Outcome (Done ℕ (List ℕ))
   pub unpack : (first second n : ℕ) → List ℕ → Buffers → Outcome (Done ℕ Buffers)
@@ -39,6 +42,7 @@ pub record Program : Type 0 where
 abbrev pub ours : Program
 ours = record {
   read = readOf;
+  find = foundOf;
   write = writeOf;
   pack = packOf;
   unpack = unpackOf;

@@ -23,7 +23,7 @@ wordsBy none = []
 wordsBy (some v) = v
 
 -- of stream s, in a table t that is right for the packets
-pub record Shown (P : Program) (ids : List ℕ) (packets : List (List ℕ)) (t : List ℕ) (s : ℕ) : Type 0 where
+pub record PanelShows (P : Program) (ids : List ℕ) (packets : List (List ℕ)) (t : List ℕ) (s : ℕ) : Type 0 where
   pub reading : (b : ℕ) → kept b ≡ true → P .reading t s b ≡ accepted (shownBy b (lastCarried b (own s (traceOf ids packets))))
   -- the words, where they fit; and ROOM
   pub heldWords : (b : ℕ) → kept b ≡ true → (out : List ℕ)

@@ -19,7 +19,7 @@ use Rattle.panel.specs.Readings.{absent, shownOf, isHeld, recordShows, readingL
 use Rattle.demands.specs.Trace.{traceOf, own, kept, lastCarried, countedTypes, countsOf, countRule}
 use Rattle.demands.specs.Program.{ours}
 use Rattle.demands.specs.Right.{heldIn, Right}
-use Rattle.demands.specs.Shown.{shownBy, wordsBy, Shown}
+use Rattle.demands.specs.PanelShows.{shownBy, wordsBy, PanelShows}
 use Rattle.demands.proofs.Listing.{_and_}
 
 -- ---- a record
@@ -73,5 +73,5 @@ module _ (ids : List ℕ) (packets : List (List ℕ)) (t : List ℕ) (r : Right 
   counts-stand kind o =
       sym (part-part (countAt (orderOf kind)) 3 (base s) recordWords t (omega (arith, order-small kind))) ∙ r .counts s h kind o
 
-  pub shows : Shown ours ids packets t s
+  pub shows : PanelShows ours ids packets t s
   shows = record { reading = shown; heldWords = held-words-last; no-room = held-words-room; counts = counts-stand }
