@@ -1,4 +1,4 @@
--- What holds of every call for C. The idea: a promise names the number and all lent places, so two outcomes that meet it are equal, and a refusal leaves the
+-- What holds of every call for C. The idea: a promise names the number and all lent places, so one outcome meets it and no other, and a refusal leaves the
 -- places; a call's definition is its list of refusals and an answer (`listed`), so its number is the first of the list, and none of these is 0.
 use Rattle.words.proofs.Kit.{_≡_, refl, sym, ap, _∙_, Bool, true, false, List, [], _∷_, ℕ, _<_, arith, needs}
 use Rattle.words.specs.Tests.{pick}
@@ -21,13 +21,17 @@ use Rattle.panel.specs.Readings.{readingOf}
 use Rattle.panel.specs.HeldWords.{heldWordsOf}
 use Rattle.vrt49.specs.Answers.{Tells, placesOf}
 use Rattle.vrt49.specs.Packets.{writeWordsOf}
-use Rattle.vrt49.specs.Calls.{CallForC, answers, tells, OnceForC, LeavesForC, OrderForC, ZeroForC, EachForC, callsForC}
+use Rattle.vrt49.specs.Calls.{CallForC, answers, tells, OnceForC, SomeForC, LeavesForC, OrderForC, ZeroForC, EachForC, callsForC}
 
 -- ---- what every promise gives
 
 once-for-c : (c : CallForC) → OnceForC c
 once-for-c (answers want) = λ h r s p q. p ∙ sym q
 once-for-c (tells want values lent list numbers) = λ h r s after after′ p q. (p .number ∙ sym (q .number), p .places ∙ sym (q .places))
+
+some-for-c : (c : CallForC) → SomeForC c
+some-for-c (answers want) = λ h. (want h, refl)
+some-for-c (tells want values lent list numbers) = λ h. (numberOf (want h), placesOf values (want h) (lent h), record { number = refl; places = refl })
 
 refusal-places : {A L : Type 0} (values : A → L) (want : Outcome A) (before : L) → 0 < numberOf want → placesOf values want before ≡ before
 refusal-places values (refused n) before h = refl
@@ -116,6 +120,9 @@ every-listed P f (c ∷ cs) k = (f c (k .0), every-listed P f cs (k .1))
 
 pub every-once : EachForC OnceForC callsForC
 every-once = every OnceForC once-for-c callsForC
+
+pub every-some : EachForC SomeForC callsForC
+every-some = every SomeForC some-for-c callsForC
 
 pub every-leaves : EachForC LeavesForC callsForC
 every-leaves = every LeavesForC leaves-for-c callsForC

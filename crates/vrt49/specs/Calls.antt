@@ -41,6 +41,11 @@ OnceForC (answers {H} want) = (h : H) (r s : ℕ) → r ≡ want h → s ≡ wan
 OnceForC (tells {H} {A} {L} want values lent list numbers) =
     (h : H) (r s : ℕ) (after after′ : L) → Tells values (want h) (lent h) r after → Tells values (want h) (lent h) s after′ → (r ≡ s) × (after ≡ after′)
 
+-- it "gets an answer": whatever it is handed, some outcome meets the promise
+abbrev pub SomeForC : CallForC → Type 0
+SomeForC (answers {H} want) = (h : H) → (r : ℕ) × (r ≡ want h)
+SomeForC (tells {H} {A} {L} want values lent list numbers) = (h : H) → (r : ℕ) × (after : L) × Tells values (want h) (lent h) r after
+
 -- "A refusal changes no word of any buffer it was lent": no lent place
 abbrev pub LeavesForC : CallForC → Type 0
 LeavesForC (answers want) = Unit
