@@ -15,12 +15,12 @@ use Rattle.packet_write.specs.Write.{writeOf}
 use Rattle.packet_write.specs.inner.Given.{partsIn}
 use Rattle.vrt49.specs.Packets.{partsOf, flagsOver, wordsList, wordsChecks, writeWordsOf}
 
--- what words that pass are: their type is not above 5, and their flags fit
-words-passed : (ws : List ℕ) → wordsChecks ws ≡ accepted tt → (ltb 5 (getD ws 0 0) ≡ false) × (flagsOver ws ≡ false)
+-- the flags of words that pass fit
+flags-passed : (ws : List ℕ) → wordsChecks ws ≡ accepted tt → flagsOver ws ≡ false
 unfolding wordsChecks
-words-passed ws e = let p = first-passed (wordsList ws) _ tt e .0 in (p .0, p .1 .0)
+flags-passed ws e = first-passed (wordsList ws) _ tt e .0 .1 .0
 
--- the three flags among them are 0 or 1
+-- they are 0 or 1
 flags-small : (ws : List ℕ) → flagsOver ws ≡ false → (getD ws 1 0 < 2) × (getD ws 2 0 < 2) × (getD ws 3 0 < 2)
 flags-small ws e =
     let c = either-passed (ltb 1 (getD ws 1 0)) _ e in
@@ -55,5 +55,5 @@ module _ (ws : List ℕ) (found : Check) (f : checked found ≡ wordsChecks ws) 
   pub words-written : found ≡ Check.Fine → (body out left : List ℕ) (at : ℕ) (r : Length) → Meets measured (writeOf (partsIn ws) body out at) out r left
       → Meets measured (writeWordsOf ws body out at) out r left
   words-written fine body out left at r m =
-      let e = words-passed ws (sym f ∙ ap checked fine) .1 in
+      let e = flags-passed ws (sym f ∙ ap checked fine) in
       rw (words-fine ws body out at e, ← parts-same ws e) m
