@@ -1,7 +1,7 @@
 // What the calls of libvrt49.a are measured against: read, write, play, save and put back in C by hand, with the same checks in the
 // same order and the same entries written. The tests of bodies, records and tables are those of the play bench.
 #include "../play/by_hand.c"
-enum { COUNT = 17, ROOM = 13, VALUE = 14, SIZE = 15, PAGE = 19, MOST = 65535 };
+enum { ROOM = 13, VALUE = 14, SIZE = 15, PAGE = 19, MOST = 65535 };
 // where the parts that a header announces begin, and how many words are required
 struct places {
     u32 class, seconds, fraction, body, required;
@@ -16,9 +16,7 @@ static inline struct places places_of(u32 h) {
     p.required = p.body + trailed + (kind == 4);
     return p;
 }
-u32 c_read(const u32 *w, size_t n, u32 *a, size_t an) {
-    if (an < 18)
-        return ROOM;
+u32 c_read(const u32 *w, size_t n, u32 *a) {
     if (!n)
         return EMPTY;
     u32 h = w[0], kind = h >> 28, size = h & 0xffff, tsi = h >> 22 & 3, tsf = h >> 20 & 3;
@@ -64,11 +62,7 @@ u32 c_read(const u32 *w, size_t n, u32 *a, size_t an) {
     a[17] = trailed ? w[size - 1] : 0;
     return 0;
 }
-u32 c_write(const u32 *q, size_t qn, const u32 *body, size_t n, u32 *out, size_t room, size_t at, u32 *a, size_t an) {
-    if (an < 1)
-        return ROOM;
-    if (qn != 15)
-        return COUNT;
+u32 c_write(const u32 *q, const u32 *body, size_t n, u32 *out, size_t room, size_t at, size_t *written) {
     u32 kind = q[0], classed = q[1], trailed = q[2], tsm = q[3], tsi = q[4], tsf = q[5];
     if (kind > 5)
         return TYPE;
@@ -109,14 +103,12 @@ u32 c_write(const u32 *q, size_t qn, const u32 *body, size_t n, u32 *out, size_t
     memcpy(w, body, n * 4);
     if (trailed)
         w[n] = q[14];
-    a[0] = size;
+    *written = size;
     return 0;
 }
-u32 c_play(u32 *t, size_t tn, const u32 *w, size_t n, u32 *a, size_t an) {
+u32 c_play(u32 *t, size_t tn, const u32 *w, size_t n, u32 *a) {
     struct packet p;
     u32 missing, refused;
-    if (an < 4)
-        return ROOM;
     if (!table_good(t, tn))
         return TABLE;
     refused = read_packet(w, n, &p);
@@ -140,9 +132,7 @@ static inline size_t held_words(u32 held) {
     }
     return n;
 }
-u32 c_save(const u32 *t, size_t tn, u32 *page, size_t room, u32 *a, size_t an) {
-    if (an < 1)
-        return ROOM;
+u32 c_save(const u32 *t, size_t tn, u32 *page, size_t room, size_t *written) {
     if (!table_good(t, tn))
         return TABLE;
     size_t streams = t[0], length = 2 + 2 * streams, at = length;
@@ -169,7 +159,7 @@ u32 c_save(const u32 *t, size_t tn, u32 *page, size_t room, u32 *a, size_t an) {
         page[3 + 2 * s] = b - page - at;
         at = b - page;
     }
-    a[0] = length;
+    *written = length;
     return 0;
 }
 // A record out of the body at b.
@@ -209,9 +199,7 @@ static int page_good(const u32 *p, size_t n) {
     }
     return 1;
 }
-u32 c_put_back(const u32 *p, size_t n, u32 *t, size_t tn, u32 *a, size_t an) {
-    if (an < 1)
-        return ROOM;
+u32 c_put_back(const u32 *p, size_t n, u32 *t, size_t tn, size_t *written) {
     if (!page_good(p, n))
         return PAGE;
     size_t streams = p[0];
@@ -220,6 +208,6 @@ u32 c_put_back(const u32 *p, size_t n, u32 *t, size_t tn, u32 *a, size_t an) {
     t[0] = streams;
     for (size_t s = 0; s < streams; s++)
         fill_record(t + 1 + RECORD * s, p + p[2 + 2 * s]);
-    a[0] = 1 + RECORD * streams;
+    *written = 1 + RECORD * streams;
     return 0;
 }

@@ -9,11 +9,11 @@ typedef uint32_t u32;
 #define OF(side, call) NAME(side, call)
 #define CALL(call) OF(SIDE, call)
 #define REPEAT(answer) for (size_t i = 0; i < times; i++) r |= answer
-u32 CALL(read)(const u32 *, size_t, u32 *, size_t);
-u32 CALL(write)(const u32 *, size_t, const u32 *, size_t, u32 *, size_t, size_t, u32 *, size_t);
-u32 CALL(play)(u32 *, size_t, const u32 *, size_t, u32 *, size_t);
-u32 CALL(save)(const u32 *, size_t, u32 *, size_t, u32 *, size_t);
-u32 CALL(put_back)(const u32 *, size_t, u32 *, size_t, u32 *, size_t);
+u32 CALL(read)(const u32 *, size_t, u32 *);
+u32 CALL(write)(const u32 *, const u32 *, size_t, u32 *, size_t, size_t, size_t *);
+u32 CALL(play)(u32 *, size_t, const u32 *, size_t, u32 *);
+u32 CALL(save)(const u32 *, size_t, u32 *, size_t, size_t *);
+u32 CALL(put_back)(const u32 *, size_t, u32 *, size_t, size_t *);
 enum { RECORD = 88, LONGEST = 2882 };
 static u32 state = 12345;
 static u32 word(void) {
@@ -61,20 +61,19 @@ int main(int argc, char **argv) {
     int packet_alone = !strcmp(argv[1], "read") || !strcmp(argv[1], "write");
     size_t streams = packet_alone ? 1 : size, words = packet_alone ? size : 64;
     static u32 w[70000], out[70000], t[2900], page[LONGEST], a[18], parts[15];
-    size_t n = 0, tn = 1 + RECORD * streams, pn = 0;
+    size_t n = 0, tn = 1 + RECORD * streams, pn = 0, written = 0;
     u32 r = 0;
     t[0] = streams;
     for (size_t s = 0; s < streams; s++)
         t[1 + RECORD * s] = 0x1000 + s;
     for (size_t s = 0; s < streams; s++) {
         n = context(w, 0x1000 + s, 15, small);
-        r |= CALL(play)(t, tn, w, n, a, 4);
+        r |= CALL(play)(t, tn, w, n, a);
     }
-    r |= CALL(save)(t, tn, page, LONGEST, a, 1);
-    pn = a[0];
+    r |= CALL(save)(t, tn, page, LONGEST, &pn);
     u32 last = 0x1000 + streams - 1;
     n = !strcmp(kind, "data") ? data(w, last, words) : !strcmp(kind, "context") ? context(w, last, 15, small) : context(w, last, 16, large);
-    r |= CALL(read)(w, n, a, 18);
+    r |= CALL(read)(w, n, a);
     for (int i = 0; i < 7; i++)
         parts[i] = a[i];
     for (int i = 0; i < 7; i++)
@@ -83,15 +82,15 @@ int main(int argc, char **argv) {
     u32 body = a[15], length = a[16];
     const char *call = argv[1];
     if (!strcmp(call, "read"))
-        REPEAT(CALL(read)(w, n, a, 18));
+        REPEAT(CALL(read)(w, n, a));
     if (!strcmp(call, "write"))
-        REPEAT(CALL(write)(parts, 15, w + body, length, out, 70000, 3, a, 18));
+        REPEAT(CALL(write)(parts, w + body, length, out, 70000, 3, &written));
     if (!strcmp(call, "play"))
-        REPEAT(CALL(play)(t, tn, w, n, a, 18));
+        REPEAT(CALL(play)(t, tn, w, n, a));
     if (!strcmp(call, "save"))
-        REPEAT(CALL(save)(t, tn, page, LONGEST, a, 18));
+        REPEAT(CALL(save)(t, tn, page, LONGEST, &written));
     if (!strcmp(call, "put_back"))
-        REPEAT(CALL(put_back)(page, pn, t, tn, a, 18));
-    printf("%u %016llx\n", r, (unsigned long long)sum(sum(sum(sum(0, t, tn), page, pn), out, 70000), a, 18));
+        REPEAT(CALL(put_back)(page, pn, t, tn, &written));
+    printf("%u %016llx\n", r, (unsigned long long)sum(sum(sum(sum(written, t, tn), page, pn), out, 70000), a, 18));
     return 0;
 }

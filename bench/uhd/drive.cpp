@@ -67,7 +67,7 @@ int main(int argc, char **argv) {
 #else
         uint32_t a[18];
         for (long k = 0; k < times; k++)
-            if (vrt49_read(w.data(), w.size(), a, 18))
+            if (vrt49_read(w.data(), w.size(), a))
                 return 1;
         add(a[6]);
         add(a[8]);

@@ -17,9 +17,7 @@ import table
 import vrt49
 import vrt49_write
 from making import ONES
-from table import ROOM
 
-COUNT = 17
 MOST_ITEMS = 2_097_120
 
 # Buffers that a call writes begin as noise, the same words in drive.c.
@@ -73,12 +71,9 @@ def refused(lent, number):
     return Case(lent, number, {})
 
 
-def answers(r, n, code="I"):
-    """A buffer for n entries of answer: as many, some more, or too few."""
-    kind = r.randrange(40)
-    if kind < 2 and n:
-        return noisy(r, r.randrange(n) if kind else n - 1, code)
-    return noisy(r, n if kind < 20 else n + r.randrange(1, 4), code)
+def length_place(r):
+    """The place of a length, which is a size_t."""
+    return noisy(r, 1, "Q")
 
 
 def around(r, n):
@@ -91,8 +86,6 @@ def around(r, n):
 
 def read_of(words, answer):
     lent = [words, answer]
-    if len(answer.entries) < 18:
-        return refused(lent, ROOM)
     said, p = vrt49.read(list(words.entries))
     if said == "refused":
         return refused(lent, p)
@@ -105,8 +98,8 @@ def read_of(words, answer):
 
 def read(r):
     if r.randrange(500) == 0:
-        return read_of(given(long_packet(r)), answers(r, 18))
-    return read_of(given(making.some_packet(r)), answers(r, 18))
+        return read_of(given(long_packet(r)), noisy(r, 18))
+    return read_of(given(making.some_packet(r)), noisy(r, 18))
 
 
 def long_packet(r):
@@ -135,13 +128,8 @@ def parts_words(p):
     ]
 
 
-def write_of(parts, body, out, at, answer):
-    lent = [parts, body, out, at, answer]
-    if len(answer.entries) < 1:
-        return refused(lent, ROOM)
-    # "another number of parts is 17 (COUNT), before what the list has for writing"
-    if len(parts.entries) != 15:
-        return refused(lent, COUNT)
+def write_of(parts, body, out, at, length):
+    lent = [parts, body, out, at, length]
     p = parts.entries
     # "VALUE (also for C, T or TSM above 1)"
     if p[0] <= 5 and max(p[1:4]) > 1:
@@ -152,7 +140,7 @@ def write_of(parts, body, out, at, answer):
     )
     if said == "refused":
         return refused(lent, number)
-    return Case(lent, 0, {2: array("I", after), 4: put(answer, [number])})
+    return Case(lent, 0, {2: array("I", after), 4: put(length, [number])})
 
 
 def write(r):
@@ -174,9 +162,9 @@ def write(r):
         bits = {1: 1, 2: 1, 3: 1, 4: 2, 5: 2, 6: 4, 8: 24, 9: 16, 10: 16}[which]
         parts[which] = r.choice((1 << bits, (1 << bits) - 1, (1 << bits) + 1, 1 << 31, ONES, making.word(r)))
     if r.randrange(40) == 0:
-        parts = r.choice((parts[:-1], parts + [0], [], making.words(r, r.randrange(30))))
+        parts = making.words(r, 15)
     size = 20 + len(body)
-    if len(parts) == 15 and parts[0] < 6 and max(parts[1:7]) < 16:
+    if parts[0] < 6 and max(parts[1:7]) < 16:
         size = vrt49_write.packet_size(vrt49_write.Parts(*parts[:12], 0, 0), body)
     at = r.choice((0, 0, 1, 3, r.randrange(20)))
     room = max(0, at + size + r.choice((0, 0, 0, 1, 7, r.randrange(30))))
@@ -184,13 +172,11 @@ def write(r):
         room = r.choice((max(0, at + size - 1), r.randrange(at + size), at, max(0, at - 1)))
     if r.randrange(20) == 0:
         at = r.choice((room, room + 1, 2**32 - 1, 2**32, 2**63, 2**64 - 1, 2**64 - size))
-    return write_of(given(parts), given(body), noisy(r, room), at, answers(r, 1))
+    return write_of(given(parts), given(body), noisy(r, room), at, length_place(r))
 
 
 def trailer_parts(r):
-    word, answer = making.word(r), answers(r, 4)
-    if len(answer.entries) < 4:
-        return refused([word, answer], ROOM)
+    word, answer = making.word(r), noisy(r, 4)
     return Case([word, answer], 0, {1: put(answer, vrt49.trailer_parts(word))})
 
 
@@ -200,14 +186,12 @@ def trailer_word(r):
         place = r.randrange(4)
         edge = 1 << (12, 12, 1, 7)[place]
         numbers[place] = r.choice((edge, edge - 1, edge + 1, ONES, making.word(r)))
-    answer = answers(r, 1)
-    lent = numbers + [answer]
-    if len(answer.entries) < 1:
-        return refused(lent, ROOM)
+    word = noisy(r, 1)
+    lent = numbers + [word]
     said, what = vrt49_write.trailer_word(*numbers)
     if said == "refused":
         return refused(lent, what)
-    return Case(lent, 0, {4: put(answer, [what])})
+    return Case(lent, 0, {4: put(word, [what])})
 
 
 # Fields.
@@ -278,10 +262,8 @@ def find(r):
     body = given(making.some_body(r))
     there = carried(body.entries[0]) if body.entries else []
     bit = r.choice(there) if there and r.randrange(3) else r.choice((r.randrange(40), making.word(r)))
-    answer = answers(r, 3, "Q")
+    answer = noisy(r, 3, "Q")
     lent = [body, bit, answer]
-    if len(answer.entries) < 3:
-        return refused(lent, ROOM)
     return Case(lent, 0, {2: put(answer, found(body.entries, bit))})
 
 
@@ -323,16 +305,14 @@ def unpack(r):
     return unpack_of(first, second, n, given(making.words(r, needed)), outs)
 
 
-def pack_of(first, second, items, events, channels, out, answer):
-    lent = [first, second, items, events, channels, out, answer]
-    if len(answer.entries) < 1:
-        return refused(lent, ROOM)
+def pack_of(first, second, items, events, channels, out, length):
+    lent = [first, second, items, events, channels, out, length]
     said, what = payload.pack(
         first, second, items.entries, events.entries, channels.entries, len(out.entries)
     )
     if said == "refused":
         return refused(lent, what)
-    return Case(lent, 0, {5: put(out, what), 6: put(answer, [len(what)])})
+    return Case(lent, 0, {5: put(out, what), 6: put(length, [len(what)])})
 
 
 def pack(r):
@@ -354,7 +334,7 @@ def pack(r):
     if r.randrange(10) == 0:
         room = around(r, needed)
     lent = [given(entries, code) for entries, code in zip(numbers, "QBH")]
-    return pack_of(first, second, *lent, noisy(r, room), answers(r, 1))
+    return pack_of(first, second, *lent, noisy(r, room), length_place(r))
 
 
 def words_needed(r):
@@ -366,14 +346,12 @@ def words_needed(r):
     ))
     if r.randrange(10) == 0:
         n = r.choice((n + 1, max(0, n - 1), MOST_ITEMS, MOST_ITEMS + 1, unit * 2**32, 2**64 - 1, r.getrandbits(64)))
-    answer = answers(r, 1)
-    lent = [first, second, n, answer]
-    if len(answer.entries) < 1:
-        return refused(lent, ROOM)
+    length = length_place(r)
+    lent = [first, second, n, length]
     said, what = payload.words_needed(first, second, n)
     if said == "refused":
         return refused(lent, what)
-    return Case(lent, 0, {3: put(answer, [what])})
+    return Case(lent, 0, {3: put(length, [what])})
 
 
 def signed(r):
@@ -384,10 +362,8 @@ def signed(r):
         item = (1 << bits) % 2**64
     elif r.randrange(8):
         item %= 1 << bits
-    value = answers(r, 1, "Q")
+    value = noisy(r, 1, "Q")
     lent = [width, item, value]
-    if len(value.entries) < 1:
-        return refused(lent, ROOM)
     said, what = payload.signed(width, item)
     if said == "refused":
         return refused(lent, what)
@@ -397,14 +373,12 @@ def signed(r):
 # Tables.
 
 
-def start_of(ids, lent_table, answer):
-    lent = [ids, lent_table, answer]
-    if len(answer.entries) < 1:
-        return refused(lent, ROOM)
+def start_of(ids, lent_table, length):
+    lent = [ids, lent_table, length]
     (said, what), after = table.start_lent(list(ids.entries), list(lent_table.entries))
     if said == "refused":
         return refused(lent, what)
-    return Case(lent, 0, {1: array("I", after), 2: put(answer, [what])})
+    return Case(lent, 0, {1: array("I", after), 2: put(length, [what])})
 
 
 def start(r):
@@ -415,7 +389,7 @@ def start(r):
     room = table.layout_length(n) + r.choice((0, 0, 0, 1, 5, 100))
     if r.randrange(8) == 0:
         room = around(r, table.layout_length(n))
-    return start_of(given(ids), noisy(r, room), answers(r, 1))
+    return start_of(given(ids), noisy(r, room), length_place(r))
 
 
 def well_made(r):
@@ -443,8 +417,6 @@ def lent_table(r):
 
 def play_of(lent_words, words, answer):
     lent = [lent_words, words, answer]
-    if len(answer.entries) < 4:
-        return refused(lent, ROOM)
     said, after = table.play_lent(list(lent_words.entries), list(words.entries))
     if said[0] == "refused":
         return refused(lent, said[1])
@@ -458,7 +430,7 @@ def play(r):
     words = (making.packet if r.randrange(3) else making.some_packet)(r, kind, identifier)
     if r.randrange(60) == 0:
         words = []
-    return play_of(given(lent), given(words), answers(r, 4))
+    return play_of(given(lent), given(words), noisy(r, 4))
 
 
 def run(lent, words, start_at, entries):
@@ -499,44 +471,40 @@ def play_run(r):
     if r.randrange(20) == 0:
         start_at = r.choice((len(words), len(words) + 1, 2**32, 2**64 - 1, r.randrange(len(words) + 1)))
     room = r.choice((5 * len(places), 5 * len(places) + r.randrange(12), r.randrange(5 * len(places) + 1), 500))
-    answer, reached = noisy(r, room), answers(r, 2, "Q")
-    lent_args = [given(lent), given(words), start_at, answer, reached]
-    if len(reached.entries) < 2:
-        return refused(lent_args, ROOM)
+    answer, packets, after_them = noisy(r, room), length_place(r), length_place(r)
+    lent_args = [given(lent), given(words), start_at, answer, packets, after_them]
     said, written, after = run(lent, words, start_at, room // 5)
     if said[0] == "refused":
         return refused(lent_args, said[1])
-    return Case(lent_args, 0, {0: array("I", after), 3: put(answer, written), 4: put(reached, said[1:])})
+    return Case(lent_args, 0, {
+        0: array("I", after), 3: put(answer, written), 4: put(packets, said[1:2]), 5: put(after_them, said[2:]),
+    })
 
 
 # Pages.
 
 
 def page_length(r):
-    lent, answer = lent_table(r), answers(r, 1)
-    args = [given(lent), answer]
-    if len(answer.entries) < 1:
-        return refused(args, ROOM)
+    lent, length = lent_table(r), length_place(r)
+    args = [given(lent), length]
     said, what = page.page_length(lent)
     if said == "refused":
         return refused(args, what)
-    return Case(args, 0, {1: put(answer, [what])})
+    return Case(args, 0, {1: put(length, [what])})
 
 
 def save(r):
-    lent, answer = lent_table(r), answers(r, 1)
-    said, length = page.page_length(lent)
-    room = 100 if said == "refused" else length + r.choice((0, 0, 1, 3, 50))
+    lent, length = lent_table(r), length_place(r)
+    said, needed = page.page_length(lent)
+    room = 100 if said == "refused" else needed + r.choice((0, 0, 1, 3, 50))
     if r.randrange(8) == 0:
         room = around(r, room)
     out = noisy(r, room)
-    args = [given(lent), out, answer]
-    if len(answer.entries) < 1:
-        return refused(args, ROOM)
+    args = [given(lent), out, length]
     (said, what), after = page.save(lent, list(out.entries))
     if said == "refused":
         return refused(args, what)
-    return Case(args, 0, {1: array("I", after), 2: put(answer, [what])})
+    return Case(args, 0, {1: array("I", after), 2: put(length, [what])})
 
 
 def put_back(r):
@@ -549,14 +517,12 @@ def put_back(r):
     room = table.layout_length(streams) + r.choice((0, 0, 1, 4, 88))
     if r.randrange(8) == 0:
         room = around(r, table.layout_length(streams))
-    out, answer = noisy(r, room), answers(r, 1)
-    args = [given(made), out, answer]
-    if len(answer.entries) < 1:
-        return refused(args, ROOM)
+    out, length = noisy(r, room), length_place(r)
+    args = [given(made), out, length]
     (said, what), after = page.put_back(made, list(out.entries))
     if said == "refused":
         return refused(args, what)
-    return Case(args, 0, {1: array("I", after), 2: put(answer, [what])})
+    return Case(args, 0, {1: array("I", after), 2: put(length, [what])})
 
 
 # The panel.
@@ -600,10 +566,8 @@ def float_word(value):
 def reading(r):
     lent = panel_table(r)
     stream, bit = some_place(r, lent)
-    answer, hertz, levels = answers(r, 2), answers(r, 1, "Q"), answers(r, 2)
-    args = [given(lent), stream, bit, answer, hertz, levels]
-    if len(answer.entries) < 2 or len(hertz.entries) < 1 or len(levels.entries) < 2:
-        return refused(args, ROOM)
+    kind, parts_place, hertz, levels = noisy(r, 1), noisy(r, 1), noisy(r, 1, "Q"), noisy(r, 2)
+    args = [given(lent), stream, bit, kind, parts_place, hertz, levels]
     said = panel.reading(lent, stream, bit)
     if said[0] == "refused":
         return refused(args, said[1])
@@ -612,21 +576,21 @@ def reading(r):
         whole, parts = said[1:]
     else:
         shown[: len(said) - 1] = [float_word(value) for value in said[1:]]
-    after = {3: put(answer, [KINDS[said[0]], parts]), 4: put(hertz, [whole % 2**64]), 5: put(levels, shown)}
+    after = {
+        3: put(kind, [KINDS[said[0]]]), 4: put(parts_place, [parts]), 5: put(hertz, [whole % 2**64]), 6: put(levels, shown),
+    }
     return Case(args, 0, after)
 
 
 def held_words(r):
     lent = panel_table(r)
     stream, bit = some_place(r, lent)
-    out, answer = noisy(r, r.choice((0, 1, 2, 2, 13, 13, 13, 14, 20))), answers(r, 1)
-    args = [given(lent), stream, bit, out, answer]
-    if len(answer.entries) < 1:
-        return refused(args, ROOM)
+    out, length = noisy(r, r.choice((0, 1, 2, 2, 13, 13, 13, 14, 20))), length_place(r)
+    args = [given(lent), stream, bit, out, length]
     (said, what), after = panel.held_words(lent, stream, bit, list(out.entries))
     if said == "refused":
         return refused(args, what)
-    return Case(args, 0, {3: array("I", after), 4: put(answer, [what])})
+    return Case(args, 0, {3: array("I", after), 4: put(length, [what])})
 
 
 # The calls in drive.c's order: what each takes (its letters, as there), how many
@@ -636,24 +600,24 @@ def held_words(r):
 Call = namedtuple("Call", "name takes make cases occur")
 
 CALLS = (
-    Call("vrt49_read", "iI", read, 100000, (*range(11), 13)),
-    Call("vrt49_write", "iiIqI", write, 50000, (0, 2, 4, 7, 8, 9, 10, 13, 14, 15, 17)),
-    Call("vrt49_trailer_parts", "wI", trailer_parts, 5000, (0, 13)),
-    Call("vrt49_trailer_word", "wwwwI", trailer_word, 20000, (0, 13, 14)),
+    Call("vrt49_read", "iI", read, 100000, tuple(range(11))),
+    Call("vrt49_write", "iiIqL", write, 50000, (0, 2, 4, 7, 8, 9, 10, 13, 14, 15)),
+    Call("vrt49_trailer_parts", "wI", trailer_parts, 5000, (0,)),
+    Call("vrt49_trailer_word", "wwwwI", trailer_word, 20000, (0, 14)),
     Call("vrt49_field_count", "w", field_count, 5000, tuple(range(24))),
     Call("vrt49_check_body", "i", check_body, 60000, (0, 8, 9, 10)),
-    Call("vrt49_find", "iwL", find, 40000, (0, 13)),
+    Call("vrt49_find", "iwL", find, 40000, (0,)),
     Call("vrt49_unpack", "wwqiLBH", unpack, 15000, (0, 13, 16, 17)),
-    Call("vrt49_pack", "wwlbhII", pack, 15000, (0, 13, 14, 16, 17)),
-    Call("vrt49_words_needed", "wwqI", words_needed, 30000, (0, 13, 16, 17)),
-    Call("vrt49_signed", "wqL", signed, 20000, (0, 13, 14, 16)),
-    Call("vrt49_start", "iII", start, 10000, (0, 12, 13)),
+    Call("vrt49_pack", "wwlbhIL", pack, 15000, (0, 13, 14, 16, 17)),
+    Call("vrt49_words_needed", "wwqL", words_needed, 30000, (0, 16, 17)),
+    Call("vrt49_signed", "wqL", signed, 20000, (0, 14, 16)),
+    Call("vrt49_start", "iIL", start, 10000, (0, 12, 13)),
     Call("vrt49_well_made", "i", well_made, 30000, (0, 1)),
-    Call("vrt49_play", "IiI", play, 40000, (*range(12), 13, 18)),
-    Call("vrt49_play_run", "IiqIL", play_run, 15000, (0, 13, 18)),
-    Call("vrt49_page_length", "iI", page_length, 6000, (0, 13, 18)),
-    Call("vrt49_save", "iII", save, 10000, (0, 13, 18)),
-    Call("vrt49_put_back", "iII", put_back, 20000, (0, 13, 19)),
-    Call("vrt49_reading", "iqwILI", reading, 30000, (0, 11, 13, 14, 18)),
-    Call("vrt49_held_words", "iqwII", held_words, 15000, (0, 11, 13, 14, 18)),
+    Call("vrt49_play", "IiI", play, 40000, (*range(12), 18)),
+    Call("vrt49_play_run", "IiqILL", play_run, 15000, (0, 18)),
+    Call("vrt49_page_length", "iL", page_length, 6000, (0, 18)),
+    Call("vrt49_save", "iIL", save, 10000, (0, 13, 18)),
+    Call("vrt49_put_back", "iIL", put_back, 20000, (0, 13, 19)),
+    Call("vrt49_reading", "iqwIILI", reading, 30000, (0, 11, 14, 18)),
+    Call("vrt49_held_words", "iqwIL", held_words, 15000, (0, 11, 13, 14, 18)),
 )

@@ -11,30 +11,31 @@
 enum { GUARD = 64, ARENA = 64 << 20, NOISE = 65536, MOST = 8, CONTENTS_FOLLOW = 0xFFFFFFFF };
 
 // What a call takes, in the order of the header: w a word, q two words (a size or a 64-bit number), and buffers: i of words,
-// l of 64-bit, h of 16-bit and b of 8-bit numbers, in capitals where the call writes them. Floats count as words.
+// l of 64-bit, h of 16-bit and b of 8-bit numbers, in capitals where the call writes them. Floats count as words; a pointer to a
+// number or to an array of a fixed length is a buffer of so many entries, and a size_t one of 64-bit numbers.
 static const struct {
     const char *name, *takes, *buffers[MOST];
 } calls[] = {
     {"vrt49_read", "iI", {"words", "answer"}},
-    {"vrt49_write", "iiIqI", {"parts", "body", "out", "answer"}},
+    {"vrt49_write", "iiIqL", {"parts", "body", "out", "length"}},
     {"vrt49_trailer_parts", "wI", {"answer"}},
-    {"vrt49_trailer_word", "wwwwI", {"answer"}},
+    {"vrt49_trailer_word", "wwwwI", {"word"}},
     {"vrt49_field_count", "w", {0}},
     {"vrt49_check_body", "i", {"body"}},
     {"vrt49_find", "iwL", {"body", "answer"}},
     {"vrt49_unpack", "wwqiLBH", {"words", "items", "events", "channels"}},
-    {"vrt49_pack", "wwlbhII", {"items", "events", "channels", "out", "answer"}},
-    {"vrt49_words_needed", "wwqI", {"answer"}},
+    {"vrt49_pack", "wwlbhIL", {"items", "events", "channels", "out", "length"}},
+    {"vrt49_words_needed", "wwqL", {"length"}},
     {"vrt49_signed", "wqL", {"value"}},
-    {"vrt49_start", "iII", {"ids", "table", "answer"}},
+    {"vrt49_start", "iIL", {"ids", "table", "length"}},
     {"vrt49_well_made", "i", {"table"}},
     {"vrt49_play", "IiI", {"table", "words", "answer"}},
-    {"vrt49_play_run", "IiqIL", {"table", "words", "answers", "reached"}},
-    {"vrt49_page_length", "iI", {"table", "answer"}},
-    {"vrt49_save", "iII", {"table", "page", "answer"}},
-    {"vrt49_put_back", "iII", {"page", "table", "answer"}},
-    {"vrt49_reading", "iqwILI", {"table", "answer", "hertz", "levels"}},
-    {"vrt49_held_words", "iqwII", {"table", "out", "answer"}},
+    {"vrt49_play_run", "IiqILL", {"table", "words", "answers", "packets", "next"}},
+    {"vrt49_page_length", "iL", {"table", "length"}},
+    {"vrt49_save", "iIL", {"table", "page", "length"}},
+    {"vrt49_put_back", "iIL", {"page", "table", "length"}},
+    {"vrt49_reading", "iqwIILI", {"table", "kind", "parts", "hertz", "levels"}},
+    {"vrt49_held_words", "iqwIL", {"table", "out", "length"}},
 };
 enum { CALLS = sizeof calls / sizeof *calls };
 
@@ -51,31 +52,34 @@ static size_t buffers, scalars, used;
 static unsigned char *now, *before;
 static uint32_t noise[NOISE];
 
+// A buffer of no entries is handed over as null, as the header allows. Numbers and arrays of a fixed length are handed over by their place alone.
 static uint32_t call(uint32_t which) {
-#define B(k) b[k].at, b[k].n
+#define B(k) (b[k].n ? b[k].at : 0), b[k].n
+#define P(k) b[k].at
     switch (which) {
-    case 0: return vrt49_read(B(0), B(1));
-    case 1: return vrt49_write(B(0), B(1), B(2), s[0], B(3));
-    case 2: return vrt49_trailer_parts(s[0], B(0));
-    case 3: return vrt49_trailer_word(s[0], s[1], s[2], s[3], B(0));
+    case 0: return vrt49_read(B(0), P(1));
+    case 1: return vrt49_write(P(0), B(1), B(2), s[0], P(3));
+    case 2: return vrt49_trailer_parts(s[0], P(0));
+    case 3: return vrt49_trailer_word(s[0], s[1], s[2], s[3], P(0));
     case 4: return vrt49_field_count(s[0]);
     case 5: return vrt49_check_body(B(0));
-    case 6: return vrt49_find(B(0), s[0], B(1));
+    case 6: return vrt49_find(B(0), s[0], P(1));
     case 7: return vrt49_unpack(s[0], s[1], s[2], B(0), B(1), B(2), B(3));
-    case 8: return vrt49_pack(s[0], s[1], B(0), B(1), B(2), B(3), B(4));
-    case 9: return vrt49_words_needed(s[0], s[1], s[2], B(0));
-    case 10: return vrt49_signed(s[0], s[1], B(0));
-    case 11: return vrt49_start(B(0), B(1), B(2));
+    case 8: return vrt49_pack(s[0], s[1], B(0), B(1), B(2), B(3), P(4));
+    case 9: return vrt49_words_needed(s[0], s[1], s[2], P(0));
+    case 10: return vrt49_signed(s[0], s[1], P(0));
+    case 11: return vrt49_start(B(0), B(1), P(2));
     case 12: return vrt49_well_made(B(0));
-    case 13: return vrt49_play(B(0), B(1), B(2));
-    case 14: return vrt49_play_run(B(0), B(1), s[0], B(2), B(3));
-    case 15: return vrt49_page_length(B(0), B(1));
-    case 16: return vrt49_save(B(0), B(1), B(2));
-    case 17: return vrt49_put_back(B(0), B(1), B(2));
-    case 18: return vrt49_reading(B(0), s[0], s[1], B(1), B(2), B(3));
-    default: return vrt49_held_words(B(0), s[0], s[1], B(1), B(2));
+    case 13: return vrt49_play(B(0), B(1), P(2));
+    case 14: return vrt49_play_run(B(0), B(1), s[0], B(2), P(3), P(4));
+    case 15: return vrt49_page_length(B(0), P(1));
+    case 16: return vrt49_save(B(0), B(1), P(2));
+    case 17: return vrt49_put_back(B(0), B(1), P(2));
+    case 18: return vrt49_reading(B(0), s[0], s[1], P(1), P(2), P(3), P(4));
+    default: return vrt49_held_words(B(0), s[0], s[1], B(1), P(2));
     }
 #undef B
+#undef P
 }
 
 static void fail(const char *what) {

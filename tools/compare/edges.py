@@ -109,7 +109,7 @@ def read(r):
 def write(r):
     def ask(parts, body, room=None, at=0):
         room = len(body) + 9 if room is None else room
-        return calls.write_of(given(parts), given(body), noisy(r, room), at, noisy(r, 1))
+        return calls.write_of(given(parts), given(body), noisy(r, room), at, calls.length_place(r))
 
     yield sure(ask([1, 0, 1, 0, 0, 0, 15, 7] + [0] * 7, DATA[2:4], 5), 0)
     yield sure(ask([1, 0, 1, 0, 0, 0, 15, 7] + [0] * 7, DATA[2:4], 4), 13)
@@ -125,8 +125,10 @@ def write(r):
                 parts = [1, c, 0, 0, 1, 1, 0, 7, 0, 0, 0, 0, 0, 0, 0]
                 parts[place] = number
                 yield ask(parts, [1, 2])
-    for n in range(17):
-        yield sure(ask([1] * n, []), 17 if n != 15 else 14)
+    yield sure(ask([1] * 15, []), 14)
+    # TYPE comes before VALUE, VALUE before ROOM
+    yield sure(ask([6] + [2] * 14, [], 0), 2)
+    yield sure(ask([1, 2] + [0] * 13, [], 0), 14)
     for fraction in (TERA - 1, TERA):
         parts = [1, 0, 0, 0, 0, 2, 0, 7, 0, 0, 0, 0, fraction >> 32, fraction & ONES, 0]
         yield sure(ask(parts, []), 0 if fraction < TERA else 7)
@@ -198,7 +200,7 @@ def unpack(r):
 def pack(r):
     def ask(first, second, items, events, channels, room):
         lent = (given(items, "Q"), given(events, "B"), given(channels, "H"))
-        return calls.pack_of(first, second, *lent, noisy(r, room), noisy(r, 1))
+        return calls.pack_of(first, second, *lent, noisy(r, room), calls.length_place(r))
 
     yield sure(ask(0x800002CB, 0, [0xABC, 0xDEF, 0x123], [0] * 3, [0] * 3, 2), 0)
     yield sure(ask(0x000002CB, 0, [0xABC, 0xDEF, 0x123], [0] * 3, [0] * 3, 2), 0)
@@ -226,7 +228,7 @@ def pack(r):
     # one item too many, and the most items, of one bit
     n = MOST_ITEMS + 1
     lent = [noisy(r, n, code) for code in "QBH"]
-    yield sure(calls.pack_of(0x80000FFF, 0, *lent, noisy(r, 3), noisy(r, 1)), 17)
+    yield sure(calls.pack_of(0x80000FFF, 0, *lent, noisy(r, 3), calls.length_place(r)), 17)
     items = [word & 1 for word in noisy(r, MOST_ITEMS).entries]
     yield sure(ask(0x80000000, 0, items, bytes(MOST_ITEMS), [0] * MOST_ITEMS, 65535), 0)
 
@@ -235,10 +237,10 @@ def words_needed(r):
     for first, second in [*formats(), (FORMAT, 0), (FORMAT, 2), (0xFFF, 0xFFFF)]:
         unit = payload.unit(first, second)
         for n in (0, 1, 31, 32, 33, MOST_ITEMS - 1, MOST_ITEMS, MOST_ITEMS + 1, MOST_ITEMS // unit * unit, 2**32, 2**64 - 1):
-            answer = noisy(r, 1)
+            length = calls.length_place(r)
             said, what = payload.words_needed(first, second, n)
-            lent = [first, second, n, answer]
-            yield calls.refused(lent, what) if said == "refused" else calls.Case(lent, 0, {3: calls.put(answer, [what])})
+            lent = [first, second, n, length]
+            yield calls.refused(lent, what) if said == "refused" else calls.Case(lent, 0, {3: calls.put(length, [what])})
 
 
 def signed(r):
@@ -252,7 +254,7 @@ def signed(r):
 
 def start(r):
     def ask(ids, room):
-        return calls.start_of(given(ids), noisy(r, room), noisy(r, 1))
+        return calls.start_of(given(ids), noisy(r, room), calls.length_place(r))
 
     for n in range(41):
         room = table.layout_length(n)
@@ -337,10 +339,11 @@ def play_run(r):
             for start_at in (0, 5, 10, 11):
                 lent = table.layout([table.fresh_stream(7)])
                 said, written, after = calls.run(lent, recording[:n], start_at, entries // 5)
-                answer, reached = noisy(r, entries), noisy(r, 2, "Q")
-                args = [given(lent), given(recording[:n]), start_at, answer, reached]
+                answer, packets, after_them = noisy(r, entries), calls.length_place(r), calls.length_place(r)
+                args = [given(lent), given(recording[:n]), start_at, answer, packets, after_them]
                 yield calls.Case(args, 0, {
-                    0: calls.array("I", after), 3: calls.put(answer, written), 4: calls.put(reached, said[1:]),
+                    0: calls.array("I", after), 3: calls.put(answer, written),
+                    4: calls.put(packets, said[1:2]), 5: calls.put(after_them, said[2:]),
                 })
 
 
@@ -350,9 +353,9 @@ def page_length(r):
             ([table.fresh_stream(i) for i in range(streams)], 2 + 16 * streams),
             ([full_stream(i) for i in range(streams)], 2 + 90 * streams),
         ):
-            answer = noisy(r, 1)
+            place = calls.length_place(r)
             assert page.page_length(table.layout(made)) == ("length", length)
-            yield calls.Case([given(table.layout(made)), answer], 0, {1: calls.put(answer, [length])})
+            yield calls.Case([given(table.layout(made)), place], 0, {1: calls.put(place, [length])})
 
 
 def save(r):
@@ -361,23 +364,23 @@ def save(r):
         lent = table.layout(made)
         length = 2 + 90 * streams
         for room in (length, length + 1, length - 1, 0):
-            out, answer = noisy(r, room), noisy(r, 1)
+            out, place = noisy(r, room), calls.length_place(r)
             (said, what), after = page.save(lent, list(out.entries))
-            args = [given(lent), out, answer]
+            args = [given(lent), out, place]
             if room < length:
                 yield sure(calls.refused(args, what), 13)
             else:
-                yield calls.Case(args, 0, {1: calls.array("I", after), 2: calls.put(answer, [length])})
+                yield calls.Case(args, 0, {1: calls.array("I", after), 2: calls.put(place, [length])})
 
 
 def put_back(r):
     def ask(words, room=177):
-        out, answer = noisy(r, room), noisy(r, 1)
-        args = [given(words), out, answer]
+        out, length = noisy(r, room), calls.length_place(r)
+        args = [given(words), out, length]
         (said, what), after = page.put_back(words, list(out.entries))
         if said == "refused":
             return calls.refused(args, what)
-        return calls.Case(args, 0, {1: calls.array("I", after), 2: calls.put(answer, [what])})
+        return calls.Case(args, 0, {1: calls.array("I", after), 2: calls.put(length, [what])})
 
     fresh, full = page.page_of([table.fresh_stream(7)]), page.page_of([full_stream(7)])
     yield sure(ask([]), 19)

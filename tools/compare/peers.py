@@ -217,7 +217,7 @@ def tshark(folder, drive):
     asks = [
         [
             calls.given(calls.parts_words(p)), calls.given(body),
-            calls.noisy(r, vrt49_write.packet_size(p, body)), 0, calls.noisy(r, 1),
+            calls.noisy(r, vrt49_write.packet_size(p, body)), 0, calls.length_place(r),
         ]
         for p, body in made
     ]
@@ -226,7 +226,8 @@ def tshark(folder, drive):
     for place, (p, body) in enumerate(made):
         size = vrt49_write.packet_size(p, body)
         number, words, length = answers[at], list(answers[at + 1 : at + 1 + size]), answers[at + 1 + size]
-        at += size + 2
+        # the number, the words, and the length in two
+        at += 1 + size + 2
         if number != 0 or length != size:
             differs(place, words, f"{p}", f"vrt49_write answers {number}, {length} words")
         packets.append(words)

@@ -20,7 +20,7 @@ NEEDS = {
     2: lambda call: any(letter.isupper() for letter in call.takes),
     3: lambda call: any(letter not in "wq" for letter in call.takes),
     4: lambda call: any(letter in "ilhb" for letter in call.takes),
-    5: lambda call: any(letter.isupper() for letter in call.takes),
+    5: lambda call: any(letter.isupper() for letter in call.takes) and any(call.occur),
 }
 
 

@@ -1,14 +1,12 @@
 -- The laws of the calls for C.
 
--- what a call gives, by its answer
+-- what a call tells, by its answer
 pub mod AnswerLaws
 -- the parts of a packet as words
 pub mod PartsLaws
--- the numbers of an answer fit words
+-- the numbers of a packet fit words
 pub mod SmallLaws
--- what a reading gives
+-- what a reading tells
 pub mod ReadingLaws
--- two answers that meet a promise are equal
-pub mod Uniqueness
--- a call gives 0 exactly where it is accepted
-pub mod NumberLaws
+-- what holds of every call
+pub mod CallLaws

@@ -1,41 +1,29 @@
--- What a call for C gives: one number, 0 where it is accepted and else that of the refusal, and its values in lent buffers. Document 01: "A refusal returns its
--- number alone and writes nothing"; "Only words needed by an accepted answer change."
-use Rattle.words.specs.Kit.{_≡_, ℕ, _^_, _<_, List, [], _∷_, _++_, ltb, length, drop}
-use Rattle.words.specs.Numbers.{ROOM}
-use Rattle.words.specs.Tests.{pick}
-use Rattle.words.specs.Outcome.{Outcome, refused, accepted, onward, numberOf, Done, leftOf}
+-- What a call for C gives: one number, 0 where it is accepted and else that of the refusal, and its values in the places that it was lent: single numbers,
+-- arrays of a fixed length, and buffers. Document 01: "A refusal returns its number alone and writes nothing"; "Only words needed by an accepted answer
+-- change."
+use Rattle.words.specs.Kit.{_≡_, ℕ}
+use Rattle.words.specs.Outcome.{Outcome, refused, accepted, numberOf, Done}
 
--- the number r of a call that found the buffers as `before` and left them as `after` is what `want` says
-pub record Gives {A L : Type 0} (want : Outcome (Done A L)) (before : L) (r : ℕ) (after : L) : Type 0 where
+-- the lent places afterwards: those of an accepted answer hold its values, a refusal leaves them as they were
+abbrev pub placesOf : {A L : Type 0} → (A → L) → Outcome A → L → L
+placesOf values (refused n) before = before
+placesOf values (accepted a) before = values a
+
+-- the number r of a call that found the lent places as `before` and left them as `after` is what `want` says; `values` are those of an accepted answer
+pub record Tells {A L : Type 0} (values : A → L) (want : Outcome A) (before : L) (r : ℕ) (after : L) : Type 0 where
   pub number : r ≡ numberOf want
-  pub buffers : after ≡ leftOf want before
+  pub places : after ≡ placesOf values want before
 
-module _ {B : Type 0} where
-  -- a value of its own
-  abbrev pub oneValue : B → List B
-  oneValue v = v ∷ []
+-- ---- the values of an answer
 
-  -- values at the front of a buffer, whose other entries stay
-  unfoldable pub front : List B → List B → List B
-  front values buffer = values ++ drop (length values) buffer
+-- the answer itself
+abbrev pub plain : {A : Type 0} → A → A
+plain a = a
 
-  -- an answer, its n values at the front of a buffer; a shorter buffer is ROOM, before anything else
-  unfoldable pub answering : {A : Type 0} → ℕ → (A → List B) → Outcome A → List B → Outcome (Done Unit (List B))
-  answering n values want answer =
-      pick (ltb (length answer) n) (refused ROOM)
-      (onward want (λ a. accepted (record { says = tt; leaves = front (values a) answer })))
+-- of an accepted call that was lent buffers: what it leaves in them
+abbrev pub left : {A L : Type 0} → Done A L → L
+left d = d .leaves
 
-  -- the same of a call that is lent other buffers too
-  unfoldable pub answeringBeside : {A L : Type 0} → ℕ → (A → List B) → Outcome (Done A L) → List B → Outcome (Done Unit (L × List B))
-  answeringBeside n values want answer =
-      pick (ltb (length answer) n) (refused ROOM)
-      (onward want (λ d. accepted (record { says = tt; leaves = (d .leaves, front (values (d .says)) answer) })))
-
--- a length, stored at the front of a buffer that has room
-unfoldable pub lengthStored : Outcome ℕ → List ℕ → Outcome (Done Unit (List ℕ))
-lengthStored want answer = onward want (λ n. accepted (record { says = tt; leaves = front (n ∷ []) answer }))
-
--- a length fits a word
-abbrev pub Small : Outcome ℕ → Type 0
-Small (refused n) = Unit
-Small (accepted n) = n < 2 ^ 32
+-- and beside them the values of what it says
+abbrev pub beside : {A L W : Type 0} → (A → W) → Done A L → L × W
+beside values d = (d .leaves, values (d .says))

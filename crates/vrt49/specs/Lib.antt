@@ -1,14 +1,12 @@
 -- What the calls for C give, in reading order.
 
--- the number that a call gives, and what it leaves in the buffers that it was lent
+-- the number that a call gives, and what it leaves in the places that it was lent
 pub mod Answers
 -- packets, trailers and the fields of a body
 pub mod Packets
--- packed samples
-pub mod Payloads
 -- tables of streams
 pub mod Tables
--- the page of a table
-pub mod Pages
 -- readings for the panel
 pub mod Readings
+-- every call, with its promise and its refusals
+pub mod Calls

@@ -1,18 +1,15 @@
--- Packets, trailers and the fields of a body: the values of each answer in the order of include/vrt49.h, and what each call gives.
-use Rattle.words.specs.Kit.{ℕ, _/_, _%_, _^_, not, List, [], _∷_, eqb, ltb, length, getD}
-use Rattle.words.specs.Numbers.{COUNT, TYPE, VALUE}
+-- Packets, trailers and the fields of a body: the values of each answer in the order of include/vrt49.h, and a packet's parts as words.
+use Rattle.words.specs.Kit.{ℕ, _/_, _%_, _^_, Bool, not, List, [], _∷_, _++_, eqb, ltb, length, getD}
+use Rattle.words.specs.Numbers.{TYPE, VALUE}
 use Rattle.words.specs.Tests.{when, either}
 use Rattle.words.specs.Word.{highFirst}
 use Rattle.words.specs.Outcome.{Outcome, accepted, Done}
 use Rattle.words.specs.Refusals.{Refusals, firstGiven}
-use Rattle.fields.specs.Layout.{foundOf}
 use Rattle.packet.specs.declared.Parts.{Parts}
 use Rattle.packet.specs.declared.Packet.{Packet}
+use Rattle.packet.specs.Read.{bodyList}
 use Rattle.packet_trailer.specs.declared.Trailer.{Trailer}
-use Rattle.packet.specs.Read.{readOf}
-use Rattle.packet_write.specs.Write.{writeOf}
-use Rattle.packet_trailer.specs.Trailer.{trailerOf, trailerWordOf}
-use Rattle.vrt49.specs.Answers.{oneValue, answering, answeringBeside}
+use Rattle.packet_write.specs.Write.{sizeFor, partsFit, measureList, roomList, writtenDone}
 
 -- ---- the values
 
@@ -55,34 +52,25 @@ partsOf ws = record {
   trailer = getD ws 14 0;
 }
 
--- COUNT for another number of words; then TYPE and VALUE as in writing, VALUE also where C, T or TSM "does not fit its bits"
+-- a word for C, T or TSM that "does not fit its bits"
+abbrev pub flagsOver : List ℕ → Bool
+flagsOver ws = either (ltb 1 (getD ws 1 0)) (either (ltb 1 (getD ws 2 0)) (ltb 1 (getD ws 3 0)))
+
+-- what can be asked of the words before their parts are: TYPE, and VALUE of the flags
 abbrev pub wordsList : List ℕ → Refusals
-wordsList ws =
-    (COUNT, not (eqb (length ws) 15))
-    ∷ (TYPE, ltb 5 (getD ws 0 0))
-    ∷ (VALUE, either (ltb 1 (getD ws 1 0)) (either (ltb 1 (getD ws 2 0)) (ltb 1 (getD ws 3 0))))
-    ∷ []
+wordsList ws = (TYPE, ltb 5 (getD ws 0 0)) ∷ (VALUE, flagsOver ws) ∷ []
 
 unfoldable pub wordsChecks : List ℕ → Outcome Unit
 wordsChecks ws = firstGiven (wordsList ws) (accepted tt)
 
+-- "Write: TYPE, VALUE, SHORT, SIZE, TIME, INDICATOR, LAYOUT, FIELD, ROOM": as `writeList` has them, and VALUE of the flags too
+abbrev pub writeWordsList : List ℕ → List ℕ → ℕ → ℕ → Refusals
+writeWordsList ws body room at =
+    let p = partsOf ws in
+    let n = length body in
+    ((TYPE, ltb 5 (p .kind)) ∷ (VALUE, either (flagsOver ws) (not (partsFit p))) ∷ [])
+    ++ measureList p n ++ bodyList (p .kind) body ++ roomList room at (sizeFor p n)
+
 -- what writing a packet whose parts are words answers and leaves
 unfoldable pub writeWordsOf : List ℕ → List ℕ → List ℕ → ℕ → Outcome (Done ℕ (List ℕ))
-writeWordsOf ws body out at = firstGiven (wordsList ws) (writeOf (partsOf ws) body out at)
-
--- ---- what the calls give
-
-unfoldable pub readGives : List ℕ → List ℕ → Outcome (Done Unit (List ℕ))
-readGives ws answer = answering 18 packetValues (readOf ws) answer
-
-unfoldable pub writeGives : List ℕ → List ℕ → List ℕ → ℕ → List ℕ → Outcome (Done Unit (List ℕ × List ℕ))
-writeGives ws body out at answer = answeringBeside 1 oneValue (writeWordsOf ws body out at) answer
-
-unfoldable pub trailerGives : ℕ → List ℕ → Outcome (Done Unit (List ℕ))
-trailerGives word answer = answering 4 trailerValues (accepted (trailerOf word)) answer
-
-unfoldable pub trailerWordGives : ℕ → ℕ → ℕ → ℕ → List ℕ → Outcome (Done Unit (List ℕ))
-trailerWordGives enables indicators e associated answer = answering 1 oneValue (trailerWordOf enables indicators e associated) answer
-
-unfoldable pub findGives : List ℕ → ℕ → List ℕ → Outcome (Done Unit (List ℕ))
-findGives body bit answer = answering 3 foundValues (accepted (foundOf bit body)) answer
+writeWordsOf ws body out at = firstGiven (writeWordsList ws body (length out) at) (accepted (writtenDone (partsOf ws) body out at))

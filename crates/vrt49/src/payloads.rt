@@ -1,7 +1,9 @@
 // Packed samples.
+ghost use Rattle.payload_format.specs.Count.{neededOf};
+ghost use Rattle.payload_format.specs.Signs.{signedOf};
+ghost use Rattle.payload_pack.specs.Pack.{packOf};
 ghost use Rattle.payload_unpack.specs.Unpack.{buffers, unpackOf};
-ghost use Rattle.vrt49.specs.Answers.{Gives};
-ghost use Rattle.vrt49.specs.Payloads.{packGives, neededGives, signedGives};
+ghost use Rattle.vrt49.specs.Answers.{Tells, plain, left, beside};
 
 // Unpacks n items with their event tags and channel tags; answers FORMAT, COUNT or ROOM.
 #[no_mangle]
@@ -14,7 +16,7 @@ pub extern "C" fn vrt49_unpack(
     events: &mut [u8],
     channels: &mut [u16],
 ) -> u32
-    ensures { λ r. ⌜ Gives (unpackOf first second n (now (words .entry)) (buffers (now (items .entry)) (now (events .entry)) (now (channels .entry)))) (buffers (now (items .entry)) (now (events .entry)) (now (channels .entry))) r (buffers (now (items .exit)) (now (events .exit)) (now (channels .exit))) ⌝ }
+    ensures { λ r. ⌜ Tells left (unpackOf first second n (now (words .entry)) (buffers (now (items .entry)) (now (events .entry)) (now (channels .entry)))) (buffers (now (items .entry)) (now (events .entry)) (now (channels .entry))) r (buffers (now (items .exit)) (now (events .exit)) (now (channels .exit))) ⌝ }
 {
     match payload_unpack::unpack(first, second, n, words, items, events, channels) {
         words::Length::Refused(number) => number,
@@ -22,7 +24,7 @@ pub extern "C" fn vrt49_unpack(
     }
 }
 
-// Packs items with their event tags and channel tags; answers ROOM for a short answer, or what packing refuses. One value, the words written.
+// Packs items with their event tags and channel tags; answers FORMAT, COUNT, VALUE or ROOM. `length` takes the words written.
 #[no_mangle]
 pub extern "C" fn vrt49_pack(
     first: u32,
@@ -31,42 +33,33 @@ pub extern "C" fn vrt49_pack(
     events: &[u8],
     channels: &[u16],
     out: &mut [u32],
-    answer: &mut [u32],
+    length: &mut usize,
 ) -> u32
-    ensures { λ r. ⌜ Gives (packGives first second (now (items .entry)) (now (events .entry)) (now (channels .entry)) (now (out .entry)) (now (answer .entry))) (now (out .entry), now (answer .entry)) r (now (out .exit), now (answer .exit)) ⌝ }
+    ensures { λ r. ⌜ Tells (beside plain) (packOf first second (now (items .entry)) (now (events .entry)) (now (channels .entry)) (now (out .entry))) (now (out .entry), now (length .entry)) r (now (out .exit), now (length .exit)) ⌝ }
 {
-    if answer.len() < 1 {
-        return words::ROOM;
-    }
     crate::answers::give_length(
         payload_pack::pack(first, second, items, events, channels, out),
-        answer,
+        length,
     )
 }
 
-// The words that n items need; answers ROOM, FORMAT or COUNT. One value.
+// The words that n items need; answers FORMAT or COUNT.
 #[no_mangle]
-pub extern "C" fn vrt49_words_needed(first: u32, second: u32, n: usize, answer: &mut [u32]) -> u32
-    ensures { λ r. ⌜ Gives (neededGives first second n (now (answer .entry))) (now (answer .entry)) r (now (answer .exit)) ⌝ }
+pub extern "C" fn vrt49_words_needed(first: u32, second: u32, n: usize, length: &mut usize) -> u32
+    ensures { λ r. ⌜ Tells plain (neededOf first second n) (now (length .entry)) r (now (length .exit)) ⌝ }
 {
-    if answer.len() < 1 {
-        return words::ROOM;
-    }
-    crate::answers::give_length(payload_format::words_needed(first, second, n), answer)
+    crate::answers::give_length(payload_format::words_needed(first, second, n), length)
 }
 
-// The two's complement value of an item; answers ROOM, FORMAT or VALUE. One value.
+// The two's complement value of an item; answers FORMAT or VALUE.
 #[no_mangle]
-pub extern "C" fn vrt49_signed(width: u32, item: u64, value: &mut [i64]) -> u32
-    ensures { λ r. ⌜ Gives (signedGives width item (now (value .entry))) (now (value .entry)) r (now (value .exit)) ⌝ }
+pub extern "C" fn vrt49_signed(width: u32, item: u64, value: &mut i64) -> u32
+    ensures { λ r. ⌜ Tells plain (signedOf width item) (now (value .entry)) r (now (value .exit)) ⌝ }
 {
-    if value.len() < 1 {
-        return words::ROOM;
-    }
     match payload_format::signed(width, item) {
         payload_format::Shown::Refused(n) => n,
         payload_format::Shown::Value(z) => {
-            crate::answers::store_signed(value, z);
+            *value = z;
             0
         }
     }

@@ -10,5 +10,5 @@ unfolding wordsChecks
 check-words-spec =
     tie.close
     (tie.spec
-    (λ c. search cases) (λ c. search needs) (λ c. search cases) (λ c. search needs) (λ c. search cases) (λ c. search needs) (λ c. search cases)
+    (λ c. search needs) (λ c. search cases) (λ c. search needs) (λ c. search cases) (λ c. search needs) (λ c. search cases)
     (λ c. search needs) (λ c. search cases) (λ c. search cases))

@@ -1,0 +1,178 @@
+-- Every call for C, with its promise and its refusals. No call has a `requires`: it may be handed any numbers and words. The promise of a call that refuses
+-- nothing and answers its value is `r ≡ want h`; that of every other call is `Tells values (want h) (lent h) r after`, of what it is handed, h, the number r
+-- that it answers, and the lent places afterwards. These are the `ensures` of the calls, word for word; `want` is the definition of the call inside.
+use Rattle.words.specs.Kit.{_≡_, ℕ, _<_, List, [], _∷_, _++_, length, getD}
+use lib.IntN.{ℤ}
+use lib.Ieee.{Float}
+use Rattle.words.specs.Numbers.{EMPTY, TYPE, BITS, SHORT, CUT, CLASS, TIME, INDICATOR, LAYOUT, FIELD}
+use Rattle.words.specs.Numbers.{STREAM, LIST, ROOM, VALUE, SIZE, FORMAT, COUNT, TABLE, PAGE}
+use Rattle.words.specs.Tests.{when}
+use Rattle.words.specs.Outcome.{Outcome, accepted, numberOf}
+use Rattle.words.specs.Refusals.{Refusals, firstGiven, numbersIn}
+use Rattle.fields.specs.Layout.{fieldCount, foundOf, contextList, contextOf}
+use Rattle.packet.specs.Read.{readList, readOf}
+use Rattle.packet_trailer.specs.Trailer.{trailerOf, trailerList, trailerWordOf}
+use Rattle.payload_format.specs.Count.{neededList, neededOf}
+use Rattle.payload_format.specs.Signs.{signedList, signedOf}
+use Rattle.payload_pack.specs.Pack.{packList, packOf}
+use Rattle.payload_unpack.specs.Unpack.{Buffers, unpackList, unpackOf}
+use Rattle.table.specs.Start.{startList, startOf}
+use Rattle.table.specs.Well.{wellMade}
+use Rattle.play.specs.Play.{tableList, playList, playOf}
+use Rattle.play.specs.Run.{runOf}
+use Rattle.page.specs.Save.{lengthList, saveList, lengthOf, saveOf}
+use Rattle.page.specs.PutBack.{putBackList, putBackOf}
+use Rattle.panel.specs.Readings.{readingList, readingOf}
+use Rattle.panel.specs.HeldWords.{heldWordsList, heldWordsOf}
+use Rattle.vrt49.specs.Answers.{Tells, plain, left, beside}
+use Rattle.vrt49.specs.Packets.{packetValues, trailerValues, foundValues, writeWordsList, writeWordsOf}
+use Rattle.vrt49.specs.Tables.{heardValues, reachedValues}
+use Rattle.vrt49.specs.Readings.{readingValues}
+
+-- a call that answers its value; and one that answers a number, by what is wanted of it, the values of an accepted answer, the lent places, the list of its
+-- refusals, and their numbers in document 01's order
+pub data CallForC : Type 1 where
+  answers : {H : Type 0} → (H → ℕ) → CallForC
+  tells : {H A L : Type 0} → (H → Outcome A) → (A → L) → (H → L) → (H → Refusals) → List ℕ → CallForC
+
+-- "Prove that two outcomes meeting it are equal": the numbers, and the lent places afterwards
+abbrev pub OnceForC : CallForC → Type 0
+OnceForC (answers {H} want) = (h : H) (r s : ℕ) → r ≡ want h → s ≡ want h → r ≡ s
+OnceForC (tells {H} {A} {L} want values lent list numbers) =
+    (h : H) (r s : ℕ) (after after′ : L) → Tells values (want h) (lent h) r after → Tells values (want h) (lent h) s after′ → (r ≡ s) × (after ≡ after′)
+
+-- it "gets an answer": whatever it is handed, some outcome meets the promise
+abbrev pub SomeForC : CallForC → Type 0
+SomeForC (answers {H} want) = (h : H) → (r : ℕ) × (r ≡ want h)
+SomeForC (tells {H} {A} {L} want values lent list numbers) = (h : H) → (r : ℕ) × (after : L) × Tells values (want h) (lent h) r after
+
+-- "A refusal changes no word of any buffer it was lent": no lent place
+abbrev pub LeavesForC : CallForC → Type 0
+LeavesForC (answers want) = Unit
+LeavesForC (tells {H} {A} {L} want values lent list numbers) =
+    (h : H) (r : ℕ) (after : L) → Tells values (want h) (lent h) r after → 0 < r → after ≡ lent h
+
+-- "The first that applies is given, in these orders": the number is the first of its list that applies, and 0 where none does
+abbrev pub OrderForC : CallForC → Type 0
+OrderForC (answers want) = Unit
+OrderForC (tells {H} {A} {L} want values lent list numbers) =
+    (h : H) (r : ℕ) (after : L) → Tells values (want h) (lent h) r after
+    → (numbersIn (list h) ≡ numbers) × (r ≡ numberOf (firstGiven {A = Unit} (list h) (accepted tt)))
+
+-- 0 is the number of an accepted answer alone, and then the lent places hold its values
+abbrev pub ZeroForC : CallForC → Type 0
+ZeroForC (answers want) = Unit
+ZeroForC (tells {H} {A} {L} want values lent list numbers) =
+    (h : H) (after : L) → Tells values (want h) (lent h) 0 after → (a : A) × (want h ≡ accepted a) × (after ≡ values a)
+
+-- something of each call of a list
+abbrev pub EachForC : (CallForC → Type 0) → List {1} CallForC → Type 0
+EachForC P [] = Unit
+EachForC P (c ∷ cs) = P c × EachForC P cs
+
+-- "Read: 1 to 10 as listed"
+abbrev pub readNumbers : List ℕ
+readNumbers = EMPTY ∷ TYPE ∷ BITS ∷ SHORT ∷ CUT ∷ CLASS ∷ TIME ∷ INDICATOR ∷ LAYOUT ∷ FIELD ∷ []
+
+-- ---- packets, trailers and the fields of a body
+
+abbrev pub forRead : CallForC
+forRead =
+    tells (λ (h : List ℕ × List ℕ). readOf (h .0)) packetValues (λ h. h .1)
+    (λ h. readList (getD (h .0) 0 0) (h .0)) readNumbers
+
+-- "Write: TYPE, VALUE, SHORT, SIZE, TIME, INDICATOR, LAYOUT, FIELD, ROOM."
+abbrev pub forWrite : CallForC
+forWrite =
+    tells (λ (h : List ℕ × List ℕ × List ℕ × ℕ × ℕ). writeWordsOf (h .0) (h .1) (h .2) (h .3)) (beside plain) (λ h. (h .2, h .4))
+    (λ h. writeWordsList (h .0) (h .1) (length (h .2)) (h .3)) (TYPE ∷ VALUE ∷ SHORT ∷ SIZE ∷ TIME ∷ INDICATOR ∷ LAYOUT ∷ FIELD ∷ ROOM ∷ [])
+
+abbrev pub forTrailerParts : CallForC
+forTrailerParts = tells (λ (h : ℕ × List ℕ). accepted (trailerOf (h .0))) trailerValues (λ h. h .1) (λ h. []) []
+
+abbrev pub forTrailerWord : CallForC
+forTrailerWord =
+    tells (λ (h : ℕ × ℕ × ℕ × ℕ × ℕ). trailerWordOf (h .0) (h .1) (h .2) (h .3)) plain (λ h. h .4)
+    (λ h. trailerList (h .0) (h .1) (h .2) (h .3)) (VALUE ∷ [])
+
+abbrev pub forFieldCount : CallForC
+forFieldCount = answers fieldCount
+
+abbrev pub forCheckBody : CallForC
+forCheckBody = tells contextOf plain (λ body. tt) contextList (INDICATOR ∷ LAYOUT ∷ FIELD ∷ [])
+
+abbrev pub forFind : CallForC
+forFind = tells (λ (h : List ℕ × ℕ × List ℕ). accepted (foundOf (h .1) (h .0))) foundValues (λ h. h .2) (λ h. []) []
+
+-- ---- packed samples: "Pack: FORMAT, COUNT, VALUE, ROOM. Unpack: FORMAT, COUNT, ROOM. Signed value: FORMAT, VALUE."
+
+abbrev pub forUnpack : CallForC
+forUnpack =
+    tells (λ (h : ℕ × ℕ × ℕ × List ℕ × Buffers). unpackOf (h .0) (h .1) (h .2) (h .3) (h .4)) left (λ h. h .4)
+    (λ h. unpackList (h .0) (h .1) (h .2) (length (h .3)) (length (h .4 .items)) (length (h .4 .events)) (length (h .4 .channels)))
+    (FORMAT ∷ COUNT ∷ ROOM ∷ [])
+
+abbrev pub forPack : CallForC
+forPack =
+    tells (λ (h : ℕ × ℕ × List ℕ × List ℕ × List ℕ × List ℕ × ℕ). packOf (h .0) (h .1) (h .2) (h .3) (h .4) (h .5)) (beside plain) (λ h. (h .5, h .6))
+    (λ h. packList (h .0) (h .1) (h .2) (h .3) (h .4) (length (h .5))) (FORMAT ∷ COUNT ∷ VALUE ∷ ROOM ∷ [])
+
+abbrev pub forWordsNeeded : CallForC
+forWordsNeeded =
+    tells (λ (h : ℕ × ℕ × ℕ × ℕ). neededOf (h .0) (h .1) (h .2)) plain (λ h. h .3) (λ h. neededList (h .0) (h .1) (h .2)) (FORMAT ∷ COUNT ∷ [])
+
+abbrev pub forSigned : CallForC
+forSigned = tells (λ (h : ℕ × ℕ × ℤ). signedOf (h .0) (h .1)) plain (λ h. h .2) (λ h. signedList (h .0) (h .1)) (FORMAT ∷ VALUE ∷ [])
+
+-- ---- tables and pages: "Start: LIST, ROOM. Play: TABLE, read order, STREAM. Save: TABLE, SIZE, ROOM. Put back: PAGE, ROOM."
+
+abbrev pub forStart : CallForC
+forStart =
+    tells (λ (h : List ℕ × List ℕ × ℕ). startOf (h .0) (h .1)) (beside plain) (λ h. (h .1, h .2)) (λ h. startList (h .0) (h .1)) (LIST ∷ ROOM ∷ [])
+
+abbrev pub forWellMade : CallForC
+forWellMade = answers (λ (t : List ℕ). when (wellMade t) 1)
+
+abbrev pub forPlay : CallForC
+forPlay =
+    tells (λ (h : List ℕ × List ℕ × List ℕ). playOf (h .0) (h .1)) (beside heardValues) (λ h. (h .0, h .2))
+    (λ h. playList (h .0) (h .1)) ((TABLE ∷ []) ++ readNumbers ++ (STREAM ∷ []))
+
+abbrev pub forPlayRun : CallForC
+forPlayRun =
+    tells (λ (h : List ℕ × List ℕ × ℕ × List ℕ × ℕ × ℕ). runOf (h .0) (h .1) (h .2) (h .3)) (beside reachedValues) (λ h. ((h .0, h .3), (h .4, h .5)))
+    (λ h. tableList (h .0)) (TABLE ∷ [])
+
+abbrev pub forPageLength : CallForC
+forPageLength = tells (λ (h : List ℕ × ℕ). lengthOf (h .0)) plain (λ h. h .1) (λ h. lengthList (h .0)) (TABLE ∷ SIZE ∷ [])
+
+abbrev pub forSave : CallForC
+forSave =
+    tells (λ (h : List ℕ × List ℕ × ℕ). saveOf (h .0) (h .1)) (beside plain) (λ h. (h .1, h .2)) (λ h. saveList (h .0) (h .1)) (TABLE ∷ SIZE ∷ ROOM ∷ [])
+
+abbrev pub forPutBack : CallForC
+forPutBack =
+    tells (λ (h : List ℕ × List ℕ × ℕ). putBackOf (h .0) (h .1)) (beside plain) (λ h. (h .1, h .2)) (λ h. putBackList (h .0) (h .1)) (PAGE ∷ ROOM ∷ [])
+
+-- ---- readings for the panel: "Reading: TABLE, STREAM, VALUE."
+
+abbrev pub forReading : CallForC
+forReading =
+    tells (λ (h : List ℕ × ℕ × ℕ × ℕ × ℕ × ℤ × List Float). readingOf (h .0) (h .1) (h .2)) readingValues (λ h. (h .3, h .4, h .5, h .6))
+    (λ h. readingList (h .0) (h .1) (h .2)) (TABLE ∷ STREAM ∷ VALUE ∷ [])
+
+abbrev pub forHeldWords : CallForC
+forHeldWords =
+    tells (λ (h : List ℕ × ℕ × ℕ × List ℕ × ℕ). heldWordsOf (h .0) (h .1) (h .2) (h .3)) (beside plain) (λ h. (h .3, h .4))
+    (λ h. heldWordsList (h .0) (h .1) (h .2) (h .3)) (TABLE ∷ STREAM ∷ VALUE ∷ ROOM ∷ [])
+
+-- ---- all of them, in the order of include/vrt49.h
+
+abbrev pub callsForC : List {1} CallForC
+callsForC =
+    forRead ∷ forWrite ∷ forTrailerParts ∷ forTrailerWord ∷ forFieldCount ∷ forCheckBody ∷ forFind
+    ∷ forUnpack ∷ forPack ∷ forWordsNeeded ∷ forSigned
+    ∷ forStart ∷ forWellMade ∷ forPlay ∷ forPlayRun
+    ∷ forPageLength ∷ forSave ∷ forPutBack
+    ∷ forReading ∷ forHeldWords
+    ∷ []
