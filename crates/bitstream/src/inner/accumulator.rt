@@ -1,19 +1,11 @@
 // An accumulator of bits: fields taken from words, and words made of fields.
 ghost use Rattle.words.specs.Kit.{_≡_, _+_, _^_, _≤_, _<_, length};
 ghost use Rattle.bitstream.specs.Carried.{streamBits};
-ghost use Rattle.bitstream.specs.inner.Accumulator.{Takeable, Refilled, Took, TookItem, FieldTakeable, Pushable, Pushed, FieldPushable, Finished};
+ghost use Rattle.bitstream.specs.inner.Accumulator.{Takeable, Refilled, takenBits, Took, Pushable, Pushed, FieldPushable, Finished};
 use words::inner::low;
 
 // The last `have` bits of acc are held; `at` is the next word to read or to write.
-pub struct Held {
-    pub acc: u64,
-    pub have: usize,
-    pub at: usize,
-}
-
-// Bits that were taken, and what is then held.
-pub struct Taken {
-    pub value: u64,
+pub struct Accumulator {
     pub acc: u64,
     pub have: usize,
     pub at: usize,
@@ -27,8 +19,8 @@ fn carried_at(c: usize, payload: &[u32], at: usize) -> u64
     payload[at] as u64 >> (32 - c)
 }
 
-// The state with at least w bits: as it is where it has them, and else with the bits that the next word carries put behind those that it has.
-fn refill(c: usize, w: usize, s: Held, payload: &[u32]) -> Held
+// With at least w bits counted: as it is where they are, and else with the bits that the next word carries put behind.
+fn refill(c: usize, w: usize, s: Accumulator, payload: &[u32]) -> Accumulator
     requires { ⌜ Takeable c w s (now payload) ⌝ }
     ensures { λ r. ⌜ Refilled c w s (now (payload .entry)) r ⌝ }
 {
@@ -36,69 +28,37 @@ fn refill(c: usize, w: usize, s: Held, payload: &[u32]) -> Held
     if w <= s.have {
         return s;
     }
-    Held {
+    Accumulator {
         acc: (s.acc << c) + carried_at(c, payload, at),
         have: s.have + c,
         at: at + 1,
     }
 }
 
-// The next w bits.
-fn take(c: usize, w: usize, s: Held, payload: &[u32]) -> Taken
-    requires { ⌜ Takeable c w s (now payload) × (s .have < c) × (w ≤ 32) ⌝ }
-    ensures { λ r. ⌜ Took c w s (now (payload .entry)) r ⌝ }
-{
-    let h = refill(c, w, s, payload);
-    let left = h.have - w;
-    Taken {
-        value: low(h.acc >> left, w),
-        acc: h.acc,
-        have: left,
-        at: h.at,
-    }
-}
-
-// The item of the next field. The field has f bits: the item, and u bits to its right. The state says that it has u bits more than it has, so that shifting by
-// the bits left after the field cuts off those u bits too: one shift where there would be two.
-pub fn take_item(c: usize, f: usize, u: usize, s: Held, payload: &[u32]) -> Taken
+// What is held after the next field was taken. The field has f bits, of which u at the right are left out, before and after: the accumulator counts u bits
+// more than it holds, so that one shift, by all that it counts, cuts off those u bits too (`taken`).
+pub fn take(c: usize, f: usize, u: usize, s: Accumulator, payload: &[u32]) -> Accumulator
     requires { ⌜ Takeable c (f + u) s (now payload) × (u < f) × (f ≤ 32) ⌝ }
-    ensures { λ r. ⌜ TookItem c f u s (now (payload .entry)) r ⌝ }
+    ensures { λ r. ⌜ Took c f u s (now (payload .entry)) r ⌝ }
 {
     let h = refill(c, f + u, s, payload);
-    let left = h.have - f;
-    Taken {
-        value: low(h.acc >> left, f - u),
+    Accumulator {
         acc: h.acc,
-        have: left,
+        have: h.have - f,
         at: h.at,
     }
 }
 
-// The next field, of f bits: one of more than 32 in two parts.
-pub fn take_field(c: usize, f: usize, s: Held, payload: &[u32]) -> Taken
-    requires { ⌜ FieldTakeable c f s (now payload) ⌝ }
-    ensures { λ r. ⌜ Took c f s (now (payload .entry)) r ⌝ }
+// The last w bits before those that are counted: of the field that was taken last, those that are not left out.
+pub fn taken(s: Accumulator, w: usize) -> u64
+    requires { ⌜ (s .have < 64) × (w < 64) ⌝ }
+    ensures { λ r. ⌜ r ≡ takenBits s w ⌝ }
 {
-    if f <= 32 {
-        return take(c, f, s, payload);
-    }
-    let high = take(c, f - 32, s, payload);
-    let h = Held {
-        acc: high.acc,
-        have: high.have,
-        at: high.at,
-    };
-    let low = take(c, 32, h, payload);
-    Taken {
-        value: high.value * 0x1_0000_0000 + low.value,
-        acc: low.acc,
-        have: low.have,
-        at: low.at,
-    }
+    low(s.acc >> s.have, w)
 }
 
 // w bits more behind those that are held; where they fill a word, it is written.
-fn push(c: usize, w: usize, s: Held, v: u64, out: &mut [u32]) -> Held
+fn push(c: usize, w: usize, s: Accumulator, v: u64, out: &mut [u32]) -> Accumulator
     requires { ⌜ Pushable c w s v (now out) ⌝ }
     ensures { λ r. ⌜ Pushed c w s v (now (out .entry)) (now (out .exit)) r ⌝ }
 {
@@ -106,11 +66,11 @@ fn push(c: usize, w: usize, s: Held, v: u64, out: &mut [u32]) -> Held
     let have = s.have + w;
     let at = s.at;
     if have < c {
-        return Held { acc, have, at };
+        return Accumulator { acc, have, at };
     }
     let left = have - c;
     out[at] = (((acc >> left) << (32 - c)) % 0x1_0000_0000) as u32;
-    Held {
+    Accumulator {
         acc,
         have: left,
         at: at + 1,
@@ -118,7 +78,7 @@ fn push(c: usize, w: usize, s: Held, v: u64, out: &mut [u32]) -> Held
 }
 
 // One more field, of f bits: one of more than 32 in two parts.
-pub fn push_field(c: usize, f: usize, s: Held, v: u64, out: &mut [u32]) -> Held
+pub fn push_field(c: usize, f: usize, s: Accumulator, v: u64, out: &mut [u32]) -> Accumulator
     requires { ⌜ FieldPushable c f s v (now out) ⌝ }
     ensures { λ r. ⌜ Pushed c f s v (now (out .entry)) (now (out .exit)) r ⌝ }
 {
@@ -130,7 +90,7 @@ pub fn push_field(c: usize, f: usize, s: Held, v: u64, out: &mut [u32]) -> Held
 }
 
 // The last bits, at the left of a word.
-pub fn finish(s: Held, out: &mut [u32])
+pub fn finish(s: Accumulator, out: &mut [u32])
     requires { ⌜ (s .have < 32) × (0 < s .have → s .at < length (now out)) ⌝ }
     ensures { λ r. ⌜ Finished s (now (out .entry)) (now (out .exit)) ⌝ }
 {
