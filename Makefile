@@ -1,4 +1,4 @@
-# make play, make test; for C: make lib, make example; make compare, make speed; make wrong, make count; make vectors.
+# make play, make test; for C: make lib, make example; make compare, make speed, make stack; make wrong, make count; make vectors.
 
 # tries the wrong programs of wrong/, of all crates or of those named behind it: make wrong play page
 ifeq (wrong,$(firstword $(MAKECMDGOALS)))
@@ -9,7 +9,7 @@ wrong:
 $(CRATES):
 	@:
 else
-.PHONY: play test lib example compare speed count vectors
+.PHONY: play test lib example compare speed stack count vectors
 
 # plays the sample survey and prints a line for each packet
 play:
@@ -37,6 +37,10 @@ compare:
 # counts executed instructions against C by hand, and against UHD
 speed: lib
 	@bench/measure.sh
+
+# the bytes of stack that each call of the library takes
+stack: lib
+	@tools/stack
 
 # what the proofs weigh, and whether they keep to their rules
 count:
