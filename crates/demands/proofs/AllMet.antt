@@ -1,10 +1,12 @@
 -- The demands are met. Each line cites the theorem that proves it.
 use Rattle.words.proofs.Kit.{refl, _∙_, []}
 use Rattle.table.proofs.StartLaws.{start-well-made}
+use Rattle.vrt49.proofs.CallLaws.{every-once, every-some, every-leaves, every-order, every-zero}
 use Rattle.demands.specs.Calls.{calls}
 use Rattle.demands.specs.Program.{ours}
 use Rattle.demands.specs.Demands.{Demand1, Demand2, Demand3}
 use Rattle.demands.proofs.Sources.{sources}
+use Rattle.demands.proofs.SourcesForC.{sources-for-c}
 use Rattle.demands.proofs.Answered.{some-outcome}
 use Rattle.demands.proofs.Once.{one-outcome, each-refusal}
 use Rattle.demands.proofs.InOrder.{in-order}
@@ -28,6 +30,14 @@ demand-1 = record {
   numbers = in-order;
   well-made = judged;
   refusals = each-refusal calls;
+  for-c = record {
+    sources = sources-for-c;
+    answered = every-some;
+    once = every-once;
+    numbers = every-order;
+    accepted = every-zero;
+    refusals = every-leaves;
+  };
 }
 
 pub demand-2 : Demand2 ours

@@ -49,3 +49,5 @@ pub mod Samples
 pub mod Useless
 -- the list of calls is the functions' own promises
 pub mod Sources
+-- and so is that of the calls for C
+pub mod SourcesForC

@@ -1,5 +1,5 @@
 -- The list of calls is tied to its sources: each promise is the function's own, word for word, and no function asks anything (`sources`); and the code of each
--- meets its contract, so it returns, and what it answers and leaves is as promised (`.._kept`).
+-- meets its contract, so it returns, and what it answers and leaves is as promised (`..-kept`).
 use Rattle.words.proofs.Kit.{refl}
 use Rattle.fields.proofs.field_count.Statement as field_count
 use Rattle.fields.proofs.field_count.Met as field_count-met

@@ -22,6 +22,7 @@ use Rattle.page.specs.PutBack.{putBackOf}
 use Rattle.page.specs.Save.{lengthOf, saveOf}
 use Rattle.panel.specs.HeldWords.{heldWordsOf}
 use Rattle.panel.specs.Readings.{readingOf, readingPaper}
+use Rattle.vrt49.specs.Answers.{plain}
 
 -- a call that answers alone, and one that is lent words: how its answers read on paper, what is wanted by what it is handed, and which words are lent
 pub data Call : Type 1 where
@@ -49,10 +50,6 @@ RefusalLeaves (lends {H} {A} {B} {L} paper want lent) =
 abbrev pub Each : (Call → Type 0) → List {1} Call → Type 0
 Each P [] = Unit
 Each P (c ∷ cs) = P c × Each P cs
-
--- a number or a truth reads as itself
-abbrev pub plain : {A : Type 0} → A → A
-plain a = a
 
 -- ---- the calls
 

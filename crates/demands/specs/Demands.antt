@@ -19,6 +19,7 @@ use Rattle.demands.specs.Calls.{SomeOutcome, OneOutcome, RefusalLeaves, 
 use Rattle.demands.specs.Sources.{Sources}
 use Rattle.demands.specs.Refusals.{InOrder}
 use Rattle.demands.specs.WellMade.{Judged}
+use Rattle.demands.specs.ForC.{ForC}
 use Rattle.demands.specs.Clean.{Clean}
 use Rattle.demands.specs.Trace.{traceOf, answersAfter}
 use Rattle.demands.specs.Program.{Program, Accepts, AreWords, playAll, saidAll}
@@ -45,6 +46,8 @@ pub record Demand1 : Type 1 where
   pub well-made : Judged
   -- "A refusal changes no word of any buffer it was lent."
   pub refusals : Each RefusalLeaves calls
+  -- and all of it of the calls for C
+  pub for-c : ForC
 
 -- ---- demand 2: "Packets, context fields and packed samples are read and written as VITA 49.0 defines them, within the limits of document 01."
 

@@ -34,3 +34,7 @@ pub mod Calls
 pub mod Samples
 -- each call of the list, tied to its function
 pub mod Sources
+-- the calls for C
+pub mod ForC
+-- each call for C, tied to its function
+pub mod SourcesForC
