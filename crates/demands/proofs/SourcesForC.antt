@@ -1,5 +1,5 @@
--- The list of calls for C is tied to its sources, as that of the calls inside: no function asks anything, and each promise is its own. That the code returns and
--- keeps it say the theorems `..-kept`.
+-- The list of calls for C is tied to its sources, as that of the calls inside: no function asks anything, and each promise is its own. That the code
+-- returns and keeps it say the theorems `..-kept`.
 use Rattle.words.proofs.Kit.{refl}
 use Rattle.vrt49.proofs.vrt49_read.Statement as read
 use Rattle.vrt49.proofs.vrt49_read.Met as read-met
