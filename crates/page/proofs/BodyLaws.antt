@@ -26,7 +26,7 @@ use Rattle.record.proofs.HoldLaws.{slot-inside}
 use Rattle.record.proofs.GoodLaws.{zero-at, good-of}
 use Rattle.record.proofs.SqueezeLaws.{refilled-drop, held-length, refilled-held, held-refilled}
 use Rattle.page.specs.Body.{pageBody, pageBodyWords, recordOf}
-use Rattle.page.proofs.PieceLaws.{part-join}
+use Rattle.words.proofs.PieceLaws.{part-join}
 
 -- ---- the first words
 

@@ -6,10 +6,10 @@ use Rattle.table.specs.Layout.{streamsOf, recordAt}
 use Rattle.table.specs.Well.{wellMade}
 use Rattle.table.proofs.RecordLaws as Records
 use Rattle.table.proofs.WellLaws.{layout-has, well-whole, well-few, well-record}
-use Rattle.page.specs.Pieces.{pieces}
+use Rattle.words.specs.Pieces.{pieces}
 use Rattle.page.specs.Body.{pageBodyWords}
 use Rattle.page.specs.Layout.{offsetOf, savedBody, pageOf, pageLength, mostWords}
-use Rattle.page.proofs.PieceLaws.{pieces-none, pieces-next}
+use Rattle.words.proofs.PieceLaws.{pieces-none, pieces-next}
 use Rattle.page.proofs.BodyLaws.{words-most, body-length}
 use Rattle.page.proofs.LayoutLaws.{page-length}
 

@@ -8,9 +8,9 @@ use Rattle.words.specs.Part.{part}
 use Rattle.words.proofs.PartLaws.{part-is, part-past, part-within, part-whole, part-length, getD-part}
 use Rattle.record.specs.Layout.{recordWords}
 use Rattle.table.specs.Layout.{streamsOf, base, layoutWords, recordAt}
-use Rattle.page.specs.Pieces.{pieces}
+use Rattle.words.specs.Pieces.{pieces}
 use Rattle.page.specs.Layout.{pairAt, contentsWords, offsetOf, pairOf, pageFrom, bodiesIn, offsetAt, lengthAt, beginsAt, pageBodyAt, tableFrom}
-use Rattle.page.proofs.PieceLaws.{pieces-none, pieces-same, pieces-next, pieces-length, pieces-inside, pieces-at, pieces-parts, part-join}
+use Rattle.words.proofs.PieceLaws.{pieces-none, pieces-same, pieces-next, pieces-length, pieces-inside, pieces-at, pieces-parts, part-join}
 
 -- ---- what a pair says, read at its place
 

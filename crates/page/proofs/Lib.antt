@@ -1,7 +1,5 @@
 -- The laws of pages, each beside its kin.
 
--- numbered pieces, one after the other
-pub mod PieceLaws
 -- a record and its body
 pub mod BodyLaws
 -- the page of some bodies, and the table of some records

@@ -25,7 +25,7 @@ use Rattle.record.proofs.SlotLaws.{placed-inside, in-order-same, held-low, held
 use Rattle.record.proofs.HoldLaws.{within-holds}
 use Rattle.record.proofs.AfterLaws.{masked-within, masked-has, masked-place}
 use Rattle.table.specs.Layout.{base, layoutWords, Has, withRecord}
-use Rattle.page.specs.Pieces.{pieces}
+use Rattle.words.specs.Pieces.{pieces}
 use Rattle.page.specs.Body.{pageBodyWords, recordOf}
 use Rattle.page.specs.Layout.{bodiesIn, offsetAt, lengthAt, pageBodyAt, savedRecord, tableFrom, tableOf}
 use Rattle.page.specs.inner.Tested.{contentsGood, recordGoodIn, pageOk}

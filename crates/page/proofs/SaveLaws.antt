@@ -27,7 +27,7 @@ use Rattle.table.specs.Layout.{streamsOf, base, recordAt}
 use Rattle.table.specs.Well.{wellMade}
 use Rattle.table.proofs.RecordLaws as Records
 use Rattle.table.proofs.WellLaws.{layout-has, well-whole, well-few, well-record}
-use Rattle.page.specs.Pieces.{pieces}
+use Rattle.words.specs.Pieces.{pieces}
 use Rattle.page.specs.Body.{pageBody, pageBodyWords}
 use Rattle.page.specs.Layout.{contentsWords, pairAt, offsetOf, pairOf, pageFrom, savedBody, pairsOf, bodiesOf, bodiesFrom, pageOf, pageLength, mostWords}
 use Rattle.page.specs.Save.{sizeLimit, lengthList, lengthOf, saveOf}

@@ -11,7 +11,7 @@ use Rattle.record.specs.Held.{heldBits, inOrder}
 use Rattle.record.specs.Layout.{headWords, slotWords, heldOf, slotIn}
 use Rattle.record.specs.After.{slotAfter, refilled}
 use Rattle.table.specs.Well.{wellMade}
-use Rattle.page.specs.Pieces.{pieces}
+use Rattle.words.specs.Pieces.{pieces}
 use Rattle.page.specs.Body.{recordOf}
 use Rattle.page.specs.Layout.{pageOf, bodiesIn, pageBodyAt, savedRecord, tableFrom, tableOf}
 use Rattle.page.specs.Good.{pageGood}

@@ -7,8 +7,8 @@ use lib.Seq.{sets, sets-eq, set-comm}
 use Rattle.words.specs.Part.{put}
 use Rattle.words.specs.Laid.{Laid}
 use Rattle.words.proofs.LaidLaws.{then, sets-put}
-use Rattle.page.specs.Pieces.{pieces}
-use Rattle.page.proofs.PieceLaws.{pieces-none, pieces-more}
+use Rattle.words.specs.Pieces.{pieces}
+use Rattle.words.proofs.PieceLaws.{pieces-none, pieces-more}
 
 -- ---- one piece
 

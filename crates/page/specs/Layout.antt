@@ -3,7 +3,7 @@
 use Rattle.words.specs.Kit.{ℕ, zero, suc, _+_, _*_, List, [], _∷_, _++_, length, getD}
 use Rattle.words.specs.Part.{part}
 use Rattle.table.specs.Layout.{streamsOf, recordAt}
-use Rattle.page.specs.Pieces.{pieces}
+use Rattle.words.specs.Pieces.{pieces}
 use Rattle.page.specs.Body.{pageBody, recordOf}
 
 -- ---- the page of n bodies

@@ -1,7 +1,5 @@
 -- The page of a table, in reading order.
 
--- lists of numbered pieces, one after the other
-pub mod Pieces
 -- a stream's body in a page
 pub mod Body
 -- the page of a table, and what stands where in a page

@@ -26,3 +26,5 @@ pub mod LaidLaws
 mod CopyLaws
 -- a test at every number below a bound
 pub mod AllLaws
+-- numbered pieces, one after the other
+pub mod PieceLaws

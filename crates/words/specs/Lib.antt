@@ -22,3 +22,5 @@ pub mod Part
 pub mod Laid
 -- a test at every number below a bound
 pub mod All
+-- numbered pieces, one after the other
+pub mod Pieces

@@ -1,13 +1,13 @@
 -- Numbered pieces, one after the other. The idea: piece s begins where the pieces before it end, so it is found there (`pieces-at`); and a list cut at places
 -- without gaps is its parts, one after the other (`pieces-parts`).
 use Rattle.words.proofs.Kit.{_≡_, refl, sym, ap, _∙_, ⊎-elim, List, [], _++_, ℕ, zero, suc, _+_, _-_, _*_, _≤_, _<_, arith, length}
 use native.Mathlib.Nat.{add-zero, mul-zero, not-suc-le-zero}
 use lib.ListN.{length-append}
 use lib.Seq.{take-add, drop-drop}
 use Rattle.words.specs.Part.{part}
 use Rattle.words.proofs.Cases.{le-or-lt}
 use Rattle.words.proofs.PartLaws.{part-is, part-past, part-within, part-whole}
-use Rattle.page.specs.Pieces.{pieces}
+use Rattle.words.specs.Pieces.{pieces}
 
 -- ---- its clauses
 

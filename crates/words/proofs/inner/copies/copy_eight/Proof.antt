@@ -1,8 +1,8 @@
 -- `copy_eight` meets its promise: the second piece stands right behind the first.
-use Rattle.record.proofs.CopyLaws.{copied-then}
+use Rattle.words.proofs.CopyLaws.{copied-then}
 use borrow.Author.Needs.{needs}
-use Rattle.record.proofs.inner.copies.copy_eight.Statement.{statement}
-use Rattle.record.proofs.inner.copies.copy_eight.Tie as tie
+use Rattle.words.proofs.inner.copies.copy_eight.Statement.{statement}
+use Rattle.words.proofs.inner.copies.copy_eight.Tie as tie
 
 pub copy-eight-spec : {M : Type 1} → statement M
 copy-eight-spec =

@@ -1,8 +1,8 @@
 -- `copy_part` meets its promise: both parts are lent to `copy_words`, and `copied-part` says what that leaves.
 use Rattle.words.proofs.CopyLaws.{copied-part}
 use borrow.Author.Needs.{needs}
-use Rattle.words.proofs.inner.copy_part.Statement.{statement}
-use Rattle.words.proofs.inner.copy_part.Tie as tie
+use Rattle.words.proofs.inner.copies.copy_part.Statement.{statement}
+use Rattle.words.proofs.inner.copies.copy_part.Tie as tie
 
 returns : tie.Need-returns
 returns c =

@@ -1,8 +1,8 @@
 -- `copy_one` meets its promise: a word stored is a part put.
-use Rattle.record.proofs.CopyLaws.{copied-one}
+use Rattle.words.proofs.CopyLaws.{copied-one}
 use borrow.Author.Needs.{needs}
-use Rattle.record.proofs.inner.copies.copy_one.Statement.{statement}
-use Rattle.record.proofs.inner.copies.copy_one.Tie as tie
+use Rattle.words.proofs.inner.copies.copy_one.Statement.{statement}
+use Rattle.words.proofs.inner.copies.copy_one.Tie as tie
 
 pub copy-one-spec : {M : Type 1} → statement M
 copy-one-spec =

@@ -1,8 +1,8 @@
 -- `copy_eleven` meets its promise: each piece stands right behind the one before.
-use Rattle.record.proofs.CopyLaws.{copied-eleven}
+use Rattle.words.proofs.CopyLaws.{copied-eleven}
 use borrow.Author.Needs.{needs}
-use Rattle.record.proofs.inner.copies.copy_eleven.Statement.{statement}
-use Rattle.record.proofs.inner.copies.copy_eleven.Tie as tie
+use Rattle.words.proofs.inner.copies.copy_eleven.Statement.{statement}
+use Rattle.words.proofs.inner.copies.copy_eleven.Tie as tie
 
 pub copy-eleven-spec : {M : Type 1} → statement M
 copy-eleven-spec =

@@ -2,8 +2,8 @@
 use Rattle.words.proofs.Kit.{_≤_, _<_, _-_, _≡_, _++_, length, take, drop, arith, needs}
 use lib.ListN.{length-set}
 use Rattle.words.proofs.CopyLaws.{copy-more, copied-all}
-use Rattle.words.proofs.inner.copy_words.Statement.{statement}
-use Rattle.words.proofs.inner.copy_words.Tie as tie
+use Rattle.words.proofs.inner.copies.copy_words.Statement.{statement}
+use Rattle.words.proofs.inner.copies.copy_words.Tie as tie
 
 abbrev Inv-loop : tie.InvT-loop
 Inv-loop dst₀ src i₀ dst i = (i ≤ length dst₀) × (length dst ≡ length dst₀) × (dst ≡ take i src ++ drop i dst₀)

@@ -1,0 +1,17 @@
+// Words read: the one at a place, and two as one number.
+ghost use Rattle.words.specs.Kit.{_≡_, getD};
+ghost use Rattle.words.specs.Word.{highFirst};
+
+// The word at a place, and 0 past the end.
+pub fn word_at(ws: &[u32], i: usize) -> u32
+    ensures { λ r. ⌜ r ≡ getD (now (ws .entry)) i 0 ⌝ }
+{
+    if i < ws.len() { ws[i] } else { 0 }
+}
+
+// Two words as one number, high first.
+pub fn high_first(high: u32, low: u32) -> u64
+    ensures { λ r. ⌜ r ≡ highFirst high low ⌝ }
+{
+    high as u64 * 0x1_0000_0000 + low as u64
+}
