@@ -25,7 +25,8 @@ use Rattle.table.specs.Well.{recordGoodAt, wellMade}
 use Rattle.table.proofs.ListLaws.{list-same, stream-is}
 use Rattle.play.specs.declared.Heard.{Heard}
 use Rattle.play.specs.declared.run.Reached.{Reached}
-use Rattle.play.specs.Play.{heardOf, tableAfter, heardDone, soughtOf, playOf}
+use Rattle.play.specs.Play.{heardOf, tableAfter, heardDone, playOf}
+use Rattle.play.specs.inner.Steps.{soughtOf}
 use Rattle.play.specs.Run.{goesOn, saidAt, leftAt, nextOf, entryWords, entryAt, Walk, ended, before, walkOf, wholeWalk, runOf}
 use Rattle.play.proofs.StreamLaws.{sought-below}
 use Rattle.play.proofs.PlayLaws.{step-read, play-step, play-refuses}
