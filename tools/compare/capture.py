@@ -17,6 +17,7 @@ import struct
 import subprocess
 import sys
 import tempfile
+from itertools import zip_longest
 from pathlib import Path
 
 sys.dont_write_bytecode = True
@@ -72,11 +73,13 @@ def expect(what, capture, recording, left=(), status=None, says=(), arguments=()
 
 def play(what, recording, lines):
     """vrtplay must print the lines."""
-    command = os.environ.get("VRTPLAY", "tools/run vrtplay").split()
-    done = subprocess.run(command, input=recording, stdout=subprocess.PIPE, stderr=subprocess.DEVNULL)
+    command = (os.environ.get("VRTPLAY") or "tools/run vrtplay").split()
+    done = subprocess.run(command, input=recording, capture_output=True)
     found = done.stdout.decode().splitlines()
     if found != lines:
-        differs(f"{what}, played", *(f"{one} | {two}" for one, two in zip(lines, found) if one != two))
+        pairs = [pair for pair in zip_longest(lines, found) if pair[0] != pair[1]][:10]
+        said = [f"expected {one}, printed {two}" for one, two in pairs]
+        differs(f"{what}, played", *said, *done.stderr.decode().splitlines()[-5:])
     tried["played"] += 1
 
 
@@ -296,7 +299,7 @@ def links():
     four, six = ip4(udp(A)), ip6(udp(A))
     for what, link, frame in (
         ("padding behind IP", 1, ether(four) + bytes(6)), ("IP options", 1, ether(ip4(udp(A), options=bytes(8)))),
-        ("a VLAN tag", 1, ether(four, tags=[0x8100])), ("two VLAN tags", 1, ether(four, tags=[0x88A8, 0x8100])),
+        ("a VLAN tag", 1, ether(four, tags=[0x8100])), ("three VLAN tags", 1, ether(four, tags=[0x9100, 0x88A8, 0x8100])),
         ("IPv6", 1, ether(six, 0x86DD)), ("IPv6 with a tag", 1, ether(six, 0x86DD, tags=[0x8100])),
         ("IPv6 with options", 1, ether(ip6(bytes([17, 0, 1, 4, 0, 0, 0, 0]) + udp(A), 0), 0x86DD)),
         ("all interfaces", 113, bytes(14) + b"\x08\x00" + four),
@@ -362,6 +365,9 @@ def cut():
     expect("snapped", pcap(long, b, snap=120), wanted, [f"frame 1: {FRONT}"])
     expect("snapped in the UDP header", pcap(long[:40], b), wanted, [f"frame 1: {FRONT}"])
     expect("snapped in the Ethernet header", pcap(long[:10], b), wanted, [f"frame 1: {APART}"])
+    expect("snapped in the IP header", pcap(long[:30], b), wanted, [f"frame 1: {APART}"])
+    tagged = ether(ip6(udp(A)), 0x86DD, tags=[0x8100])
+    expect("snapped in the IPv6 header", pcap(tagged[:50], b), wanted, [f"frame 1: {APART}"])
     expect("an empty frame", pcap(b"", b, link=1), wanted, [f"frame 1: {APART}"])
     expect("a UDP length past the end", pcap(ether(ip4(udp(A, length=99))), b), wanted, [f"frame 1: {FRONT}"])
     expect("no UDP length", pcap(ether(ip4(udp(B, length=0)))), wanted)

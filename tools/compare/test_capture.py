@@ -33,8 +33,10 @@ FAULTS = {
     ],
     "ports": [('struct.unpack(">2xH", data[:4])', 'struct.unpack(">H", data[:2])')],
     "links": [
-        ("bytes(12) + data[14:]", "data"),
-        ("data[:2] + data[20:]", "data[:2] + data[18:]"),
+        ("typed(data[14:])", "typed(data[12:])"),
+        ("typed(data[:2] + data[20:])", "typed(data[:2] + data[18:])"),
+        ("return typed(data[4:])", "return None"),
+        ("IP_TYPES = (0x0800, 0x86DD)", "IP_TYPES = (0x0800,)"),
         ("6: dpkt.ip6.IP6", "5: dpkt.ip6.IP6"),
         ('"its header"))[0] % 2**16', '"its header"))[0]'),
     ],
