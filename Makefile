@@ -30,7 +30,7 @@ lib:
 example: lib
 	@tools/run_c examples/c/survey.c
 
-# holds the library for C to the reference, to UHD and to tshark, and vrtplay to its recordings
+# holds the library for C to the reference, to UHD and to tshark, vrtplay to its recordings, and tools/capture to known packets
 compare:
 	@tools/compare/compare.sh
 

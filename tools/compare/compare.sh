@@ -1,6 +1,7 @@
 #!/bin/sh
-# Holds libvrt49.a to the reference, to UHD and to tshark, and vrtplay to its recordings; ends at the first difference.
-# It is what `make compare` runs. LIBRARY names a library that is made already, VRTPLAY a command that plays (recordings.sh).
+# Holds libvrt49.a to the reference, to UHD and to tshark, vrtplay to its recordings, and tools/capture to known packets; ends at the
+# first difference.
+# It is what `make compare` runs. LIBRARY names a library that is made already, VRTPLAY a command that plays (recordings.sh, capture.py).
 set -eu
 cd "$(dirname "$0")/../.."
 here=tools/compare
@@ -8,7 +9,7 @@ work=target/compare
 mkdir -p "$work"
 
 # what is needed from Debian
-needed='g++ libuhd-dev libboost-dev tshark'
+needed='g++ libuhd-dev libboost-dev tshark python3-dpkt'
 cc=gcc
 run=
 if [ "$(uname -m)" != x86_64 ]; then
@@ -45,6 +46,7 @@ step 'cases of every call, some minutes' python3 $here/cases.py -- $run "$work/d
 step 'packets of UHD' python3 $here/peers.py uhd "$work/uhd_packets" -- $run "$work/drive"
 step 'packets for tshark' python3 $here/peers.py tshark "$work" -- $run "$work/drive"
 step 'recordings' $here/recordings.sh
+step 'captures' python3 $here/capture.py tools/capture "$work/uhd_packets"
 
 # each comparison must fail when drive.c spoils an answer
 spoilt() { # BEND COMMAND ..
@@ -59,5 +61,6 @@ spoilt 1 python3 $here/cases.py --few -- $run "$work/drive"
 spoilt 2 python3 $here/peers.py uhd "$work/uhd_packets" -- $run "$work/drive"
 spoilt 2 python3 $here/peers.py tshark "$work" -- $run "$work/drive"
 step 'the comparison itself' python3 $here/test_cases.py $run "$work/drive"
+step 'the captures themselves' python3 $here/test_capture.py "$work/uhd_packets"
 echo
 cat "$summary"
