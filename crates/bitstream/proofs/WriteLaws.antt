@@ -11,25 +11,25 @@ use Rattle.bitstream.proofs.SpanLaws.{split, first, last, blank, none}
 use Rattle.bitstream.proofs.AccumulatorLaws.{append-below, appended, taken, left, word-left}
 use Rattle.bitstream.proofs.CarriedLaws.{needed-even, needed-odd}
 use Rattle.bitstream.proofs.FilledLaws.{filled-length, filled-none, filled-more}
-use Rattle.bitstream.specs.declared.inner.accumulator.Held.{Held}
-use Rattle.bitstream.specs.inner.Accumulator.{Behind, Pushable, Pushed, FieldPushable, Finished}
+use Rattle.bitstream.specs.declared.inner.accumulator.Accumulator.{Accumulator}
+use Rattle.bitstream.specs.inner.Accumulator.{emptyBut, Behind, Pushable, Pushed, FieldPushable, Finished}
 
 -- nothing is held yet
-pub behind-none : (c f : ℕ) (g : ℕ → ℕ) (out : List ℕ) → Behind c f g out out (record { acc = 0; have = 0; at = 0 })
+pub behind-none : (c f : ℕ) (g : ℕ → ℕ) (out : List ℕ) → Behind c f g out out (emptyBut 0)
 behind-none c f g out = record { inside = omega arith; written = filled-none (wordOf c f g) out; held = sym (none f g (c * 0)) }
 
 -- the buffer keeps its length
-pub behind-long : {c f : ℕ} {g : ℕ → ℕ} {first out : List ℕ} {s : Held} → Behind c f g first out s → length out ≡ length first
+pub behind-long : {c f : ℕ} {g : ℕ → ℕ} {first out : List ℕ} {s : Accumulator} → Behind c f g first out s → length out ≡ length first
 behind-long {first = first} b = ap length (b .written) ∙ filled-length _ _ first (b .inside)
 
 -- the bits that are held, with the new ones behind them; and the word that they fill
-abbrev pub joint : Held → ℕ → ℕ → ℕ
+abbrev pub joint : Accumulator → ℕ → ℕ → ℕ
 joint s v w = (s .acc * 2 ^ w) % 2 ^ 64 + v
 
-abbrev pub filledWord : ℕ → Held → ℕ → ℕ → ℕ
+abbrev pub filledWord : ℕ → Accumulator → ℕ → ℕ → ℕ
 filledWord c s v w = (joint s v w / 2 ^ (s .have + w - c) * 2 ^ (32 - c)) % 2 ^ 64 % 2 ^ 32
 
-module _ (c w : ℕ) (s : Held) (v : ℕ) (out : List ℕ) (h : Pushable c w s v out) where
+module _ (c w : ℕ) (s : Accumulator) (v : ℕ) (out : List ℕ) (h : Pushable c w s v out) where
   pub joint-below : joint s v w < 2 ^ 64
   joint-below = append-below (s .acc) v w 64 (omega arith) (h .fits)
 
@@ -40,7 +40,7 @@ module _ (c w : ℕ) (s : Held) (v : ℕ) (out : List ℕ) (h : Pushable c w s v
       → joint s v w % 2 ^ (s .have + w) ≡ span f g (c * s .at) (s .have + w)
   joint-is f g e q = appended f g (s .acc) (c * s .at) (s .have) e v w 64 (omega arith) (h .fits) q
 
-  pub pushed-more : s .have + w < c → Pushed c w s v out out (record { acc = joint s v w; have = s .have + w; at = s .at })
+  pub pushed-more : s .have + w < c → Pushed c w s v out out (record { acc = joint s v w; have = s .have + w; at = s .at; value = 0 })
   pushed-more l = record {
     place = sym (add-assoc (c * s .at) (s .have) w);
     few = l;
@@ -48,7 +48,7 @@ module _ (c w : ℕ) (s : Held) (v : ℕ) (out : List ℕ) (h : Pushable c w s v
   }
 
   pub pushed-word : c ≤ s .have + w
-      → Pushed c w s v out (set out (s .at) (filledWord c s v w)) (record { acc = joint s v w; have = s .have + w - c; at = s .at + 1 })
+      → Pushed c w s v out (set out (s .at) (filledWord c s v w)) (record { acc = joint s v w; have = s .have + w - c; at = s .at + 1; value = 0 })
   unfolding wordOf
   pushed-word l = record {
     place = omega (arith, mul-add c (s .at) 1);
@@ -83,7 +83,7 @@ last-word c f a h x g l k e z =
     ∙ ap (span f g (c * a)) r)
 
 -- all n fields are put, and the last bits written
-pub finished : (c f n : ℕ) (g : ℕ → ℕ) (first out out′ : List ℕ) (s : Held) → 0 < c → c ≤ 32 → 0 < f → ((j : ℕ) → n ≤ j → g j ≡ 0)
+pub finished : (c f n : ℕ) (g : ℕ → ℕ) (first out out′ : List ℕ) (s : Accumulator) → 0 < c → c ≤ 32 → 0 < f → ((j : ℕ) → n ≤ j → g j ≡ 0)
     → s .have < c → c * s .at + s .have ≡ f * n → (0 < s .have → s .at < length out) → Behind c f g first out s → Finished s out out′
     → out′ ≡ filled (needed c f n) (wordOf c f g) first
 finished c f n g first out out′ s pc mc pf z l e r k q = go (s .have) refl
@@ -103,7 +103,7 @@ finished c f n g first out out′ s pc mc pf z l e r k q = go (s .have) refl
 
 -- ---- a field of more than 32 bits, in two parts
 -- its first a bits, and its last b
-pushed-twice : (c : ℕ) (s h r : Held) (v f a b : ℕ) (out out₁ out₂ : List ℕ) → f ≡ a + b
+pushed-twice : (c : ℕ) (s h r : Accumulator) (v f a b : ℕ) (out out₁ out₂ : List ℕ) → f ≡ a + b
     → Pushed c a s (v / 2 ^ b) out out₁ h → Pushed c b h (v % 2 ^ b) out₁ out₂ r → Pushed c f s v out out₂ r
 pushed-twice c s h r v f a b out out₁ out₂ e x y = record {
   place = omega (arith, x .place, y .place);
@@ -120,7 +120,7 @@ pushed-twice c s h r v f a b out out₁ out₂ e x y = record {
 room-for : (c a h w l : ℕ) → 0 < c → c ≤ h + w → c * a + h + w ≤ l * c → a < l
 room-for c a h w l pc k r = lt-of-mul-lt-mul-right c (omega (arith, mul-comm c a))
 
-module _ (c f : ℕ) (s : Held) (v : ℕ) (out : List ℕ) (p : FieldPushable c f s v out) where
+module _ (c f : ℕ) (s : Accumulator) (v : ℕ) (out : List ℕ) (p : FieldPushable c f s v out) where
   pub narrow-pushable : f ≤ 32 → Pushable c f s v out
   narrow-pushable l = record {
     some = p .some;
@@ -147,7 +147,7 @@ module _ (c f : ℕ) (s : Held) (v : ℕ) (out : List ℕ) (p : FieldPushable c 
           room = λ q. room-for c (s .at) (s .have) (f - 32) (length out) (p .some) q (omega (arith, p .room));
         }
 
-    module _ (h : Held) (d : ℕ) (mid : List ℕ) (x : Pushed c (f - 32) s (v / 2 ^ 32) out mid h) (e : d ≡ v % 2 ^ 32) where
+    module _ (h : Accumulator) (d : ℕ) (mid : List ℕ) (x : Pushed c (f - 32) s (v / 2 ^ 32) out mid h) (e : d ≡ v % 2 ^ 32) where
       pub back-pushable : length mid ≡ length out → d < 2 ^ 32 → Pushable c 32 h d mid
       back-pushable m b =
           let q = p .wide l in
@@ -160,5 +160,5 @@ module _ (c f : ℕ) (s : Held) (v : ℕ) (out : List ℕ) (p : FieldPushable c 
             room = λ r. room-for c (h .at) (h .have) 32 (length mid) (p .some) r (rw m (omega (arith, p .room, x .place)));
           }
 
-      pub pushed-wide : (r : Held) (out′ : List ℕ) → Pushed c 32 h d mid out′ r → Pushed c f s v out out′ r
+      pub pushed-wide : (r : Accumulator) (out′ : List ℕ) → Pushed c 32 h d mid out′ r → Pushed c f s v out out′ r
       pushed-wide r out′ y = pushed-twice c s h r v f (f - 32) 32 out mid out′ (sym wide) x (rw e at y)

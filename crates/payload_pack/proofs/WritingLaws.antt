@@ -6,8 +6,8 @@ use native.Mathlib.Nat.{mul-add, mul-comm, lt-of-mul-lt-mul-right, mul-le-mul-le
 use Rattle.bitstream.specs.Stream.{span}
 use Rattle.bitstream.specs.Carried.{wordOf, needed}
 use Rattle.bitstream.specs.Filled.{filled}
-use Rattle.bitstream.specs.declared.inner.accumulator.Held.{Held}
-use Rattle.bitstream.specs.inner.Accumulator.{Behind, Pushed, FieldPushable, Finished}
+use Rattle.bitstream.specs.declared.inner.accumulator.Accumulator.{Accumulator}
+use Rattle.bitstream.specs.inner.Accumulator.{emptyBut, Behind, Pushed, FieldPushable, Finished}
 use Rattle.bitstream.proofs.SpanLaws.{whole}
 use Rattle.bitstream.proofs.CarriedLaws.{enough}
 use Rattle.bitstream.proofs.WriteLaws.{behind-none, behind-long, finished}
@@ -15,18 +15,18 @@ use Rattle.payload_format.specs.declared.inner.Packing.{Packing}
 use Rattle.payload_pack.specs.inner.Packable.{Packable}
 
 -- ---- a loop over the fields: k of them are put
-pub record Writing (c f : ℕ) (g : ℕ → ℕ) (first out : List ℕ) (s : Held) (k : ℕ) : Type 0 where
+pub record Writing (c f : ℕ) (g : ℕ → ℕ) (first out : List ℕ) (s : Accumulator) (k : ℕ) : Type 0 where
   pub place : c * s .at + s .have ≡ f * k
   pub few : s .have < c
   pub behind : Behind c f g first out s
 
-pub writing-start : (c f : ℕ) (g : ℕ → ℕ) (out : List ℕ) → 0 < c → Writing c f g out out (record { acc = 0; have = 0; at = 0 }) 0
-writing-start c f g out h = record { place = omega arith; few = h; behind = behind-none c f g out }
+pub writing-start : (c f : ℕ) (g : ℕ → ℕ) (out : List ℕ) (s : Accumulator) → 0 < c → s ≡ emptyBut 0 → Writing c f g out out s 0
+writing-start c f g out s h e = rw e (record { place = omega arith; few = h; behind = behind-none c f g out })
 
-pub writing-length : {c f : ℕ} {g : ℕ → ℕ} {first out : List ℕ} {s : Held} {k : ℕ} → Writing c f g first out s k → length out ≡ length first
+pub writing-length : {c f : ℕ} {g : ℕ → ℕ} {first out : List ℕ} {s : Accumulator} {k : ℕ} → Writing c f g first out s k → length out ≡ length first
 writing-length w = behind-long (w .behind)
 
-module _ (p : Packing) (n : ℕ) (g : ℕ → ℕ) (first out : List ℕ) (s : Held) (k : ℕ) (u : Packable p n (length first))
+module _ (p : Packing) (n : ℕ) (g : ℕ → ℕ) (first out : List ℕ) (s : Accumulator) (k : ℕ) (u : Packable p n (length first))
     (w : Writing (p .carry) (p .field) g first out s k) where
   -- the bits of all fields have room
   all-room : p .field * n ≤ length out * p .carry
@@ -63,7 +63,7 @@ module _ (p : Packing) (n : ℕ) (g : ℕ → ℕ) (first out : List ℕ) (s : H
       finished (p .carry) (p .field) n g first out out′ s (u .legal .some) (u .legal .most) (omega (arith, u .legal .item, u .legal .parts)) z
       (w .few) (w .place ∙ ap (λ (x : ℕ). p .field * x) e) (writing-last e .1) (w .behind) h
 
-pub writing-next : {c f : ℕ} {g : ℕ → ℕ} {first out out′ : List ℕ} {s r : Held} {k v : ℕ} → Writing c f g first out s k → Pushed c f s v out out′ r
+pub writing-next : {c f : ℕ} {g : ℕ → ℕ} {first out out′ : List ℕ} {s r : Accumulator} {k v : ℕ} → Writing c f g first out s k → Pushed c f s v out out′ r
     → v ≡ g k → g k < 2 ^ f → Writing c f g first out′ r (k + 1)
 writing-next {c} {f} {g} {first} {out} {out′} {s} {r} {k} {v} w q e b =
     let place : c * s .at + s .have ≡ k * f = w .place ∙ mul-comm f k in

@@ -5,7 +5,7 @@ ghost use Rattle.payload_format.specs.Field.{eventIn, channelIn};
 ghost use Rattle.payload_unpack.specs.Unpack.{buffers, unpacked};
 ghost use Rattle.payload_unpack.specs.inner.Unpackable.{Unpackable, Placed, UnpackedOn};
 use crate::window;
-use bitstream::inner::accumulator::Held;
+use bitstream::inner::accumulator::empty;
 use bitstream::inner::accumulator::take_field;
 use payload_format::inner::Packing;
 
@@ -41,20 +41,11 @@ fn unpack_parts(
     let c = p.carry;
     let f = p.field;
     let up = p.field - p.item;
-    let mut s = Held {
-        acc: 0,
-        have: 0,
-        at: 0,
-    };
+    let mut s = empty(0);
     let mut k: usize = 0;
     while k < n {
-        let t = take_field(c, f, s, payload);
-        let v = t.value;
-        s = Held {
-            acc: t.acc,
-            have: t.have,
-            at: t.at,
-        };
+        s = take_field(c, f, s, payload);
+        let v = s.value;
         items[k] = v >> up;
         events[k] = event_of(p, v);
         channels[k] = channel_of(p, v);

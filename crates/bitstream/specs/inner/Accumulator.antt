@@ -5,24 +5,22 @@ use Rattle.words.specs.Kit.{_≡_, List, ℕ, _+_, _-_, _*_, _/_, _%_, _^_, _�
 use Rattle.bitstream.specs.Stream.{span}
 use Rattle.bitstream.specs.Carried.{streamBits, wordOf}
 use Rattle.bitstream.specs.Filled.{filled}
-use Rattle.bitstream.specs.declared.inner.accumulator.Held.{Held}
-use Rattle.bitstream.specs.declared.inner.accumulator.Taken.{Taken}
+use Rattle.bitstream.specs.declared.inner.accumulator.Accumulator.{Accumulator}
+
+-- nothing is held, and u bits are counted
+abbrev pub emptyBut : ℕ → Accumulator
+emptyBut u = record { acc = 0; have = u; at = 0; value = 0 }
 
 -- ---- reading
 
--- s holds the bits of the words' stream from bit p up to word `at`
-pub record Ahead (c : ℕ) (ws : List ℕ) (s : Held) (p : ℕ) : Type 0 where
-  pub place : c * s .at ≡ p + s .have
-  pub held : s .acc % 2 ^ s .have ≡ span c (streamBits c ws) p (s .have)
-
--- the same where s counts u bits too many
-pub record AheadBy (c : ℕ) (ws : List ℕ) (u : ℕ) (s : Held) (p : ℕ) : Type 0 where
+-- s counts u bits too many, and holds the bits of the words' stream from bit p up to word `at`
+pub record Ahead (c : ℕ) (ws : List ℕ) (u : ℕ) (s : Accumulator) (p : ℕ) : Type 0 where
   pub over : u ≤ s .have
   pub place : c * s .at + u ≡ p + s .have
   pub held : s .acc % 2 ^ (s .have - u) ≡ span c (streamBits c ws) p (s .have - u)
 
 -- w bits can be counted: they are, or the next word has enough more
-pub record Takeable (c w : ℕ) (s : Held) (ws : List ℕ) : Type 0 where
+pub record Takeable (c w : ℕ) (s : Accumulator) (ws : List ℕ) : Type 0 where
   pub some : 0 < c
   pub most : c ≤ 32
   pub size : w ≤ 64
@@ -31,47 +29,40 @@ pub record Takeable (c w : ℕ) (s : Held) (ws : List ℕ) : Type 0 where
   pub there : s .have < w → s .at < length ws
 
 -- at least w bits are counted
-pub record Refilled (c w : ℕ) (s : Held) (ws : List ℕ) (r : Held) : Type 0 where
+pub record Refilled (c w : ℕ) (s : Accumulator) (ws : List ℕ) (r : Accumulator) : Type 0 where
   pub enough : w ≤ r .have
   pub most : r .have < w + c
   pub place : c * r .at + s .have ≡ c * s .at + r .have
-  pub keeps : (u p : ℕ) → s .have < u + c → AheadBy c ws u s p → AheadBy c ws u r p
-
-abbrev pub heldOf : Taken → Held
-heldOf r = record { acc = r .acc; have = r .have; at = r .at }
-
--- w bits were taken
-pub record Took (c w : ℕ) (s : Held) (ws : List ℕ) (r : Taken) : Type 0 where
-  pub below : r .value < 2 ^ w
-  pub few : r .have < c
-  pub place : c * r .at + s .have ≡ c * s .at + r .have + w
-  pub keeps : (p : ℕ) → Ahead c ws s p → (r .value ≡ span c (streamBits c ws) p w) × Ahead c ws (heldOf r) (p + w)
+  pub keeps : (u p : ℕ) → s .have < u + c → Ahead c ws u s p → Ahead c ws u r p
 
 -- a field of f bits was taken, of which u bits at the right are left out; u bits too many are counted before and after
-pub record TookItem (c f u : ℕ) (s : Held) (ws : List ℕ) (r : Taken) : Type 0 where
+pub record Took (c f u : ℕ) (s : Accumulator) (ws : List ℕ) (r : Accumulator) : Type 0 where
+  pub below : r .value < 2 ^ (f - u)
   pub few : r .have < u + c
-  pub keeps : (p : ℕ) → s .have < u + c → AheadBy c ws u s p → (r .value ≡ span c (streamBits c ws) p f / 2 ^ u) × AheadBy c ws u (heldOf r) (p + f)
+  pub place : c * r .at + s .have ≡ c * s .at + r .have + f
+  pub keeps : (p : ℕ) → s .have < u + c → Ahead c ws u s p → (r .value ≡ span c (streamBits c ws) p f / 2 ^ u) × Ahead c ws u r (p + f)
 
 -- a field of f bits can be taken
-pub record FieldTakeable (c f : ℕ) (s : Held) (ws : List ℕ) : Type 0 where
+pub record FieldTakeable (c f : ℕ) (s : Accumulator) (ws : List ℕ) : Type 0 where
   pub some : 0 < c
   pub most : c ≤ 32
   pub narrow : f ≤ 32 → f ≤ c
   pub wide : 32 < f → c ≡ 32
   pub size : f ≤ 64
+  pub bits : 0 < f
   pub few : s .have < c
   pub there : c * s .at + f ≤ length ws * c + s .have
 
 -- ---- writing
 
 -- the words before `at` are written, and s holds the bits of the fields' stream that follow them
-pub record Behind (c f : ℕ) (g : ℕ → ℕ) (first out : List ℕ) (s : Held) : Type 0 where
+pub record Behind (c f : ℕ) (g : ℕ → ℕ) (first out : List ℕ) (s : Accumulator) : Type 0 where
   pub inside : s .at ≤ length first
   pub written : out ≡ filled (s .at) (wordOf c f g) first
   pub held : s .acc % 2 ^ s .have ≡ span f g (c * s .at) (s .have)
 
 -- v is w bits, and there is a place for the word that they may fill
-pub record Pushable (c w : ℕ) (s : Held) (v : ℕ) (out : List ℕ) : Type 0 where
+pub record Pushable (c w : ℕ) (s : Accumulator) (v : ℕ) (out : List ℕ) : Type 0 where
   pub some : 0 < c
   pub most : c ≤ 32
   pub part : w ≤ c
@@ -79,13 +70,13 @@ pub record Pushable (c w : ℕ) (s : Held) (v : ℕ) (out : List ℕ) : Type 0 w
   pub fits : v < 2 ^ w
   pub room : c ≤ s .have + w → s .at < length out
 
-pub record Pushed (c w : ℕ) (s : Held) (v : ℕ) (out out′ : List ℕ) (r : Held) : Type 0 where
+pub record Pushed (c w : ℕ) (s : Accumulator) (v : ℕ) (out out′ : List ℕ) (r : Accumulator) : Type 0 where
   pub place : c * r .at + r .have ≡ c * s .at + s .have + w
   pub few : r .have < c
   pub keeps : (f : ℕ) (g : ℕ → ℕ) (first : List ℕ) → Behind c f g first out s → v ≡ span f g (c * s .at + s .have) w → Behind c f g first out′ r
 
 -- v is a field of f bits
-pub record FieldPushable (c f : ℕ) (s : Held) (v : ℕ) (out : List ℕ) : Type 0 where
+pub record FieldPushable (c f : ℕ) (s : Accumulator) (v : ℕ) (out : List ℕ) : Type 0 where
   pub some : 0 < c
   pub most : c ≤ 32
   pub narrow : f ≤ 32 → f ≤ c
@@ -96,6 +87,6 @@ pub record FieldPushable (c f : ℕ) (s : Held) (v : ℕ) (out : List ℕ) : Typ
   pub room : c * s .at + s .have + f ≤ length out * c
 
 -- the last bits are written at the left of a word, with zeros behind them
-pub record Finished (s : Held) (out out′ : List ℕ) : Type 0 where
+pub record Finished (s : Accumulator) (out out′ : List ℕ) : Type 0 where
   pub none : s .have ≡ 0 → out′ ≡ out
   pub some : 0 < s .have → out′ ≡ set out (s .at) (s .acc % 2 ^ s .have * 2 ^ (32 - s .have))
