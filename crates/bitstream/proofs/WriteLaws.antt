@@ -12,10 +12,10 @@ use Rattle.bitstream.proofs.AccumulatorLaws.{append-below, appended, ta
 use Rattle.bitstream.proofs.CarriedLaws.{needed-even, needed-odd}
 use Rattle.bitstream.proofs.FilledLaws.{filled-length, filled-none, filled-more}
 use Rattle.bitstream.specs.declared.inner.accumulator.Accumulator.{Accumulator}
-use Rattle.bitstream.specs.inner.Accumulator.{Behind, Pushable, Pushed, FieldPushable, Finished}
+use Rattle.bitstream.specs.inner.Accumulator.{emptyBut, Behind, Pushable, Pushed, FieldPushable, Finished}
 
 -- nothing is held yet
-pub behind-none : (c f : ℕ) (g : ℕ → ℕ) (out : List ℕ) → Behind c f g out out (record { acc = 0; have = 0; at = 0 })
+pub behind-none : (c f : ℕ) (g : ℕ → ℕ) (out : List ℕ) → Behind c f g out out (emptyBut 0)
 behind-none c f g out = record { inside = omega arith; written = filled-none (wordOf c f g) out; held = sym (none f g (c * 0)) }
 
 -- the buffer keeps its length
@@ -40,7 +40,7 @@ module _ (c w : ℕ) (s : Accumulator) (v : ℕ) (out : List ℕ) (h : Pushable 
       → joint s v w % 2 ^ (s .have + w) ≡ span f g (c * s .at) (s .have + w)
   joint-is f g e q = appended f g (s .acc) (c * s .at) (s .have) e v w 64 (omega arith) (h .fits) q
 
-  pub pushed-more : s .have + w < c → Pushed c w s v out out (record { acc = joint s v w; have = s .have + w; at = s .at })
+  pub pushed-more : s .have + w < c → Pushed c w s v out out (record { acc = joint s v w; have = s .have + w; at = s .at; value = 0 })
   pushed-more l = record {
     place = sym (add-assoc (c * s .at) (s .have) w);
     few = l;
@@ -48,7 +48,7 @@ module _ (c w : ℕ) (s : Accumulator) (v : ℕ) (out : List ℕ) (h : Pushable 
   }
 
   pub pushed-word : c ≤ s .have + w
-      → Pushed c w s v out (set out (s .at) (filledWord c s v w)) (record { acc = joint s v w; have = s .have + w - c; at = s .at + 1 })
+      → Pushed c w s v out (set out (s .at) (filledWord c s v w)) (record { acc = joint s v w; have = s .have + w - c; at = s .at + 1; value = 0 })
   unfolding wordOf
   pushed-word l = record {
     place = omega (arith, mul-add c (s .at) 1);

@@ -7,7 +7,7 @@ use Rattle.bitstream.specs.Stream.{span}
 use Rattle.bitstream.specs.Carried.{wordOf, needed}
 use Rattle.bitstream.specs.Filled.{filled}
 use Rattle.bitstream.specs.declared.inner.accumulator.Accumulator.{Accumulator}
-use Rattle.bitstream.specs.inner.Accumulator.{Behind, Pushed, FieldPushable, Finished}
+use Rattle.bitstream.specs.inner.Accumulator.{emptyBut, Behind, Pushed, FieldPushable, Finished}
 use Rattle.bitstream.proofs.SpanLaws.{whole}
 use Rattle.bitstream.proofs.CarriedLaws.{enough}
 use Rattle.bitstream.proofs.WriteLaws.{behind-none, behind-long, finished}
@@ -20,8 +20,8 @@ pub record Writing (c f : ℕ) (g : ℕ → ℕ) (first out : List ℕ) (s : Acc
   pub few : s .have < c
   pub behind : Behind c f g first out s
 
-pub writing-start : (c f : ℕ) (g : ℕ → ℕ) (out : List ℕ) → 0 < c → Writing c f g out out (record { acc = 0; have = 0; at = 0 }) 0
-writing-start c f g out h = record { place = omega arith; few = h; behind = behind-none c f g out }
+pub writing-start : (c f : ℕ) (g : ℕ → ℕ) (out : List ℕ) (s : Accumulator) → 0 < c → s ≡ emptyBut 0 → Writing c f g out out s 0
+writing-start c f g out s h e = rw e (record { place = omega arith; few = h; behind = behind-none c f g out })
 
 pub writing-length : {c f : ℕ} {g : ℕ → ℕ} {first out : List ℕ} {s : Accumulator} {k : ℕ} → Writing c f g first out s k → length out ≡ length first
 writing-length w = behind-long (w .behind)

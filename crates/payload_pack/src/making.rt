@@ -6,7 +6,7 @@ ghost use Rattle.payload_format.specs.inner.Legal.{Legal};
 ghost use Rattle.payload_format.specs.Field.{made};
 ghost use Rattle.payload_pack.specs.Pack.{packed};
 ghost use Rattle.payload_pack.specs.inner.Packable.{Packable, Fitting};
-use bitstream::inner::accumulator::Accumulator;
+use bitstream::inner::accumulator::empty;
 use bitstream::inner::accumulator::finish;
 use bitstream::inner::accumulator::push_field;
 use payload_format::inner::Packing;
@@ -29,11 +29,7 @@ fn pack_items(p: Packing, n: usize, items: &[u64], out: &mut [u32])
     let c = p.carry;
     let f = p.field;
     let up = p.field - p.item;
-    let mut s = Accumulator {
-        acc: 0,
-        have: 0,
-        at: 0,
-    };
+    let mut s = empty(0);
     let mut k: usize = 0;
     while k < n {
         s = push_field(c, f, s, items[k] << up, out);
@@ -56,11 +52,7 @@ fn pack_tagged(
 {
     let c = p.carry;
     let f = p.field;
-    let mut s = Accumulator {
-        acc: 0,
-        have: 0,
-        at: 0,
-    };
+    let mut s = empty(0);
     let mut k: usize = 0;
     while k < n {
         let v = make(p, items[k], events[k], channels[k]);

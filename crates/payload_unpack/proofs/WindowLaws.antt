@@ -196,21 +196,17 @@ module _ {p : Packing} {n room : ℕ} {ws : List ℕ} (u : Unpackable p n ws roo
       let t = rw (u .legal .wide wide) at (u .there) in
       omega (arith, mul-le-mul-left (p .field) q, mul-comm (p .field) k)
 
-  pub field-wide : (k v : ℕ) → v ≡ span 32 (streamBits 32 ws) (k * p .field) 64 → v / 2 ^ (64 - p .field) ≡ fieldIn p ws k
-  field-wide k v e = front-field p ws 64 k v (u .legal .wide wide) e (u .legal .few)
-
   pub wide-small : (k : ℕ) → k ≤ n - 1 → k * p .field < 2 ^ 64
   wide-small k q = omega (arith, place-small (p .field) n k (u .legal .few) (u .few) (omega arith))
 
-  -- three words hold a field that is not the last, and two or three any
+  -- three words hold a field that is not the last, and two or three the last
   pub words-behind : (k : ℕ) → k < n - 1 → k * p .field + 64 < length ws * 32
   words-behind k q = omega (arith, wide-there (k + 2) (omega arith), add-mul k 2 (p .field))
 
-  pub word-beside : (k : ℕ) → k < n → k * p .field + 32 < length ws * 32
-  word-beside k q = omega (arith, wide-there (k + 1) (omega arith), add-mul k 1 (p .field))
-
-  pub last-beside : 0 < n → (n - 1) * p .field + 32 < length ws * 32
-  last-beside q = word-beside (n - 1) (omega arith)
+  pub word-beside : 0 < n → (n - 1) * p .field + 32 < length ws * 32
+  word-beside q =
+      let e : n - 1 + 1 ≡ n = omega arith in
+      omega (arith, wide-there (n - 1 + 1) (omega arith), add-mul (n - 1) 1 (p .field))
 
   -- the items of the fields before the last, and then the last
   pub items-wide : {k v : ℕ} {l l′ : List ℕ} → 0 < n → n ≤ length l

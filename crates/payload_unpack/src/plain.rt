@@ -6,9 +6,8 @@ ghost use Rattle.bitstream.specs.inner.FilledOn.{FilledOn};
 ghost use Rattle.payload_format.specs.Field.{itemIn, fieldIn};
 ghost use Rattle.payload_unpack.specs.inner.Unpackable.{Unpackable, Placed};
 use crate::window;
-use bitstream::inner::accumulator::Accumulator;
+use bitstream::inner::accumulator::empty;
 use bitstream::inner::accumulator::take;
-use bitstream::inner::accumulator::taken;
 use payload_format::inner::Packing;
 
 // Zero in the first n places of the event tags.
@@ -72,15 +71,11 @@ fn unpack_items(p: Packing, n: usize, payload: &[u32], items: &mut [u64])
     let c = p.carry;
     let f = p.field;
     let up = p.field - p.item;
-    let mut s = Accumulator {
-        acc: 0,
-        have: up,
-        at: 0,
-    };
+    let mut s = empty(up);
     let mut k: usize = 0;
     while k < n {
         s = take(c, f, up, s, payload);
-        items[k] = taken(s, f - up);
+        items[k] = s.value;
         k += 1;
     }
 }

@@ -5,9 +5,8 @@ ghost use Rattle.payload_format.specs.Field.{eventIn, channelIn};
 ghost use Rattle.payload_unpack.specs.Unpack.{buffers, unpacked};
 ghost use Rattle.payload_unpack.specs.inner.Unpackable.{Unpackable, Placed, UnpackedOn};
 use crate::window;
-use bitstream::inner::accumulator::Accumulator;
-use bitstream::inner::accumulator::take;
-use bitstream::inner::accumulator::taken;
+use bitstream::inner::accumulator::empty;
+use bitstream::inner::accumulator::take_field;
 use payload_format::inner::Packing;
 
 // The event tags of a field.
@@ -26,7 +25,7 @@ fn channel_of(p: Packing, v: u64) -> u16
     words::inner::low(v, p.channel) as u16
 }
 
-// The parts of the first n fields, of at most 32 bits, one taken after the other.
+// The parts of the first n fields, one taken after the other.
 fn unpack_parts(
     p: Packing,
     n: usize,
@@ -35,22 +34,18 @@ fn unpack_parts(
     events: &mut [u8],
     channels: &mut [u16],
 )
-    requires { ⌜ Unpackable p n (now payload) (length (now items)) × (n ≤ length (now events)) × (n ≤ length (now channels)) × (p .field ≤ 32) ⌝ }
+    requires { ⌜ Unpackable p n (now payload) (length (now items)) × (n ≤ length (now events)) × (n ≤ length (now channels)) ⌝ }
     ensures { λ _. ⌜ buffers (now (items .exit)) (now (events .exit)) (now (channels .exit))
         ≡ unpacked p n (now (payload .entry)) (buffers (now (items .entry)) (now (events .entry)) (now (channels .entry))) ⌝ }
 {
     let c = p.carry;
     let f = p.field;
     let up = p.field - p.item;
-    let mut s = Accumulator {
-        acc: 0,
-        have: 0,
-        at: 0,
-    };
+    let mut s = empty(0);
     let mut k: usize = 0;
     while k < n {
-        s = take(c, f, 0, s, payload);
-        let v = taken(s, f);
+        s = take_field(c, f, s, payload);
+        let v = s.value;
         items[k] = v >> up;
         events[k] = event_of(p, v);
         channels[k] = channel_of(p, v);
@@ -115,32 +110,6 @@ fn unpack_parts_narrow(
     unpack_parts_last(p, k, n, payload, items, events, channels);
 }
 
-// The parts of the first n fields, of more than 32 bits, read by their places. Two words hold the last field, or three.
-fn unpack_parts_wide(
-    p: Packing,
-    n: usize,
-    payload: &[u32],
-    items: &mut [u64],
-    events: &mut [u8],
-    channels: &mut [u16],
-)
-    requires { ⌜ Unpackable p n (now payload) (length (now items)) × (n ≤ length (now events)) × (n ≤ length (now channels)) × (32 < p .field) ⌝ }
-    ensures { λ _. ⌜ buffers (now (items .exit)) (now (events .exit)) (now (channels .exit))
-        ≡ unpacked p n (now (payload .entry)) (buffers (now (items .entry)) (now (events .entry)) (now (channels .entry))) ⌝ }
-{
-    let f = p.field;
-    let up = p.field - p.item;
-    let down = 64 - p.field;
-    let mut k: usize = 0;
-    while k < n {
-        let v = window::bits_wide_last(payload, k * f) >> down;
-        items[k] = v >> up;
-        events[k] = event_of(p, v);
-        channels[k] = channel_of(p, v);
-        k += 1;
-    }
-}
-
 // The parts of the first n fields.
 pub fn unpack_tagged(
     p: Packing,
@@ -154,11 +123,7 @@ pub fn unpack_tagged(
     ensures { λ _. ⌜ buffers (now (items .exit)) (now (events .exit)) (now (channels .exit))
         ≡ unpacked p n (now (payload .entry)) (buffers (now (items .entry)) (now (events .entry)) (now (channels .entry))) ⌝ }
 {
-    if 32 < p.field {
-        unpack_parts_wide(p, n, payload, items, events, channels);
-        return;
-    }
-    if p.carry == 32 {
+    if p.carry == 32 && p.field <= 32 {
         unpack_parts_narrow(p, n, payload, items, events, channels);
         return;
     }

@@ -7,6 +7,10 @@ use Rattle.bitstream.specs.Carried.{streamBits, wordOf}
 use Rattle.bitstream.specs.Filled.{filled}
 use Rattle.bitstream.specs.declared.inner.accumulator.Accumulator.{Accumulator}
 
+-- nothing is held, and u bits are counted
+abbrev pub emptyBut : ℕ → Accumulator
+emptyBut u = record { acc = 0; have = u; at = 0; value = 0 }
+
 -- ---- reading
 
 -- s counts u bits too many, and holds the bits of the words' stream from bit p up to word `at`
@@ -28,16 +32,26 @@ pub record Takeable (c w : ℕ) (s : Accumulator) (ws : List ℕ) : Type 0 where
 pub record Refilled (c w : ℕ) (s : Accumulator) (ws : List ℕ) (r : Accumulator) : Type 0 where
   pub enough : w ≤ r .have
   pub most : r .have < w + c
+  pub place : c * r .at + s .have ≡ c * s .at + r .have
   pub keeps : (u p : ℕ) → s .have < u + c → Ahead c ws u s p → Ahead c ws u r p
-
--- the last w bits before those that s counts
-unfoldable pub takenBits : Accumulator → ℕ → ℕ
-takenBits s w = s .acc / 2 ^ s .have % 2 ^ w
 
 -- a field of f bits was taken, of which u bits at the right are left out; u bits too many are counted before and after
 pub record Took (c f u : ℕ) (s : Accumulator) (ws : List ℕ) (r : Accumulator) : Type 0 where
+  pub below : r .value < 2 ^ (f - u)
   pub few : r .have < u + c
-  pub keeps : (p : ℕ) → s .have < u + c → Ahead c ws u s p → (takenBits r (f - u) ≡ span c (streamBits c ws) p f / 2 ^ u) × Ahead c ws u r (p + f)
+  pub place : c * r .at + s .have ≡ c * s .at + r .have + f
+  pub keeps : (p : ℕ) → s .have < u + c → Ahead c ws u s p → (r .value ≡ span c (streamBits c ws) p f / 2 ^ u) × Ahead c ws u r (p + f)
+
+-- a field of f bits can be taken
+pub record FieldTakeable (c f : ℕ) (s : Accumulator) (ws : List ℕ) : Type 0 where
+  pub some : 0 < c
+  pub most : c ≤ 32
+  pub narrow : f ≤ 32 → f ≤ c
+  pub wide : 32 < f → c ≡ 32
+  pub size : f ≤ 64
+  pub bits : 0 < f
+  pub few : s .have < c
+  pub there : c * s .at + f ≤ length ws * c + s .have
 
 -- ---- writing
 

@@ -1,14 +1,27 @@
 // An accumulator of bits: fields taken from words, and words made of fields.
 ghost use Rattle.words.specs.Kit.{_≡_, _+_, _^_, _≤_, _<_, length};
 ghost use Rattle.bitstream.specs.Carried.{streamBits};
-ghost use Rattle.bitstream.specs.inner.Accumulator.{Takeable, Refilled, takenBits, Took, Pushable, Pushed, FieldPushable, Finished};
+ghost use Rattle.bitstream.specs.inner.Accumulator.{emptyBut, Takeable, Refilled, Took, FieldTakeable, Pushable, Pushed, FieldPushable, Finished};
 use words::inner::low;
 
-// The last `have` bits of acc are held; `at` is the next word to read or to write.
+// The last `have` bits of acc are held; `at` is the next word to read or to write. `value` is what was taken last, and 0 in writing.
 pub struct Accumulator {
     pub acc: u64,
     pub have: usize,
     pub at: usize,
+    pub value: u64,
+}
+
+// Nothing is held yet; u bits are counted all the same.
+pub fn empty(u: usize) -> Accumulator
+    ensures { λ r. ⌜ r ≡ emptyBut u ⌝ }
+{
+    Accumulator {
+        acc: 0,
+        have: u,
+        at: 0,
+        value: 0,
+    }
 }
 
 // The bits of a word that carry fields.
@@ -32,29 +45,42 @@ fn refill(c: usize, w: usize, s: Accumulator, payload: &[u32]) -> Accumulator
         acc: (s.acc << c) + carried_at(c, payload, at),
         have: s.have + c,
         at: at + 1,
+        value: 0,
     }
 }
 
-// What is held after the next field was taken. The field has f bits, of which u at the right are left out, before and after: the accumulator counts u bits
-// more than it holds, so that one shift, by all that it counts, cuts off those u bits too (`taken`).
+// The next field, of f bits at most 32, without its last u bits. The accumulator counts u bits more than it holds, before and after, so that one shift, by
+// all that it counts after the field, cuts off those u bits too.
 pub fn take(c: usize, f: usize, u: usize, s: Accumulator, payload: &[u32]) -> Accumulator
     requires { ⌜ Takeable c (f + u) s (now payload) × (u < f) × (f ≤ 32) ⌝ }
     ensures { λ r. ⌜ Took c f u s (now (payload .entry)) r ⌝ }
 {
     let h = refill(c, f + u, s, payload);
+    let left = h.have - f;
     Accumulator {
         acc: h.acc,
-        have: h.have - f,
+        have: left,
         at: h.at,
+        value: low(h.acc >> left, f - u),
     }
 }
 
-// The last w bits before those that are counted: of the field that was taken last, those that are not left out.
-pub fn taken(s: Accumulator, w: usize) -> u64
-    requires { ⌜ (s .have < 64) × (w < 64) ⌝ }
-    ensures { λ r. ⌜ r ≡ takenBits s w ⌝ }
+// The next field, of f bits: one of more than 32 in two parts.
+pub fn take_field(c: usize, f: usize, s: Accumulator, payload: &[u32]) -> Accumulator
+    requires { ⌜ FieldTakeable c f s (now payload) ⌝ }
+    ensures { λ r. ⌜ Took c f 0 s (now (payload .entry)) r ⌝ }
 {
-    low(s.acc >> s.have, w)
+    if f <= 32 {
+        return take(c, f, 0, s, payload);
+    }
+    let high = take(c, f - 32, 0, s, payload);
+    let last = take(c, 32, 0, high, payload);
+    Accumulator {
+        acc: last.acc,
+        have: last.have,
+        at: last.at,
+        value: high.value * 0x1_0000_0000 + last.value,
+    }
 }
 
 // w bits more behind those that are held; where they fill a word, it is written.
@@ -66,7 +92,12 @@ fn push(c: usize, w: usize, s: Accumulator, v: u64, out: &mut [u32]) -> Accumula
     let have = s.have + w;
     let at = s.at;
     if have < c {
-        return Accumulator { acc, have, at };
+        return Accumulator {
+            acc,
+            have,
+            at,
+            value: 0,
+        };
     }
     let left = have - c;
     out[at] = (((acc >> left) << (32 - c)) % 0x1_0000_0000) as u32;
@@ -74,6 +105,7 @@ fn push(c: usize, w: usize, s: Accumulator, v: u64, out: &mut [u32]) -> Accumula
         acc,
         have: left,
         at: at + 1,
+        value: 0,
     }
 }
 

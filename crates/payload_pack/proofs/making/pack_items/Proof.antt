@@ -12,7 +12,9 @@ abbrev μ-loop : tie.MeasureT-loop
 μ-loop n items out₀ c f up s₀ k₀ out s k = n - k
 
 loop-holds : tie.Need-loop-holds Inv-loop μ-loop
-loop-holds c = (omega arith, writing-start _ _ _ _ (c .before .before .before .pre .0 .legal .some))
+loop-holds c =
+    let start : tie.Start Inv-loop μ-loop = search in
+    (omega arith, writing-start _ _ _ _ _ (start .pre .0 .legal .some) (c .empty .ensures))
 
 push-field-requires : tie.Need-push-field-requires Inv-loop μ-loop
 push-field-requires c κs =
@@ -64,5 +66,5 @@ pub pack-items-spec : {M : Type 1} → statement M
 pack-items-spec =
     tie.close
     (tie.spec
-    Inv-loop μ-loop (λ c. search needs) loop-holds (λ c. search needs) (λ c. search needs) (λ c. search needs) push-field-requires (λ c. search needs)
-    (λ c. search needs) loop-again finish-requires same-length returns)
+    Inv-loop μ-loop (λ c. search needs) (λ c κs. search needs) loop-holds (λ c. search needs) (λ c. search needs) (λ c. search needs) push-field-requires
+    (λ c. search needs) (λ c. search needs) loop-again finish-requires same-length returns)

@@ -15,7 +15,7 @@ abbrev μ-loop : tie.MeasureT-loop
 loop-holds : tie.Need-loop-holds Inv-loop μ-loop
 loop-holds c =
     let start : tie.Start Inv-loop μ-loop = search in
-    (omega arith, writing-start _ _ _ _ (start .pre .0 .legal .some))
+    (omega arith, writing-start _ _ _ _ _ (start .pre .0 .legal .some) (c .empty .ensures))
 
 make-requires : tie.Need-make-requires Inv-loop μ-loop
 make-requires c κs =
@@ -72,5 +72,5 @@ pub pack-tagged-spec : {M : Type 1} → statement M
 pack-tagged-spec =
     tie.close
     (tie.spec
-    Inv-loop μ-loop loop-holds (λ c. search needs) (λ c. search needs) (λ c. search needs) (λ c. search needs) (λ c. search needs) make-requires
-    push-field-requires (λ c. search needs) (λ c. search needs) loop-again finish-requires same-length returns)
+    Inv-loop μ-loop (λ c κs. search needs) loop-holds (λ c. search needs) (λ c. search needs) (λ c. search needs) (λ c. search needs) (λ c. search needs)
+    make-requires push-field-requires (λ c. search needs) (λ c. search needs) loop-again finish-requires same-length returns)

@@ -16,6 +16,6 @@ pub unpack-items-spec : {M : Type 1} → statement M
 unpack-items-spec =
     tie.close
     (tie.spec
-    Inv-loop μ-loop (λ c. search needs) (λ c. search (fills-none, reading-start)) (λ c κs. search (reading-can, item-some)) (λ c. search needs)
-    (λ c κs. search needs) (λ c. search needs) (λ c. search needs) (λ c. search needs) (λ c. search needs)
-    (λ c. search (fills-turn, reading-item, reading-next)) (λ c. search) (λ c. search fills-all))
+    Inv-loop μ-loop (λ c. search needs) (λ c κs. search needs) (λ c. search (fills-none, reading-start)) (λ c κs. search (reading-can, item-some))
+    (λ c. search needs) (λ c. search needs) (λ c. search needs) (λ c. search needs) (λ c. search (fills-turn, reading-item, reading-next)) (λ c. search)
+    (λ c. search fills-all))

@@ -5,7 +5,7 @@ use native.Mathlib.Nat.{le-refl}
 use Rattle.bitstream.specs.Stream.{span}
 use Rattle.bitstream.specs.Carried.{streamBits}
 use Rattle.bitstream.proofs.FilledLaws.{Fills, fills-none, fills-turn}
-use Rattle.payload_unpack.proofs.WindowLaws.{wide-small, words-behind, last-beside, shifted, items-wide}
+use Rattle.payload_unpack.proofs.WindowLaws.{wide-small, words-behind, word-beside, shifted, items-wide}
 use Rattle.payload_unpack.proofs.plain.unpack_wide.Statement.{statement}
 use Rattle.payload_unpack.proofs.plain.unpack_wide.Tie as tie
 
@@ -24,5 +24,5 @@ unpack-wide-spec =
     (tie.spec
     Inv-loop μ-loop (λ c. search needs) (λ c. search needs) loop-holds (λ c. search wide-small) (λ c κs. search words-behind)
     (λ c. search needs) (λ c. search needs) (λ c. search needs) (λ c. search needs) (λ c. search needs) (λ c. search (fills-turn, shifted))
-    (λ c. search (wide-small, le-refl)) (λ c κs. search last-beside) (λ c. search needs) (λ c. search needs) (λ c. search needs) (λ c. search needs)
+    (λ c. search (wide-small, le-refl)) (λ c κs. search word-beside) (λ c. search needs) (λ c. search needs) (λ c. search needs) (λ c. search needs)
     (λ c. let start : tie.Start Inv-loop μ-loop = search in search (items-wide (start .pre .0))))
