@@ -370,7 +370,8 @@ def cut():
     expect("snapped in the IPv6 header", pcap(tagged[:50], b), wanted, [f"frame 1: {APART}"])
     expect("an empty frame", pcap(b"", b, link=1), wanted, [f"frame 1: {APART}"])
     expect("a UDP length past the end", pcap(ether(ip4(udp(A, length=99))), b), wanted, [f"frame 1: {FRONT}"])
-    expect("no UDP length", pcap(ether(ip4(udp(B, length=0)))), wanted)
+    expect("no UDP length", pcap(ether(ip4(udp(A, length=0))), b), wanted, [f"frame 1: {EMPTY}"])
+    expect("bytes behind UDP", pcap(ether(ip4(udp(B) + A))), wanted)
     whole = pcap(b, long)
     for at in (len(whole) - 1, len(whole) - len(long), len(whole) - len(long) - 1, len(whole) - len(long) - 15):
         expect(f"a pcap cut at {at}", whole[:at], wanted, status=1, says=[says("the file ends inside frame 2")])
