@@ -61,6 +61,6 @@ spoilt 1 python3 $here/cases.py --few -- $run "$work/drive"
 spoilt 2 python3 $here/peers.py uhd "$work/uhd_packets" -- $run "$work/drive"
 spoilt 2 python3 $here/peers.py tshark "$work" -- $run "$work/drive"
 step 'the comparison itself' python3 $here/test_cases.py $run "$work/drive"
-step 'the captures themselves' python3 $here/test_capture.py "$work/uhd_packets"
+step 'tools/capture with faults' python3 $here/test_capture.py "$work/uhd_packets"
 echo
 cat "$summary"

@@ -52,7 +52,7 @@ FAULTS = {
     ],
     "cut": [
         ("if length > len(data):", "if length > len(data) + 100:"),
-        ("data[UDP_HEADER : length or None]", "data[UDP_HEADER:length]"),
+        ("data[UDP_HEADER:length]", "data[UDP_HEADER:]"),
         ("    if len(data) < count:", "    if not data and count:"),
         ("if stopped or account.left", "if account.left"),
     ],
