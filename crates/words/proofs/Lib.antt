@@ -23,7 +23,7 @@ pub mod PartLaws
 -- runs of writes
 pub mod LaidLaws
 -- a copy of words
-mod CopyLaws
+pub mod CopyLaws
 -- a test at every number below a bound
 pub mod AllLaws
 -- numbered pieces, one after the other
