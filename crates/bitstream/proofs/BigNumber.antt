@@ -3,11 +3,8 @@ use Rattle.words.proofs.Kit.{_≡_, refl, sym, ap, ap₂, _∙_, List, [], _∷
 use native.Mathlib.Nat.{zero-add, add-mul-div-right, add-mod-right, one-mul}
 use native.Mathlib.Numerals.{add-one}
 use Rattle.bitstream.specs.Stream.{bit, span}
+use Rattle.bitstream.specs.BigNumber.{value}
 use Rattle.bitstream.proofs.SpanLaws.{split, within, whole}
-
-pub value : List ℕ → ℕ
-value [] = 0
-value (w ∷ ws) = w * 2 ^ (length ws * 32) + value ws
 
 -- a stream without its first digit
 shift : (b : ℕ) (g : ℕ → ℕ) → 0 < b → (p n : ℕ) → span b g (b + p) n ≡ span b (λ j. g (suc j)) p n

@@ -1,15 +1,16 @@
 -- Words of which c bits carry packing fields. The idea: writing and reading are one regrouping of a stream, from digits of f bits to digits of c bits
 -- and back (`field-back`, `word-back`), so the round trip is proved once over both widths.
 use Rattle.words.proofs.Kit.{_≡_, sym, ap, ap₂, _∙_, subst, ⊎-elim, List, ℕ, suc, _+_, _-_, _*_, _/_, _%_, _^_, _≤_, _<_, arith, getD}
-use native.Mathlib.Nat.{mul-comm, mul-add, mul-le-mul-left, lt-of-mul-lt-mul-right, div-add-mod', mod-lt, div-one}
+use native.Mathlib.Nat.{mul-comm, mul-add, mul-le-mul-left, lt-of-mul-lt-mul-right, div-add-mod', mod-lt, div-one, zero-div}
+use native.Mathlib.Nat.{mul-mod-left, le-div-iff-mul-le}
 use lib.Arith.{digits-div}
-use lib.Pow.{shr-shr, shl-shr, shr-lt}
+use lib.Pow.{shr-shr, shl-shr, shl-lt, shr-lt}
 use lib.Pow as Pow
 use Rattle.words.specs.Word.{highFirst}
 use Rattle.words.proofs.Cases.{le-or-lt}
 use Rattle.bitstream.specs.Stream.{bit, span}
 use Rattle.bitstream.specs.Carried.{streamBits, packingField, wordOf, needed}
-use Rattle.bitstream.proofs.SpanLaws.{split, inside, same, regroup, whole, blank, zero-bits}
+use Rattle.bitstream.proofs.SpanLaws.{split, below, inside, same, regroup-bit, regroup, whole, blank, zero-bits}
 
 pub carried-below : (c : ℕ) (ws : List ℕ) (j : ℕ) → c ≤ 32 → getD ws j 0 < 2 ^ 32 → streamBits c ws j < 2 ^ c
 unfolding streamBits
@@ -121,3 +122,35 @@ word-back c f n g ws j pf pc mc e z pad b u =
     (le-or-lt (c * j + c) (n * f)) in
     let w : span c G (c * j) c ≡ G j = ap (λ (x : ℕ). span c G x c) (mul-comm c j) ∙ whole c G j (carried-below c ws j mc b) in
     ap (λ (x : ℕ). x * 2 ^ (32 - c)) (all ∙ w) ∙ carried-back c ws j u
+
+-- ---- words as a writer makes them
+pub word-below : (c f : ℕ) (g : ℕ → ℕ) (j : ℕ) → c ≤ 32 → wordOf c f g j < 2 ^ 32
+unfolding wordOf
+word-below c f g j l =
+    let e : c + (32 - c) ≡ 32 = omega arith in
+    subst (λ (x : ℕ). span f g (c * j) c * 2 ^ (32 - c) < 2 ^ x) e (shl-lt c (32 - c) (below f g (c * j) c))
+
+-- zero in the bits that carry nothing
+pub word-uncarried : (c f : ℕ) (g : ℕ → ℕ) (j : ℕ) → wordOf c f g j % 2 ^ (32 - c) ≡ 0
+unfolding wordOf
+word-uncarried c f g j = mul-mod-left (span f g (c * j) c) (2 ^ (32 - c))
+
+-- and past the last field
+pub word-padding : (c f m n : ℕ) (g : ℕ → ℕ) (ws : List ℕ) → 0 < c → 0 < f → f * n ≤ m * c
+    → ((j : ℕ) → j < m → getD ws j 0 ≡ wordOf c f g j) → ((j : ℕ) → m ≤ j → getD ws j 0 ≡ 0) → ((k : ℕ) → n ≤ k → g k ≡ 0)
+    → (i : ℕ) → f * n ≤ i → bit c (streamBits c ws) i ≡ 0
+unfolding bit streamBits wordOf
+word-padding c f m n g ws pc pf l e past z i h =
+    let j : ℕ = i / c in
+    let digit : getD ws j 0 / 2 ^ (32 - c) ≡ span f g (c * j) c =
+    ⊎-elim
+    (λ (q : m ≤ j).
+    ap (λ (x : ℕ). x / 2 ^ (32 - c)) (past j q) ∙ zero-div (2 ^ (32 - c))
+    ∙ sym (blank f n g pf z (c * j) c (omega (arith, mul-le-mul-left c q, mul-comm c m, mul-comm f n))))
+    (λ (q : j < m). ap (λ (x : ℕ). x / 2 ^ (32 - c)) (e j q) ∙ shl-shr (span f g (c * j) c) (32 - c))
+    (le-or-lt m j) in
+    let none : g (i / f) ≡ 0 = z (i / f) (le-div-iff-mul-le pf .1 (omega (arith, mul-comm f n))) in
+    ap (λ (x : ℕ). x / 2 ^ (c - (i % c + 1)) % 2) digit
+    ∙ regroup-bit f c g i pc
+    ∙ ap (λ (x : ℕ). x / 2 ^ (f - (i % f + 1)) % 2) none
+    ∙ ap (λ (x : ℕ). x % 2) (zero-div (2 ^ (f - (i % f + 1))))

@@ -113,7 +113,7 @@ zero-bits b g q z p zero l = refl
 zero-bits b g q z p (suc n) l = ap₂ (λ (x y : ℕ). x * 2 + y) (zero-bits b g q z p n l) (z (p + n) (omega arith))
 
 -- ---- the same stream in digits of another width
-regroup-bit : (b c : ℕ) (g : ℕ → ℕ) (i : ℕ) → 0 < c → bit c (λ j. span b g (c * j) c) i ≡ bit b g i
+pub regroup-bit : (b c : ℕ) (g : ℕ → ℕ) (i : ℕ) → 0 < c → bit c (λ j. span b g (c * j) c) i ≡ bit b g i
 unfolding bit
 regroup-bit b c g i pc =
     let l : i % c < c = mod-lt i pc in

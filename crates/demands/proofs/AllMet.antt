@@ -15,6 +15,7 @@ use Rattle.demands.proofs.FieldFound.{fields-found}
 use Rattle.demands.proofs.Again.{written-again}
 use Rattle.demands.proofs.Back.{written-back}
 use Rattle.demands.proofs.RoundTrip.{pack-then-unpack, unpack-then-pack}
+use Rattle.demands.proofs.Packings.{packed-as, unpacked-as}
 use Rattle.demands.proofs.RightLaws.{start-accepts, right-start, right-on, answers-on, past-on}
 use Rattle.demands.proofs.Resumed.{saves, resumes, no-room, days}
 use Rattle.demands.proofs.PanelShows.{shows}
@@ -52,6 +53,8 @@ demand-2 = record {
   back = written-back;
   unpacked = pack-then-unpack;
   packed = unpack-then-pack;
+  packs-as = packed-as;
+  unpacks-as = unpacked-as;
 }
 
 pub demand-3 : Demand3 ours

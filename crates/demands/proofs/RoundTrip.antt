@@ -75,12 +75,16 @@ module _ (first second : ℕ) (items events channels out : List ℕ) (p : PackPa
   abbrev P : Packing
   P = packingOf first
 
-  abbrev words : List ℕ
+  abbrev pub words : List ℕ
   words = take m (packed P n items events channels out)
 
-  words-length : length words ≡ m
+  pub words-length : length words ≡ m
   unfolding packingOf wordsFor
   words-length = ap length (filled-take m _ out) ∙ list-length m _
+
+  pub word-packed : (j : ℕ) → j < m → getD words j 0 ≡ wordOf (P .carry) (P .field) (fieldsOf P items events channels) j
+  unfolding packingOf wordsFor
+  word-packed j h = ap (λ (x : List ℕ). getD x j 0) (filled-take m _ out) ∙ list-at m _ j h
 
   -- field k of the words is the field that was packed
   pub field-packed : (k : ℕ) → k < n → fieldIn P words k ≡ fieldsOf P items events channels k
@@ -89,7 +93,7 @@ module _ (first second : ℕ) (items events channels out : List ℕ) (p : PackPa
       let q = packable first second items events channels (length out) p in
       field-back (P .carry) (P .field) m n (fieldsOf P items events channels) words
       (carry-some first) (enough (P .carry) (P .field) n (carry-some first))
-      (λ j h. ap (λ (x : List ℕ). getD x j 0) (filled-take m _ out) ∙ list-at m _ j h)
+      word-packed
       k l (made-below P (q .0 .legal) _ _ _ (p .events-fit .each k l) (p .channels-fit .each k l) (p .items-fit .each k l))
 
   -- and its parts
@@ -145,13 +149,13 @@ pack-then-unpack first second items events channels out d e b hi he hc =
 -- ---- unpacked, then packed
 
 -- lists of n entries that are the parts of the words' fields
-record Parts (first n : ℕ) (ws items events channels : List ℕ) : Type 0 where
-  many : (length items ≡ n) × (length events ≡ n) × (length channels ≡ n)
-  item : (k : ℕ) → k < n → getD items k 0 ≡ itemIn (packingOf first) (fieldIn (packingOf first) ws k)
-  event : (k : ℕ) → k < n → getD events k 0 ≡ eventIn (packingOf first) (fieldIn (packingOf first) ws k)
-  channel : (k : ℕ) → k < n → getD channels k 0 ≡ channelIn (packingOf first) (fieldIn (packingOf first) ws k)
+pub record Parts (first n : ℕ) (ws items events channels : List ℕ) : Type 0 where
+  pub many : (length items ≡ n) × (length events ≡ n) × (length channels ≡ n)
+  pub item : (k : ℕ) → k < n → getD items k 0 ≡ itemIn (packingOf first) (fieldIn (packingOf first) ws k)
+  pub event : (k : ℕ) → k < n → getD events k 0 ≡ eventIn (packingOf first) (fieldIn (packingOf first) ws k)
+  pub channel : (k : ℕ) → k < n → getD channels k 0 ≡ channelIn (packingOf first) (fieldIn (packingOf first) ws k)
 
-parts-of : (first n : ℕ) (ws : List ℕ) (b : Buffers)
+pub parts-of : (first n : ℕ) (ws : List ℕ) (b : Buffers)
     → let left = unpacked (packingOf first) n ws b in Parts first n ws (take n (left .items)) (take n (left .events)) (take n (left .channels))
 parts-of first n ws b =
     rw (filled-take n _ (b .items), filled-take n _ (b .events), filled-take n _ (b .channels))

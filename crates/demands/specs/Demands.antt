@@ -21,6 +21,7 @@ use Rattle.demands.specs.Refusals.{InOrder}
 use Rattle.demands.specs.WellMade.{Judged}
 use Rattle.demands.specs.ForC.{ForC}
 use Rattle.demands.specs.Clean.{Clean}
+use Rattle.demands.specs.Packings.{PackedAs}
 use Rattle.demands.specs.Trace.{traceOf, answersAfter}
 use Rattle.demands.specs.Program.{Program, Accepts, AreWords, playAll, saidAll}
 use Rattle.demands.specs.FieldFound.{FieldFound}
@@ -84,6 +85,12 @@ pub record Demand2 (P : Program) : Type 0 where
       → let left = leftOf (P .unpack first second n ws b) b in
       let answer = P .pack first second (take n (left .items)) (take n (left .events)) (take n (left .channels)) out in
       (saidOf answer ≡ accepted (length ws)) × (take (length ws) (leftOf answer out) ≡ ws)
+  -- packed samples lie in the words as document 01 says, those that were packed and those that are unpacked; "Writers put zero in unused bits"
+  pub packs-as : (first second : ℕ) (items events channels out : List ℕ) (d : Done ℕ (List ℕ)) → P .pack first second items events channels out ≡ accepted d
+      → let ws = take (d .says) (d .leaves) in
+      PackedAs first (length items) items events channels ws × Clean first (length items) ws
+  pub unpacks-as : (first second n : ℕ) (ws : List ℕ) → AreWords ws → (b : Buffers) (d : Done ℕ Buffers) → P .unpack first second n ws b ≡ accepted d
+      → PackedAs first n (take n (d .leaves .items)) (take n (d .leaves .events)) (take n (d .leaves .channels)) ws
 
 -- ---- demand 3: tables
 

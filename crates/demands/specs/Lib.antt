@@ -28,6 +28,8 @@ pub mod WellMade
 pub mod FieldFound
 -- packed words, as a writer makes them
 pub mod Clean
+-- packed samples as document 01 says them
+pub mod Packings
 -- every public call, with its promise
 pub mod Calls
 -- the cases marked P, as one table

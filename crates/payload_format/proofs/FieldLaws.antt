@@ -1,7 +1,7 @@
 -- A packing field and its parts. The idea: the tags together stay below the item's place, so the parts of a field that is made of them come out again,
 -- and a field whose unused bits are 0 is made of its parts.
 use Rattle.words.proofs.Kit.{_≡_, sym, ap, ap₂, _∙_, subst, List, ℕ, _+_, _-_, _*_, _/_, _%_, _^_, _≤_, _<_, arith, getD, length}
-use native.Mathlib.Nat.{add-assoc, mul-assoc, add-mul, lt-of-lt-of-le, mul-le-mul, mod-le}
+use native.Mathlib.Nat.{add-assoc, mul-assoc, add-mul, lt-of-lt-of-le, mul-le-mul, mul-mod-left, mod-le}
 use lib.ListN.{List·getD-eq-default}
 use lib.Arith.{digits-lt}
 use lib.Pow.{high, low, pow-add, pow-mono, mod-pow-add, shl-exact, shl-lt}
@@ -58,6 +58,17 @@ module _ (p : Packing) (l : Legal p) (i e c : ℕ) (he : e < 2 ^ p .event) (hc :
 
   pub event-back : eventIn p (made p i e c) ≡ e
   event-back = ap (λ (x : ℕ). x / 2 ^ p .channel % 2 ^ p .event) shape ∙ ap (λ (x : ℕ). x % 2 ^ p .event) (high _ (p .channel) hc) ∙ low _ (p .event) he
+
+  -- its unused bits are 0
+  pub unused-made : unusedIn p (made p i e c) ≡ 0
+  unused-made =
+      let t : ℕ = p .event + p .channel in
+      let r : ℕ = p .field - p .item - t in
+      let q : p .field - p .item ≡ r + t = omega arith in
+      let b : e * 2 ^ p .channel + c < 2 ^ t = rw (pow-add 2 (p .event) (p .channel)) (digits-lt he hc) in
+      let d : made p i e c ≡ i * 2 ^ r * 2 ^ t + (e * 2 ^ p .channel + c) =
+      ap (λ (x : ℕ). x + (e * 2 ^ p .channel + c)) (ap (λ (x : ℕ). i * 2 ^ x) q ∙ ap (λ (x : ℕ). i * x) (pow-add 2 r t) ∙ sym (mul-assoc i (2 ^ r) (2 ^ t))) in
+      ap (λ (x : ℕ). x / 2 ^ t % 2 ^ r) d ∙ ap (λ (x : ℕ). x % 2 ^ r) (high (i * 2 ^ r) t b) ∙ mul-mod-left i (2 ^ r)
 
   -- and the field fits
   pub made-below : i < 2 ^ p .item → made p i e c < 2 ^ p .field
