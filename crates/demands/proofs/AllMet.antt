@@ -16,6 +16,7 @@ use Rattle.demands.proofs.Again.{written-again}
 use Rattle.demands.proofs.Back.{written-back}
 use Rattle.demands.proofs.RoundTrip.{pack-then-unpack, unpack-then-pack}
 use Rattle.demands.proofs.Packings.{packed-as, unpacked-as}
+use Rattle.demands.proofs.ShownAs.{shown-as}
 use Rattle.demands.proofs.RightLaws.{start-accepts, right-start, right-on, answers-on, past-on}
 use Rattle.demands.proofs.Resumed.{saves, resumes, no-room, days}
 use Rattle.demands.proofs.PanelShows.{shows}
@@ -55,6 +56,7 @@ demand-2 = record {
   packed = unpack-then-pack;
   packs-as = packed-as;
   unpacks-as = unpacked-as;
+  shown-as = shown-as;
 }
 
 pub demand-3 : Demand3 ours

@@ -51,3 +51,5 @@ pub mod Useless
 pub mod Sources
 -- and so is that of the calls for C
 pub mod SourcesForC
+-- what a reading shows, in document 01's words
+pub mod ShownAs

@@ -22,6 +22,7 @@ use Rattle.demands.specs.WellMade.{Judged}
 use Rattle.demands.specs.ForC.{ForC}
 use Rattle.demands.specs.Clean.{Clean}
 use Rattle.demands.specs.Packings.{PackedAs}
+use Rattle.demands.specs.ShownAs.{ShownAs}
 use Rattle.demands.specs.Trace.{traceOf, answersAfter}
 use Rattle.demands.specs.Program.{Program, Accepts, AreWords, playAll, saidAll}
 use Rattle.demands.specs.FieldFound.{FieldFound}
@@ -91,6 +92,8 @@ pub record Demand2 (P : Program) : Type 0 where
       PackedAs first (length items) items events channels ws × Clean first (length items) ws
   pub unpacks-as : (first second n : ℕ) (ws : List ℕ) → AreWords ws → (b : Buffers) (d : Done ℕ Buffers) → P .unpack first second n ws b ≡ accepted d
       → PackedAs first n (take n (d .leaves .items)) (take n (d .leaves .events)) (take n (d .leaves .channels)) ws
+  -- readings for the panel, of any words of a field
+  pub shown-as : (ws : List ℕ) → ShownAs ws
 
 -- ---- demand 3: tables
 

@@ -40,3 +40,5 @@ pub mod Sources
 pub mod ForC
 -- each call for C, tied to its function
 pub mod SourcesForC
+-- what a reading shows, in document 01's words
+pub mod ShownAs

@@ -11,6 +11,7 @@ use lib.Ieee.{binary32, size, odd, toBits}
 use lib.Ieee.Digits.{size-lt, size-le, size-reaches}
 use lib.Ieee.Exact.{odd-sign}
 use Rattle.panel.specs.Values.{share, over}
+use Rattle.panel.specs.Pattern.{signField, exponentField, fractionField}
 use Rattle.words.specs.Signed.{twosComplement}
 use Rattle.words.proofs.PowerLaws.{signed-mag}
 use Rattle.panel.proofs.Quotient.{pattern, bits-of, share-odd}
@@ -60,21 +61,6 @@ fields k s n hk hp h =
     ∙ omega arith
 
 -- ---- the three fields of z over 2 ^ k
-
--- 1 below zero
-unfoldable pub signField : ℤ → ℕ
-signField (pos n) = 0
-signField (negsuc n) = 1
-
--- the place of the number's first bit, where 127 stands for 2 ^ 0; 0 of zero
-unfoldable pub exponentField : ℕ → ℕ → ℕ
-exponentField k zero = 0
-exponentField k (suc n) = size (suc n) + 126 - k
-
--- the 23 bits after that one; 0 of zero
-unfoldable pub fractionField : ℕ → ℕ
-fractionField zero = 0
-fractionField (suc n) = suc n * 2 ^ (24 - size (suc n)) - 2 ^ 23
 
 -- the fields have 8 and 23 bits
 pub fields-fit : (k n : ℕ) → n < 2 ^ 24 → (exponentField k n < 2 ^ 8) × (fractionField n < 2 ^ 23)

@@ -2,6 +2,8 @@
 
 -- whole hertz and parts, and exact quotients as floats
 pub mod Values
+-- the fields of a float, as whole numbers
+pub mod Pattern
 -- what a reading shows, and its refusals
 pub mod Readings
 -- the held words themselves
