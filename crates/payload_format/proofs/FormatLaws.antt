@@ -7,19 +7,14 @@ use Rattle.words.specs.Outcome.{Outcome, accepted, onward}
 use Rattle.words.specs.Refusals.{Refusals, firstGiven}
 use Rattle.words.specs.Numbers.{FORMAT, COUNT}
 use Rattle.words.specs.Word.{bits}
-use Rattle.words.proofs.Cases.{both-right, true-is-false, accepted-same}
-use Rattle.words.proofs.RefusalLaws.{first-passed}
+use Rattle.words.proofs.Cases.{both-right, accepted-same}
+use Rattle.words.proofs.RefusalLaws.{first-passed, either-passed}
 use Rattle.fields.specs.Format.{realComplex, itemCode, eventSize, channelSize, packingSize, itemSize, formatOk, codeKnown, codeFits}
 use Rattle.payload_format.specs.declared.inner.Packing.{Packing}
 use Rattle.payload_format.specs.Format.{linkEfficient, formatBad, carriedBits, packingOf}
 use Rattle.payload_format.specs.inner.Legal.{Legal}
 use Rattle.bitstream.specs.Carried.{needed}
 use Rattle.payload_format.specs.Count.{countBad, wordsFor, neededList, neededOf}
-
--- one line of a chain of tests was passed
-line : (t b : Bool) → pick t true b ≡ false → (t ≡ false) × (b ≡ false)
-line true b e = absurd (true-is-false e)
-line false b e = (refl, e)
 
 -- ---- the bits that carry fields
 pub field-some : (first : ℕ) → 1 ≤ packingSize first
@@ -66,7 +61,7 @@ carry-most first = carrying first .most
 -- ---- where FORMAT is not given
 format-ok : (first second : ℕ) → formatBad first second ≡ false → formatOk first ≡ true
 unfolding formatBad
-format-ok first second e = not-false (formatOk first) (line (not (formatOk first)) _ e .0)
+format-ok first second e = not-false (formatOk first) (either-passed (not (formatOk first)) _ e .0)
 
 -- the sizes together do not exceed the packing field
 sizes-fit : (first : ℕ) → formatOk first ≡ true → itemSize first + eventSize first + channelSize first ≤ packingSize first
@@ -97,7 +92,7 @@ legal first second e =
 -- ---- where COUNT is not given
 pub count-few : (first second n : ℕ) → countBad first second n ≡ false → n ≤ 2097120
 unfolding countBad
-count-few first second n e = ltb-false 2097120 n (line (ltb 2097120 n) _ e .0)
+count-few first second n e = ltb-false 2097120 n (either-passed (ltb 2097120 n) _ e .0)
 
 -- the words that a packing needs
 pub words-for : (first n m : ℕ) (p : Packing) → p ≡ packingOf first → m ≡ needed (p .carry) (p .field) n → m ≡ wordsFor first n

@@ -1,6 +1,6 @@
 -- Document 01, 'Payload': how many items, and how many words. COUNT: "wrong number of items or words".
-use Rattle.words.specs.Kit.{ℕ, _*_, _%_, Bool, true, not, [], _∷_, eqb, ltb}
-use Rattle.words.specs.Tests.{pick}
+use Rattle.words.specs.Kit.{ℕ, _*_, _%_, Bool, not, [], _∷_, eqb, ltb}
+use Rattle.words.specs.Tests.{pick, either}
 use Rattle.words.specs.Outcome.{Outcome, accepted}
 use Rattle.words.specs.Refusals.{Refusals, firstGiven}
 use Rattle.words.specs.Numbers.{FORMAT, COUNT}
@@ -14,7 +14,7 @@ unitOf first second = vectorSize second * pick (eqb (realComplex first) 0) 1 2
 
 -- COUNT of n items: "n is at most 2,097,120 and a multiple of" the unit
 unfoldable pub countBad : ℕ → ℕ → ℕ → Bool
-countBad first second n = pick (ltb 2097120 n) true (not (eqb (n % unitOf first second) 0))
+countBad first second n = either (ltb 2097120 n) (not (eqb (n % unitOf first second) 0))
 
 -- the words that n fields of a format take
 unfoldable pub wordsFor : ℕ → ℕ → ℕ

@@ -1,6 +1,6 @@
 -- Document 01, 'Payload': the format's two words. The parts of the first that field 15's rule speaks of are named in crate `fields`.
-use Rattle.words.specs.Kit.{ℕ, _+_, _*_, _/_, Bool, true, not, eqb, ltb, leb}
-use Rattle.words.specs.Tests.{pick, both}
+use Rattle.words.specs.Kit.{ℕ, _+_, _*_, _/_, Bool, not, eqb, ltb, leb}
+use Rattle.words.specs.Tests.{pick, both, either}
 use Rattle.words.specs.Word.{bits, has}
 use Rattle.fields.specs.Format.{eventSize, channelSize, packingSize, itemSize, formatOk}
 use Rattle.payload_format.specs.declared.inner.Packing.{Packing}
@@ -32,9 +32,9 @@ wideProcessing first = both (not (linkEfficient first)) (both (ltb 32 (packingSi
 -- FORMAT is given when: "rule of field 15 broken, repeat not 1, bit 23 set, a processing-efficient field of 33 to 63 bits"
 unfoldable pub formatBad : ℕ → ℕ → Bool
 formatBad first second =
-    pick (not (formatOk first)) true
-    (pick (not (eqb (repeatSize second) 1)) true
-    (pick (componentRepeat first) true
+    either (not (formatOk first))
+    (either (not (eqb (repeatSize second) 1))
+    (either (componentRepeat first)
     (wideProcessing first)))
 
 -- ---- how fields lie in words

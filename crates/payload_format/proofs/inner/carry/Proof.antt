@@ -21,12 +21,12 @@ lines c =
     let at-link : tie.After-link-efficient = search in
     rw (← (at-link .link-efficient .ensures), ← (c .packing-size .ensures), c .before .if1 .left) refl
 
-whole-fields : (c : tie.After-packing-size) → let f = c .packing-size .result in 32 / f * f ≤ 32
-whole-fields c = div-mul-le-self 32 (c .packing-size .result)
+fields-within : (c : tie.After-packing-size) → let f = c .packing-size .result in 32 / f * f ≤ 32
+fields-within c = div-mul-le-self 32 (c .packing-size .result)
 
 pub carry-spec : {M : Type 1} → statement M
 carry-spec =
     tie.close
     (tie.spec
-    (λ c κs. search needs) returns (λ c κs. search needs) (λ c. search needs) (λ c. search needs) (λ c. omega (arith, whole-fields (search)))
-    (λ c. rw (lines (search)) (search (cases, whole-fields))) (λ c. rw (lines (search)) (search cases)))
+    (λ c κs. search needs) returns (λ c κs. search needs) (λ c. search needs) (λ c. search needs) (λ c. omega (arith, fields-within (search)))
+    (λ c. rw (lines (search)) (search (cases, fields-within))) (λ c. rw (lines (search)) (search cases)))
