@@ -18,7 +18,7 @@
 
    What a call costs in S, the number of streams: vrt49_play, vrt49_well_made, vrt49_page_length,
    vrt49_save, vrt49_put_back, vrt49_reading and vrt49_held_words test a whole table each time, 500
-   to 700 instructions for each stream that holds six fields. vrt49_play_run is the fast one: it
+   to 750 instructions for each stream that holds six fields. vrt49_play_run is the fast one: it
    tests the table once, and then takes 110 instructions for a sample packet and 6 for each stream
    before its own (docs/SPEED.md).
 
