@@ -31,12 +31,14 @@ static void print_field(size_t layout, size_t stream, uint32_t bit, const char *
 
 int main(void)
 {
-    size_t n = read_words(stdin), streams = n ? words[0] : 0, at = 1 + streams, layout = 0;
+    size_t n = read_words(stdin), streams = n ? words[0] : 0, at = 0, layout = 0;
     uint32_t number = VRT49_LIST;
     vrt49_packet packet;
     vrt49_heard heard;
     if (streams < n)
         number = vrt49_start(words + 1, streams, table, sizeof table / sizeof table[0], &layout);
+    if (number == VRT49_OK)
+        at = 1 + streams;
     while (number == VRT49_OK && at < n) {
         number = vrt49_read(words + at, n - at, &packet);
         if (number != VRT49_OK)

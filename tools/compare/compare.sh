@@ -60,6 +60,7 @@ step 'packets of UHD' python3 $here/peers.py uhd "$work/uhd_packets" -- $run "$w
 step 'packets for tshark' python3 $here/peers.py tshark "$work" -- $run "$work/drive"
 step 'recordings' $here/recordings.sh
 step 'the examples over an installed copy' env LIBRARY="$library" tools/try_install
+step 'the examples over the recordings' python3 -B $here/examples.py target/try_install $run
 
 # each comparison must fail when drive.c spoils an answer
 spoilt() { # BEND COMMAND ..
