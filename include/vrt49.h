@@ -343,8 +343,7 @@ uint32_t vrt49_start(const uint32_t *ids, size_t ids_n, uint32_t *table, size_t 
 /* Whether a table is well made: 1 or 0. Nothing is refused. */
 uint32_t vrt49_well_made(const uint32_t *table, size_t table_n);
 
-/* Plays the packet at the front of the words on a table: TABLE, then 1 to 10 as in reading, STREAM.
-   */
+/* Plays the packet at the front of the words: TABLE, then 1 to 10 as in reading, STREAM. */
 uint32_t vrt49_play(uint32_t *table, size_t table_n, const uint32_t *words, size_t words_n,
                     vrt49_heard *answer);
 
