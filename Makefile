@@ -34,11 +34,8 @@ example: lib
 # the library, static and shared, its header, its pkg-config file and vrtplay: make install PREFIX=/usr DESTDIR=/tmp/package
 PREFIX ?= /usr/local
 LIBDIR ?= $(PREFIX)/lib
-export PREFIX LIBDIR DESTDIR
-install:
-	@tools/install install
-uninstall:
-	@tools/install uninstall
+install uninstall:
+	@PREFIX='$(PREFIX)' LIBDIR='$(LIBDIR)' DESTDIR='$(DESTDIR)' tools/install $@
 
 # holds the library for C to the reference, to UHD and to tshark, and vrtplay to its recordings
 compare:
