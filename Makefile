@@ -1,4 +1,5 @@
-# make play, make test; for C: make lib, make example; make compare, make speed, make stack; make wrong, make count; make vectors.
+# make play, make test; for C: make lib, make example, make install, make uninstall; make compare, make speed, make stack; make wrong,
+# make count; make vectors.
 
 # tries the wrong programs of wrong/, of all crates or of those named behind it: make wrong play page
 ifeq (wrong,$(firstword $(MAKECMDGOALS)))
@@ -9,7 +10,7 @@ wrong:
 $(CRATES):
 	@:
 else
-.PHONY: play test lib example compare speed stack count vectors
+.PHONY: play test lib example install uninstall compare speed stack count vectors
 
 # plays the sample survey and prints a line for each packet
 play:
@@ -26,9 +27,15 @@ lib:
 	@rt staticlib vrt49 >target/lib.log 2>&1 || { tail -n 20 target/lib.log; exit 1; }
 	@echo 'proved and built: target/staticlib/libvrt49.a; its header: include/vrt49.h'
 
-# builds a C program over the library, and runs it
+# builds a C program over the library, and runs it on the sample survey
 example: lib
-	@tools/run_c examples/c/survey.c
+	@tools/run_c examples/c/tuning.c <samples/recordings/survey.vrt
+
+# the library, static and shared, its header, its pkg-config file and vrtplay: make install PREFIX=/usr DESTDIR=/tmp/package
+PREFIX ?= /usr/local
+LIBDIR ?= $(PREFIX)/lib
+install uninstall:
+	@PREFIX='$(PREFIX)' LIBDIR='$(LIBDIR)' DESTDIR='$(DESTDIR)' tools/install $@
 
 # holds the library for C to the reference, to UHD and to tshark, vrtplay to its recordings, and tools/capture to known packets
 compare:

@@ -1,80 +1,331 @@
-/* vrt49.h: the calls of libvrt49.a: VITA 49.0 packets, payloads, tables, pages and readings, as document 01 has them.
+/* vrt49.h: the calls of libvrt49: VITA 49.0 packets, payloads, tables, pages and readings.
 
-   A call answers a number: 0 where it is accepted, and only there, else the number of the first refusal that applies, of the list below
-   (docs/MANUAL.md says what to do); vrt49_field_count and vrt49_well_made refuse nothing and answer their value. A buffer is handed over as a
-   pointer and its number of entries. Values come back through pointers: to a single number, such as `length`, or to an array that has the
-   entries of its declaration, such as `answer[18]`. A refusal changes nothing of all this. Nothing is kept between calls, and nothing is
-   allocated.
+   The rules are those of document 01, the scope that the owner of this project wrote:
+   docs/PACKET.md, docs/LAYOUT.md and docs/MANUAL.md say them in the project's words.
 
-   What a caller owes: a pointer to a number or to such an array is not null; what is written, be it number, array or buffer, overlaps nothing
-   else that is handed over; a pointer is aligned as its type asks. A buffer of no entries may be null. */
+   A call answers a number: VRT49_OK, which is 0, where it is accepted, and only there; else the
+   number of the first refusal that applies (enum vrt49_refusal). vrt49_field_count and
+   vrt49_well_made refuse nothing and answer their value. A refusal changes nothing that was handed
+   over.
+
+   Words are numbers of 32 bits in the host's own order: a recording's bytes are put into that order
+   before a call sees them (examples/c/tuning.c does it). A buffer is a pointer and its number of
+   entries. Values come back through pointers: to one number, such as `length`, or to a struct.
+
+   Calls are reentrant: nothing is kept between them, nothing is shared, and nothing is allocated.
+   The stack that a call takes is fixed: 552 bytes for vrt49_put_back, and less than 400 for every
+   other (`make stack`). memcpy, memmove and memset are all that is asked of the C library.
+
+   What a call costs in S, the number of streams: vrt49_play, vrt49_well_made, vrt49_page_length,
+   vrt49_save, vrt49_put_back, vrt49_reading and vrt49_held_words test a whole table each time, 500
+   to 750 instructions for each stream that holds six fields. vrt49_play_run is the fast one: it
+   tests the table once, and then takes 110 instructions for a sample packet and 6 for each stream
+   before its own (docs/SPEED.md).
+
+   What a caller owes: a pointer to a number or to a struct is not null; what is written, be it
+   number, struct or buffer, overlaps nothing else that is handed over; a pointer is aligned as its
+   type asks. A buffer of no entries may be null.
+
+   The header is C99 and C++. The library is for x86-64 Linux. */
 #ifndef VRT49_H
 #define VRT49_H
 #include <stddef.h>
 #include <stdint.h>
 
+#define VRT49_VERSION_MAJOR 0
+#define VRT49_VERSION_MINOR 11
+#define VRT49_VERSION_PATCH 0
+
 #ifdef __cplusplus
 extern "C" {
 #endif
 
-/* The numbers of refusals. */
-#define VRT49_EMPTY 1      /* no words */
-#define VRT49_TYPE 2       /* type above 5 */
-#define VRT49_BITS 3       /* reserved header bit set */
-#define VRT49_SHORT 4      /* size below the required parts */
-#define VRT49_CUT 5        /* size exceeds the words given */
-#define VRT49_CLASS 6      /* top eight class bits not zero */
-#define VRT49_TIME 7       /* TSF is 2 and the fraction is 10^12 or more */
-#define VRT49_INDICATOR 8  /* indicator bits 7-0 not zero */
-#define VRT49_LAYOUT 9     /* fields need more or fewer words than the body has */
-#define VRT49_FIELD 10     /* a field rule is broken */
-#define VRT49_STREAM 11    /* no identifier, one not declared, or a stream number not in the table */
-#define VRT49_LIST 12      /* 0 or over 32 identifiers, or one twice */
-#define VRT49_ROOM 13      /* a buffer to be written is too short */
-#define VRT49_VALUE 14     /* a number does not fit its bits or type, or a field bit is not 30 to 10 */
-#define VRT49_SIZE 15      /* a packet to be written, or a page, exceeds 65,535 words */
-#define VRT49_FORMAT 16    /* the payload format is refused, or an item width is outside 1 to 64 */
-#define VRT49_COUNT 17     /* wrong number of items or words */
-#define VRT49_TABLE 18     /* table not well made */
-#define VRT49_PAGE 19      /* page not well made */
+/* ---- numbers */
+
+/* What a call answers: 0, or the number of a refusal. docs/MANUAL.md says what to do. */
+enum vrt49_refusal {
+    VRT49_OK = 0,
+    VRT49_EMPTY = 1,     /* no words */
+    VRT49_TYPE = 2,      /* type above 5 */
+    VRT49_BITS = 3,      /* reserved header bit set */
+    VRT49_SHORT = 4,     /* size below the required parts */
+    VRT49_CUT = 5,       /* size exceeds the words given */
+    VRT49_CLASS = 6,     /* top eight class bits not zero */
+    VRT49_TIME = 7,      /* TSF is 2 and the fraction is 10^12 or more */
+    VRT49_INDICATOR = 8, /* indicator bits 7-0 not zero */
+    VRT49_LAYOUT = 9,    /* fields need more or fewer words than the body has */
+    VRT49_FIELD = 10,    /* a field rule is broken */
+    VRT49_STREAM = 11,   /* no identifier, one not declared, or a stream number not in the table */
+    VRT49_LIST = 12,     /* 0 or over 32 identifiers, or one twice */
+    VRT49_ROOM = 13,     /* a buffer to be written is too short */
+    VRT49_VALUE = 14,    /* a number does not fit its bits or type, or a bit is not 30 to 10 */
+    VRT49_SIZE = 15,     /* a packet to be written, or a page, exceeds 65,535 words */
+    VRT49_FORMAT = 16,   /* the payload format is refused, or an item width is outside 1 to 64 */
+    VRT49_COUNT = 17,    /* wrong number of items or words */
+    VRT49_TABLE = 18,    /* table not well made */
+    VRT49_PAGE = 19      /* page not well made */
+};
+
+/* The name of a number that a call answered, "OK" of 0; "?" of one that no call answers. */
+static inline const char *vrt49_name(uint32_t number)
+{
+    switch (number) {
+    case VRT49_OK: return "OK";
+    case VRT49_EMPTY: return "EMPTY";
+    case VRT49_TYPE: return "TYPE";
+    case VRT49_BITS: return "BITS";
+    case VRT49_SHORT: return "SHORT";
+    case VRT49_CUT: return "CUT";
+    case VRT49_CLASS: return "CLASS";
+    case VRT49_TIME: return "TIME";
+    case VRT49_INDICATOR: return "INDICATOR";
+    case VRT49_LAYOUT: return "LAYOUT";
+    case VRT49_FIELD: return "FIELD";
+    case VRT49_STREAM: return "STREAM";
+    case VRT49_LIST: return "LIST";
+    case VRT49_ROOM: return "ROOM";
+    case VRT49_VALUE: return "VALUE";
+    case VRT49_SIZE: return "SIZE";
+    case VRT49_FORMAT: return "FORMAT";
+    case VRT49_COUNT: return "COUNT";
+    case VRT49_TABLE: return "TABLE";
+    case VRT49_PAGE: return "PAGE";
+    default: return "?";
+    }
+}
+
+/* How many there are at most, and the words that they take. A buffer of these words has room. */
+#define VRT49_STREAMS_MAX 32                 /* streams of a table */
+#define VRT49_PACKET_WORDS 65535             /* a packet, at most */
+#define VRT49_FIELD_WORDS 13                 /* a held field, at most */
+#define VRT49_ENTRY_WORDS 5                  /* an entry of vrt49_play_run */
+#define VRT49_TABLE_WORDS(s) (1 + 88 * (s))  /* the layout of a table of s streams */
+#define VRT49_PAGE_WORDS(s) (2 + 90 * (s))   /* a page of s streams, at most */
+#define VRT49_ITEMS_MAX 2097120              /* items that are packed or unpacked at once */
+
+/* The type of a packet. */
+enum vrt49_type {
+    VRT49_TYPE_DATA_NO_ID = 0,           /* samples, without an identifier */
+    VRT49_TYPE_DATA = 1,                 /* samples */
+    VRT49_TYPE_EXTENSION_DATA_NO_ID = 2, /* Extension data, without an identifier */
+    VRT49_TYPE_EXTENSION_DATA = 3,       /* Extension data */
+    VRT49_TYPE_CONTEXT = 4,              /* the tuning */
+    VRT49_TYPE_EXTENSION_CONTEXT = 5     /* Extension context */
+};
+
+/* What TSI says of the seconds. */
+enum vrt49_tsi {
+    VRT49_TSI_NONE = 0,
+    VRT49_TSI_UTC = 1,
+    VRT49_TSI_GPS = 2,
+    VRT49_TSI_OTHER = 3
+};
+
+/* What TSF says of the fraction. */
+enum vrt49_tsf {
+    VRT49_TSF_NONE = 0,
+    VRT49_TSF_SAMPLE_COUNT = 1, /* samples since the second began */
+    VRT49_TSF_PICOSECONDS = 2,  /* picoseconds since the second began: real time */
+    VRT49_TSF_FREE_RUNNING = 3  /* samples since any moment */
+};
+
+/* The fields of a type 4 body, by their bit of the indicator word. A table holds 30 to 10. */
+enum vrt49_bit {
+    VRT49_BIT_REFERENCE_POINT = 30,               /* 1 word */
+    VRT49_BIT_BANDWIDTH = 29,                     /* 2 words: a frequency */
+    VRT49_BIT_IF_REFERENCE_FREQUENCY = 28,        /* 2 words: a frequency */
+    VRT49_BIT_RF_REFERENCE_FREQUENCY = 27,        /* 2 words: a frequency */
+    VRT49_BIT_RF_REFERENCE_FREQUENCY_OFFSET = 26, /* 2 words: a frequency */
+    VRT49_BIT_IF_BAND_OFFSET = 25,                /* 2 words: a frequency */
+    VRT49_BIT_LEVEL = 24,                         /* 1 word: a level */
+    VRT49_BIT_GAIN = 23,                          /* 1 word: a gain */
+    VRT49_BIT_OVER_RANGE_COUNT = 22,              /* 1 word */
+    VRT49_BIT_SAMPLE_RATE = 21,                   /* 2 words: a frequency */
+    VRT49_BIT_TIMESTAMP_ADJUSTMENT = 20,          /* 2 words */
+    VRT49_BIT_TIMESTAMP_CALIBRATION_TIME = 19,    /* 1 word */
+    VRT49_BIT_TEMPERATURE = 18,                   /* 1 word: a temperature */
+    VRT49_BIT_DEVICE = 17,                        /* 2 words */
+    VRT49_BIT_STATE = 16,                         /* 1 word */
+    VRT49_BIT_FORMAT = 15,                        /* 2 words: for vrt49_unpack */
+    VRT49_BIT_GPS_GEOLOCATION = 14,               /* 11 words */
+    VRT49_BIT_INS_GEOLOCATION = 13,               /* 11 words */
+    VRT49_BIT_ECEF_EPHEMERIS = 12,                /* 13 words */
+    VRT49_BIT_RELATIVE_EPHEMERIS = 11,            /* 13 words */
+    VRT49_BIT_EPHEMERIS_REFERENCE = 10,           /* 1 word */
+    VRT49_BIT_GPS_ASCII = 9,                      /* says its own length; not held */
+    VRT49_BIT_LISTS = 8                           /* says its own length; not held */
+};
+
+/* The bits of a trailer's enables and of its indicators: one says something where both are set. */
+enum vrt49_trailer_bit {
+    VRT49_TRAILER_CALIBRATED_TIME = 0x800,
+    VRT49_TRAILER_VALID_DATA = 0x400,
+    VRT49_TRAILER_REFERENCE_LOCK = 0x200,
+    VRT49_TRAILER_AGC = 0x100,
+    VRT49_TRAILER_DETECTED_SIGNAL = 0x080,
+    VRT49_TRAILER_SPECTRAL_INVERSION = 0x040,
+    VRT49_TRAILER_OVER_RANGE = 0x020,
+    VRT49_TRAILER_SAMPLE_LOSS = 0x010,
+    VRT49_TRAILER_USER = 0x00F
+};
+
+/* The kinds of reading. */
+enum vrt49_kind {
+    VRT49_KIND_FREQUENCY = 1,   /* whole hertz, and parts of 2^20 */
+    VRT49_KIND_LEVEL = 2,       /* dBm */
+    VRT49_KIND_GAIN = 3,        /* dB, of stages 1 and 2 */
+    VRT49_KIND_TEMPERATURE = 4, /* degrees Celsius */
+    VRT49_KIND_OTHER = 5,       /* held: its words by vrt49_held_words */
+    VRT49_KIND_ABSENT = 6       /* no accepted Context packet carried it: not zero */
+};
+
+/* ---- answers by name
+
+   A struct is the words of one answer, in their order. The library is not C: it is handed an
+   address, and reads and writes words there. The first member stands at the struct's address (C99
+   6.7.2.1), each member is declared as the word that it is written as (6.5), and the assertions
+   behind them say that nothing stands between. So a pointer to a struct is handed over as it is,
+   and nothing is copied. */
+
+/* A packet that was read. What is absent is 0. */
+typedef struct vrt49_packet {
+    uint32_t type;              /* enum vrt49_type */
+    uint32_t has_class;         /* C: 1 or 0 */
+    uint32_t has_trailer;       /* T: 1 or 0 */
+    uint32_t tsm;               /* 1 or 0 */
+    uint32_t tsi;               /* enum vrt49_tsi */
+    uint32_t tsf;               /* enum vrt49_tsf */
+    uint32_t count;             /* 0 to 15 */
+    uint32_t size;              /* words of the whole packet */
+    uint32_t identifier;        /* of the stream */
+    uint32_t oui;               /* 24 bits */
+    uint32_t information_class; /* 16 bits */
+    uint32_t packet_class;      /* 16 bits */
+    uint32_t seconds;
+    uint32_t fraction_high;     /* vrt49_fraction gives both as one */
+    uint32_t fraction_low;
+    uint32_t body_at;           /* the body's place, from the header on */
+    uint32_t body_words;
+    uint32_t trailer;           /* the trailer word */
+} vrt49_packet;
+
+/* The parts of a packet to be written. Those that the type and the header do not ask for are
+   ignored. */
+typedef struct vrt49_parts {
+    uint32_t type;
+    uint32_t has_class;
+    uint32_t has_trailer;
+    uint32_t tsm;
+    uint32_t tsi;
+    uint32_t tsf;
+    uint32_t count;
+    uint32_t identifier;
+    uint32_t oui;
+    uint32_t information_class;
+    uint32_t packet_class;
+    uint32_t seconds;
+    uint32_t fraction_high;
+    uint32_t fraction_low;
+    uint32_t trailer;
+} vrt49_parts;
+
+/* A trailer word, taken apart. */
+typedef struct vrt49_trailer {
+    uint32_t enables;    /* enum vrt49_trailer_bit */
+    uint32_t indicators; /* enum vrt49_trailer_bit */
+    uint32_t e;          /* 1 where the associated count says something */
+    uint32_t associated; /* 0 to 127 */
+} vrt49_trailer;
+
+/* Where a field stands in a body: zeros where it is absent. */
+typedef struct vrt49_place {
+    size_t present; /* 1 or 0 */
+    size_t at;      /* from the indicator word on */
+    size_t words;
+} vrt49_place;
+
+/* What playing says of one packet. */
+typedef struct vrt49_heard {
+    uint32_t size;    /* words of the packet */
+    uint32_t type;    /* enum vrt49_type */
+    uint32_t stream;  /* place in the list of identifiers, from 0 */
+    uint32_t missing; /* counts passed over before it, 0 to 15 */
+} vrt49_heard;
+
+/* What a run says of each packet. */
+typedef struct vrt49_entry {
+    uint32_t number;  /* 0, or the number of a refusal; then the last three are 0 */
+    uint32_t size;    /* words that the run goes on by; 0 where a refusal ends it */
+    uint32_t type;    /* enum vrt49_type */
+    uint32_t stream;  /* place in the list of identifiers, from 0 */
+    uint32_t missing; /* counts passed over before it, 0 to 15 */
+} vrt49_entry;
+
+/* What the panel shows of a field, as vrt49_show gives it. */
+typedef struct vrt49_shown {
+    uint32_t kind;   /* enum vrt49_kind */
+    uint32_t parts;  /* of a frequency: 0 to 1,048,575 parts of 2^20 above the hertz; else 0 */
+    int64_t hertz;   /* of a frequency: whole hertz, rounded down; else 0 */
+    float levels[2]; /* the level or temperature and 0, or stages 1 and 2 of a gain; else zeros */
+} vrt49_shown;
+
+#if defined(__cplusplus) && __cplusplus >= 201103L
+#define VRT49_ASSERT(name, test) static_assert(test, #name)
+#elif defined(__STDC_VERSION__) && __STDC_VERSION__ >= 201112L
+#define VRT49_ASSERT(name, test) _Static_assert(test, #name)
+#else
+#define VRT49_ASSERT(name, test) typedef char name[(test) ? 1 : -1]
+#endif
+VRT49_ASSERT(vrt49_packet_is_18_words, sizeof(vrt49_packet) == 18 * sizeof(uint32_t));
+VRT49_ASSERT(vrt49_parts_is_15_words, sizeof(vrt49_parts) == 15 * sizeof(uint32_t));
+VRT49_ASSERT(vrt49_trailer_is_4_words, sizeof(vrt49_trailer) == 4 * sizeof(uint32_t));
+VRT49_ASSERT(vrt49_place_is_3_sizes, sizeof(vrt49_place) == 3 * sizeof(size_t));
+VRT49_ASSERT(vrt49_heard_is_4_words, sizeof(vrt49_heard) == 4 * sizeof(uint32_t));
+VRT49_ASSERT(vrt49_entry_is_5_words, sizeof(vrt49_entry) == 5 * sizeof(uint32_t));
+VRT49_ASSERT(vrt49_sizes_have_64_bits, sizeof(size_t) == 8);
+#undef VRT49_ASSERT
 
 /* ---- packets, trailers and the fields of a body */
 
-/* Reads the packet at the front of the words: EMPTY to FIELD, 1 to 10 as listed. answer: type, C, T, TSM, TSI, TSF, count, size, identifier,
-   OUI, information class, packet class, seconds, fraction high, fraction low, the body's place, the body's words, trailer word; what is absent
-   is 0. */
-uint32_t vrt49_read(const uint32_t *words, size_t n, uint32_t answer[18]);
+/* Reads the packet at the front of the words: EMPTY to FIELD, 1 to 10 as listed. */
+uint32_t vrt49_read(const uint32_t *words, size_t n, vrt49_packet *answer);
 
-/* Writes a packet into out from word `at` on; the other words of out stay: TYPE, VALUE (also for C, T or TSM above 1), SHORT, SIZE, TIME,
-   INDICATOR, LAYOUT, FIELD, ROOM. parts: type, C, T, TSM, TSI, TSF, count, identifier, OUI, information class, packet class, seconds, fraction
-   high, fraction low, trailer word. length: the words written. */
-uint32_t vrt49_write(const uint32_t parts[15], const uint32_t *body, size_t body_n, uint32_t *out, size_t room, size_t at, size_t *length);
+/* Writes a packet into out from word `at` on; the other words of out stay: TYPE, VALUE (also for C,
+   T or TSM above 1), SHORT, SIZE, TIME, INDICATOR, LAYOUT, FIELD, ROOM. length: the words written.
+   */
+uint32_t vrt49_write(const vrt49_parts *parts, const uint32_t *body, size_t body_n, uint32_t *out,
+                     size_t room, size_t at, size_t *length);
 
-/* A trailer word's parts; no word is refused. answer: enables, indicators, E, associated count. */
-uint32_t vrt49_trailer_parts(uint32_t word, uint32_t answer[4]);
+/* A trailer word's parts; no word is refused. */
+uint32_t vrt49_trailer_parts(uint32_t word, vrt49_trailer *answer);
 
 /* The trailer word of its parts: VALUE. */
-uint32_t vrt49_trailer_word(uint32_t enables, uint32_t indicators, uint32_t e, uint32_t associated, uint32_t *word);
+uint32_t vrt49_trailer_word(uint32_t enables, uint32_t indicators, uint32_t e, uint32_t associated,
+                            uint32_t *word);
 
-/* How many fields an indicator word carries. The number answered is the count itself: nothing is refused. */
+/* How many fields an indicator word carries. The number answered is the count itself: nothing is
+   refused. */
 uint32_t vrt49_field_count(uint32_t indicator);
 
 /* Whether a type 4 body is as document 01 says: INDICATOR, LAYOUT, FIELD. */
 uint32_t vrt49_check_body(const uint32_t *body, size_t n);
 
-/* Where the field of a bit stands in a type 4 body; nothing is refused. answer: 1, its place in the body and its words; three zeros where it is
-   absent. */
-uint32_t vrt49_find(const uint32_t *body, size_t body_n, uint32_t bit, size_t answer[3]);
+/* Where the field of a bit stands in a type 4 body; nothing is refused. */
+uint32_t vrt49_find(const uint32_t *body, size_t body_n, uint32_t bit, vrt49_place *answer);
 
 /* ---- packed samples; a format is the two words of field 15 */
 
-/* Unpacks n items, their event tags and channel tags: FORMAT, COUNT, ROOM. The first n entries of items, events and channels are written. */
-uint32_t vrt49_unpack(uint32_t first, uint32_t second, size_t n, const uint32_t *words, size_t words_n, uint64_t *items, size_t items_n,
-                      uint8_t *events, size_t events_n, uint16_t *channels, size_t channels_n);
+/* Unpacks n items, their event tags and channel tags: FORMAT, COUNT, ROOM. The first n entries of
+   items, events and channels are written. */
+uint32_t vrt49_unpack(uint32_t first, uint32_t second, size_t n, const uint32_t *words,
+                      size_t words_n, uint64_t *items, size_t items_n, uint8_t *events,
+                      size_t events_n, uint16_t *channels, size_t channels_n);
 
-/* Packs items with their event tags and channel tags at the front of out: FORMAT, COUNT, VALUE, ROOM. length: the words written. */
-uint32_t vrt49_pack(uint32_t first, uint32_t second, const uint64_t *items, size_t items_n, const uint8_t *events, size_t events_n,
-                    const uint16_t *channels, size_t channels_n, uint32_t *out, size_t room, size_t *length);
+/* Packs items with their event tags and channel tags at the front of out: FORMAT, COUNT, VALUE,
+   ROOM. length: the words written. */
+uint32_t vrt49_pack(uint32_t first, uint32_t second, const uint64_t *items, size_t items_n,
+                    const uint8_t *events, size_t events_n, const uint16_t *channels,
+                    size_t channels_n, uint32_t *out, size_t room, size_t *length);
 
 /* The words that n items need: FORMAT, COUNT. length: how many. */
 uint32_t vrt49_words_needed(uint32_t first, uint32_t second, size_t n, size_t *length);
@@ -84,20 +335,26 @@ uint32_t vrt49_signed(uint32_t width, uint64_t item, int64_t *value);
 
 /* ---- tables of streams */
 
-/* Starts a table for a list of identifiers: LIST, ROOM. Words past the layout stay. length: the layout's words, 1 + 88 for each stream. */
-uint32_t vrt49_start(const uint32_t *ids, size_t ids_n, uint32_t *table, size_t table_n, size_t *length);
+/* Starts a table for a list of identifiers: LIST, ROOM. Words past the layout stay. length: the
+   layout's words, VRT49_TABLE_WORDS of the identifiers. */
+uint32_t vrt49_start(const uint32_t *ids, size_t ids_n, uint32_t *table, size_t table_n,
+                     size_t *length);
 
 /* Whether a table is well made: 1 or 0. Nothing is refused. */
 uint32_t vrt49_well_made(const uint32_t *table, size_t table_n);
 
-/* Plays the packet at the front of the words on a table: TABLE, then 1 to 10 as in reading, STREAM. answer: size, type, stream, missing. */
-uint32_t vrt49_play(uint32_t *table, size_t table_n, const uint32_t *words, size_t words_n, uint32_t answer[4]);
+/* Plays the packet at the front of the words: TABLE, then 1 to 10 as in reading, STREAM. */
+uint32_t vrt49_play(uint32_t *table, size_t table_n, const uint32_t *words, size_t words_n,
+                    vrt49_heard *answer);
 
-/* Plays packets one after the other from word `from` on: TABLE. Five words of answers for each packet: number or 0, words gone on by, type,
-   stream, missing. It ends where the words end, the answers are full, or a packet is refused but for STREAM. packets: how many have an entry.
-   next: the place after them; of a packet whose refusal ends the run, its own. */
-uint32_t vrt49_play_run(uint32_t *table, size_t table_n, const uint32_t *words, size_t words_n, size_t from, uint32_t *answers,
-                        size_t answers_n, size_t *packets, size_t *next);
+/* Plays packets one after the other from word `from` on: TABLE. Each has an entry of five words, as
+   vrt49_entry names them; vrt49_play_entries takes them by name. The run ends where the words end,
+   the answers are full, or a packet is refused but for STREAM. packets: how many have an entry.
+   next: the place after the last of them; where a refusal ended the run, the place of the refused
+   packet. */
+uint32_t vrt49_play_run(uint32_t *table, size_t table_n, const uint32_t *words, size_t words_n,
+                        size_t from, uint32_t *answers, size_t answers_n, size_t *packets,
+                        size_t *next);
 
 /* ---- the page of a table */
 
@@ -105,21 +362,79 @@ uint32_t vrt49_play_run(uint32_t *table, size_t table_n, const uint32_t *words, 
 uint32_t vrt49_page_length(const uint32_t *table, size_t table_n, size_t *length);
 
 /* Saves a table's page at the front of page: TABLE, SIZE, ROOM. length: the page's. */
-uint32_t vrt49_save(const uint32_t *table, size_t table_n, uint32_t *page, size_t page_n, size_t *length);
+uint32_t vrt49_save(const uint32_t *table, size_t table_n, uint32_t *page, size_t page_n,
+                    size_t *length);
 
-/* Puts a page back, exactly one page, into a table: PAGE, ROOM. Words past the layout stay. length: the layout's words. */
-uint32_t vrt49_put_back(const uint32_t *page, size_t page_n, uint32_t *table, size_t table_n, size_t *length);
+/* Puts a page back, exactly one page, into a table: PAGE, ROOM. Words past the layout stay. length:
+   the layout's words. */
+uint32_t vrt49_put_back(const uint32_t *page, size_t page_n, uint32_t *table, size_t table_n,
+                        size_t *length);
 
 /* ---- readings for the panel */
 
-/* What the panel shows of a stream's field: TABLE, STREAM, VALUE. kind: 1 frequency, 2 level, 3 gain, 4 temperature, 5 other, 6 absent. hertz
-   and parts: a frequency's whole hertz and parts of 2^20, else 0. levels: the level or temperature and 0, or stages 1 and 2 of a gain, else
-   zeros. */
-uint32_t vrt49_reading(const uint32_t *table, size_t table_n, size_t stream, uint32_t bit, uint32_t *kind, uint32_t *parts, int64_t *hertz,
-                       float levels[2]);
+/* What the panel shows of a stream's field: TABLE, STREAM, VALUE. vrt49_shown says what each value
+   is; vrt49_show gives them in one. */
+uint32_t vrt49_reading(const uint32_t *table, size_t table_n, size_t stream, uint32_t bit,
+                       uint32_t *kind, uint32_t *parts, int64_t *hertz, float levels[2]);
 
-/* The held words of a stream's field, at the front of out: TABLE, STREAM, VALUE, ROOM. length: how many, 0 where the field is absent. */
-uint32_t vrt49_held_words(const uint32_t *table, size_t table_n, size_t stream, uint32_t bit, uint32_t *out, size_t room, size_t *length);
+/* The held words of a stream's field, at the front of out: TABLE, STREAM, VALUE, ROOM. length: how
+   many, 0 where the field is absent. */
+uint32_t vrt49_held_words(const uint32_t *table, size_t table_n, size_t stream, uint32_t bit,
+                          uint32_t *out, size_t room, size_t *length);
+
+/* ---- the same with names: each calls one of the above, or puts words together */
+
+/* The parts that write a packet again as it was read, with the body's words. */
+static inline vrt49_parts vrt49_parts_of(const vrt49_packet *packet)
+{
+    vrt49_parts parts;
+    parts.type = packet->type;
+    parts.has_class = packet->has_class;
+    parts.has_trailer = packet->has_trailer;
+    parts.tsm = packet->tsm;
+    parts.tsi = packet->tsi;
+    parts.tsf = packet->tsf;
+    parts.count = packet->count;
+    parts.identifier = packet->identifier;
+    parts.oui = packet->oui;
+    parts.information_class = packet->information_class;
+    parts.packet_class = packet->packet_class;
+    parts.seconds = packet->seconds;
+    parts.fraction_high = packet->fraction_high;
+    parts.fraction_low = packet->fraction_low;
+    parts.trailer = packet->trailer;
+    return parts;
+}
+
+/* A packet's fraction as one number. */
+static inline uint64_t vrt49_fraction(const vrt49_packet *packet)
+{
+    return (uint64_t)packet->fraction_high << 32 | packet->fraction_low;
+}
+
+/* vrt49_play_run with room for so many entries: TABLE. The pointer to the entries is handed over as
+   one to their first word (C99 6.7.2.1). */
+static inline uint32_t vrt49_play_entries(uint32_t *table, size_t table_n, const uint32_t *words,
+                                          size_t words_n, size_t from, vrt49_entry *entries,
+                                          size_t entries_n, size_t *packets, size_t *next)
+{
+    return vrt49_play_run(table, table_n, words, words_n, from, (uint32_t *)entries,
+                          VRT49_ENTRY_WORDS * entries_n, packets, next);
+}
+
+/* vrt49_reading into a struct: TABLE, STREAM, VALUE. */
+static inline uint32_t vrt49_show(const uint32_t *table, size_t table_n, size_t stream,
+                                  uint32_t bit, vrt49_shown *shown)
+{
+    return vrt49_reading(table, table_n, stream, bit, &shown->kind, &shown->parts, &shown->hertz,
+                         shown->levels);
+}
+
+/* The hertz of a frequency with its parts, rounded once, to a double. */
+static inline double vrt49_hertz(const vrt49_shown *shown)
+{
+    return (double)shown->hertz + shown->parts / 1048576.0;
+}
 
 #ifdef __cplusplus
 }

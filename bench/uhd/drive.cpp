@@ -65,17 +65,17 @@ int main(int argc, char **argv) {
         add(p.num_payload_words32);
         add(p.has_tlr ? p.tlr : 0);
 #else
-        uint32_t a[18];
+        vrt49_packet p;
         for (long k = 0; k < times; k++)
-            if (vrt49_read(w.data(), w.size(), a))
+            if (vrt49_read(w.data(), w.size(), &p))
                 return 1;
-        add(a[6]);
-        add(a[8]);
-        add(a[12]);
-        add((uint64_t)a[13] << 32 | a[14]);
-        add(a[15]);
-        add(a[16]);
-        add(a[17]);
+        add(p.count);
+        add(p.identifier);
+        add(p.seconds);
+        add(vrt49_fraction(&p));
+        add(p.body_at);
+        add(p.body_words);
+        add(p.trailer);
 #endif
     }
     std::printf("%016llx\n", (unsigned long long)sum);

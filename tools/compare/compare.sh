@@ -1,7 +1,8 @@
 #!/bin/sh
-# Holds libvrt49.a to the reference, to UHD and to tshark, vrtplay to its recordings, and tools/capture to known packets; ends at the
-# first difference.
-# It is what `make compare` runs. LIBRARY names a library that is made already, VRTPLAY a command that plays (recordings.sh, capture.py).
+# Holds the header to the source, libvrt49.a to the reference, to UHD and to tshark, vrtplay to its recordings, tools/capture to known packets, and the
+# examples to their output, over an installed copy; ends at the first difference.
+# It is what `make compare` runs. LIBRARY names a library that is made already, VRTPLAY a command that plays (recordings.sh, capture.py), PLAYER the file
+# of vrtplay that is installed for a try (tools/install).
 set -eu
 cd "$(dirname "$0")/../.."
 here=tools/compare
@@ -9,12 +10,14 @@ work=target/compare
 mkdir -p "$work"
 
 # what is needed from Debian
-needed='g++ libuhd-dev libboost-dev tshark python3-dpkt'
+needed='g++ libuhd-dev libboost-dev tshark python3-dpkt pkg-config'
 cc=gcc
+cxx=g++
 run=
 if [ "$(uname -m)" != x86_64 ]; then
-    needed="$needed gcc-x86-64-linux-gnu qemu-user"
+    needed="$needed g++-x86-64-linux-gnu libc6-dev-amd64-cross qemu-user"
     cc=x86_64-linux-gnu-gcc
+    cxx=x86_64-linux-gnu-g++
     run=qemu-x86_64
 fi
 tools/from_debian 'make compare' $needed
@@ -31,22 +34,34 @@ step() { # WHAT COMMAND ..: runs it; what it prints goes to the summary, or to t
     cat "$work/said" >>"$summary"
 }
 
-if [ -x tools/check_header ]; then
-    step 'header and source' tools/check_header
-fi
+# every call once, built as C and as C++: the same is printed
+every_call() {
+    $run "$work/survey" >"$work/survey.txt" || { cat "$work/survey.txt"; return 1; }
+    $run "$work/survey_cpp" | diff "$work/survey.txt" - && echo 'every call once, in C and in C++: as expected'
+}
+
+step 'header and source' tools/check_header
+step 'spoilt headers' python3 $here/test_header.py
 library=${LIBRARY:-target/staticlib/libvrt49.a}
 if [ -z "${LIBRARY:-}" ]; then
     echo 'library, proved ..'
     rt staticlib vrt49 >"$work/said" 2>&1 || { tail -20 "$work/said"; exit 1; }
 fi
 $cc -O2 -Wall -Wextra -static -Iinclude $here/drive.c "$library" -o "$work/drive"
+strict='-O2 -Wall -Wextra -Wshadow -pedantic -Werror'
+$cc -std=c99 $strict -static -Iinclude $here/survey.c "$library" -o "$work/survey"
+$cxx -x c++ -std=c++11 $strict -Iinclude -c $here/survey.c -o "$work/survey.o"
+$cc -static "$work/survey.o" "$library" -o "$work/survey_cpp"
 g++ -O1 -Wall -Wextra $here/uhd_pack.cpp -o "$work/uhd_pack" -luhd
 "$work/uhd_pack" >"$work/uhd_packets"
+step 'every call once' every_call
 step 'cases of every call, some minutes' python3 $here/cases.py -- $run "$work/drive"
 step 'packets of UHD' python3 $here/peers.py uhd "$work/uhd_packets" -- $run "$work/drive"
 step 'packets for tshark' python3 $here/peers.py tshark "$work" -- $run "$work/drive"
 step 'recordings' $here/recordings.sh
 step 'captures' python3 $here/capture.py tools/capture "$work/uhd_packets"
+step 'the examples over an installed copy' env LIBRARY="$library" tools/try_install
+step 'the examples over the recordings' python3 -B $here/examples.py target/try_install $run
 
 # each comparison must fail when drive.c spoils an answer
 spoilt() { # BEND COMMAND ..

@@ -1,0 +1,109 @@
+/* resume RECORDING SAVED PACKETS: plays so many packets of a recording, saves the table's page in a
+   file, and stops. Where the file is there, it first puts the page back, and goes on where the last
+   one stopped: the tuning and the counts are those of a play that was never stopped.
+   SAVED has big-endian words: the place in the recording, then the page. */
+#include <inttypes.h>
+#include <stdio.h>
+#include <stdlib.h>
+
+#include "vrt49.h"
+
+enum { WORDS = 1 << 20 };
+
+static uint32_t words[WORDS], table[VRT49_TABLE_WORDS(VRT49_STREAMS_MAX)];
+static uint32_t saved[1 + VRT49_PAGE_WORDS(VRT49_STREAMS_MAX)];
+
+/* The words of a file, at most so many; none where there is no such file. */
+static size_t read_file(const char *name, uint32_t *to, size_t most)
+{
+    FILE *file = fopen(name, "rb");
+    unsigned char b[4];
+    size_t n = 0;
+    while (file && n < most && fread(b, 1, 4, file) == 4)
+        to[n++] = (uint32_t)b[0] << 24 | (uint32_t)b[1] << 16 | (uint32_t)b[2] << 8 | b[3];
+    if (file)
+        fclose(file);
+    return n;
+}
+
+/* Writes a file beside the old one, and puts it in its place when it is whole. */
+static int write_file(const char *name, const uint32_t *from, size_t n)
+{
+    char beside[4096];
+    FILE *file;
+    size_t i;
+    int good = snprintf(beside, sizeof beside, "%s.new", name) < (int)sizeof beside;
+    file = good ? fopen(beside, "wb") : NULL;
+    if (!file)
+        return 0;
+    for (i = 0; i < n; i++) {
+        putc(from[i] >> 24 & 255, file);
+        putc(from[i] >> 16 & 255, file);
+        putc(from[i] >> 8 & 255, file);
+        putc(from[i] & 255, file);
+    }
+    good = !ferror(file);
+    return (fclose(file) == 0) & good && rename(beside, name) == 0;
+}
+
+/* A table to go on with, and the place: of the saved page, or fresh. */
+static uint32_t begin(const char *name, size_t n, size_t *layout, size_t *at)
+{
+    size_t length = read_file(name, saved, sizeof saved / sizeof saved[0]);
+    size_t room = sizeof table / sizeof table[0], streams = n ? words[0] : 0;
+    *at = length ? saved[0] : 1 + streams;
+    if (length)
+        return vrt49_put_back(saved + 1, length - 1, table, room, layout);
+    if (streams < n)
+        return vrt49_start(words + 1, streams, table, room, layout);
+    return VRT49_LIST;
+}
+
+/* Plays so many packets, or to the end; one of no declared stream is passed over. Only the last
+   entry of a run can have another refusal. */
+static uint32_t play(size_t n, size_t layout, size_t most, size_t *at)
+{
+    static vrt49_entry entries[64];
+    size_t packets;
+    uint32_t number;
+    while (most > 0 && *at < n) {
+        number = vrt49_play_entries(table, layout, words, n, *at, entries, most < 64 ? most : 64,
+                                    &packets, at);
+        if (number != VRT49_OK)
+            return number;
+        number = entries[packets - 1].number;
+        if (number != VRT49_OK && number != VRT49_STREAM)
+            return number;
+        most -= packets;
+    }
+    return VRT49_OK;
+}
+
+int main(int argc, char **argv)
+{
+    size_t n, at = 0, from, layout = 0, length = 0;
+    vrt49_shown shown;
+    uint32_t number;
+    if (argc != 4)
+        return 2;
+    n = read_file(argv[1], words, WORDS);
+    number = begin(argv[2], n, &layout, &at);
+    from = at;
+    if (number == VRT49_OK)
+        number = play(n, layout, strtoul(argv[3], NULL, 10), &at);
+    if (number == VRT49_OK)
+        number = vrt49_save(table, layout, saved + 1, sizeof saved / sizeof saved[0] - 1, &length);
+    if (number != VRT49_OK) {
+        fprintf(stderr, "at word %zu refused: %s\n", at, vrt49_name(number));
+        return 1;
+    }
+    saved[0] = (uint32_t)at;
+    if (!write_file(argv[2], saved, 1 + length))
+        return 1;
+    printf("words %zu to %zu, a page of %zu words", from, at, length);
+    if (vrt49_show(table, layout, 0, VRT49_BIT_RF_REFERENCE_FREQUENCY, &shown) == VRT49_OK &&
+        shown.kind == VRT49_KIND_FREQUENCY)
+        printf(", stream 0 at %.6f MHz", vrt49_hertz(&shown) / 1e6);
+    puts("");
+    return 0;
+}

@@ -1,0 +1,90 @@
+"""Holds the examples for C to the reference's text of each recording of samples/recordings: examples.py FOLDER [COMMAND ..]. FOLDER has them as
+tools/try_install leaves them, COMMAND runs them. `stream` must count what the text has, whether it takes 1, 7 or 65,535 words at a time;
+`tuning` must print a line for each Context packet; both must end with the text's refusal; and where there is none, `resume`, stopped after every few
+packets, must save the page of a play that was never stopped."""
+import glob
+import os
+import re
+import subprocess
+import sys
+import tempfile
+
+ROOT = os.path.dirname(os.path.dirname(os.path.dirname(os.path.abspath(__file__))))
+FOLDER, COMMAND = sys.argv[1], sys.argv[2:]
+LONGEST = 65536  # the bytes that vrtplay reads, and so what the text speaks of
+STREAM = 11
+
+
+def names():
+    with open(os.path.join(ROOT, 'include/vrt49.h'), encoding='utf-8') as file:
+        return {int(number): name for name, number in re.findall(r'^    VRT49_([A-Z]+) = (\d+),? ', file.read(), re.M)}
+
+
+NAMES = names()
+
+
+def run(name, *arguments, given=None):
+    with open(given or os.devnull, 'rb') as file:
+        done = subprocess.run([*COMMAND, f'{FOLDER}/{name}.c99_static', *arguments], stdin=file, capture_output=True, text=True)
+    return done.returncode, done.stdout, done.stderr
+
+
+def expected(text):
+    """Of a text: packets and missing of each stream, packets of no declared stream, Context packets, and the refusal that ends it, if one does."""
+    streams, contexts = {}, 0
+    for kind, stream, missing in re.findall(r'at \d+ type (\d) stream (\d+) missing (\d+)', text):
+        packets, lost = streams.get(int(stream), (0, 0))
+        streams[int(stream)] = packets + 1, lost + int(missing)
+        contexts += kind == '4'
+    refused = [(int(place), int(number)) for place, number in re.findall(r'at (\d+) refused (\d+)', text)]
+    ends = [one for one in refused if one[1] != STREAM]
+    return streams, len(refused) - len(ends), contexts, ends[0] if ends else None
+
+
+def counted(lines):
+    """What `stream` says of streams that had a packet, and of packets of no declared stream."""
+    found = re.findall(r'^stream (\d+), .*?: (\d+) packets, (\d+) missing', lines, re.M)
+    undeclared = re.findall(r'^of no declared stream: (\d+) packets', lines, re.M)
+    return {int(stream): (int(packets), int(missing)) for stream, packets, missing in found if packets != '0'}, int((undeclared or ['0'])[0])
+
+
+def page(recording, packets):
+    """What `resume` has saved at the end, stopped after so many packets each time."""
+    with tempfile.TemporaryDirectory() as folder:
+        saved, before = os.path.join(folder, 'saved'), None
+        while True:
+            status, _, _ = run('resume', recording, saved, str(packets))
+            with open(saved, 'rb') as file:
+                after = file.read()
+            if status != 0 or after == before:
+                return after
+            before = after
+
+
+def wrong(recording):
+    with open(recording[:-4] + '.txt', encoding='ascii') as file:
+        streams, undeclared, contexts, end = expected(file.read())
+    status = 1 if end else 0
+    for words in ('1', '7', '65535'):
+        says = f'refused: {NAMES[end[1]]}\n' if end else ''
+        have = run('stream', words, given=recording)
+        if (counted(have[1]), have[0], have[2]) != ((streams, undeclared), status, says):
+            yield f'stream {words}: {have}'
+    says = f'at word {end[0]} refused: {NAMES[end[1]]}\n' if end else ''
+    have = run('tuning', given=recording)
+    if (have[1].count('\n'), have[0], have[2]) != (contexts, status, says):
+        yield f'tuning: {have}'
+    if not end and page(recording, 3 + os.path.getsize(recording) // 256) != page(recording, LONGEST):
+        yield 'resume: another page'
+
+
+found = tried = 0
+for recording in sorted(glob.glob(os.path.join(ROOT, 'samples/recordings/*.vrt'))):
+    if os.path.getsize(recording) > LONGEST:
+        continue
+    tried += 1
+    for line in wrong(recording):
+        found += 1
+        print(f'{os.path.basename(recording)}: {line}')
+print(f'examples: {tried} recordings, {found or "no"} difference{"s" if found > 1 else ""}')
+sys.exit(1 if found else 0)

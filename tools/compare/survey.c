@@ -1,0 +1,169 @@
+/* Every call of libvrt49 once, by the header's names: a context packet and a data packet are read, one is written again, both are played on a
+   table of two streams, the table is saved and put back, the held fields are read for the panel, and samples are unpacked and packed again. It
+   prints what it does, and exits with 1 where a call answers what it should not. It is C99 and C++; tools/compare/compare.sh runs it. */
+#include <inttypes.h>
+#include <stdio.h>
+#include <stdlib.h>
+#include <string.h>
+
+#include "vrt49.h"
+
+#define ENTRIES(buffer) (sizeof(buffer) / sizeof((buffer)[0]))
+
+/* type 4 of identifier 7 at second 1794715200 and 2^32 + 5 picoseconds: bandwidth 20 MHz, level -1 dBm, sample rate 25 MHz */
+static const uint32_t context[] = {0x4065000B, 7, 1794715200, 1, 5, 0x21200000, 0x00001312, 0xD0000000, 0xFF80, 0x000017D7, 0x84000000};
+
+/* type 1 of identifier 7, with a trailer: three samples of 12 bits in two words */
+static const uint32_t data[] = {0x14030005, 7, 0xABCDEF12, 0x30000000, 0x40040000};
+
+static void expect(const char *call, uint32_t number, uint32_t wanted)
+{
+    if (number == wanted)
+        return;
+    printf("%s answers %" PRIu32 " (%s), not %" PRIu32 "\n", call, number, vrt49_name(number), wanted);
+    exit(1);
+}
+
+/* reads a packet, and prints its header's values and its body's place */
+static vrt49_packet read_packet(const uint32_t *words, size_t n)
+{
+    vrt49_packet packet;
+    expect("vrt49_read", vrt49_read(words, n, &packet), VRT49_OK);
+    printf("read: type %" PRIu32 ", count %" PRIu32 ", %" PRIu32 " words, identifier %" PRIu32 ", body at %" PRIu32 " of %" PRIu32 " words\n",
+           packet.type, packet.count, packet.size, packet.identifier, packet.body_at, packet.body_words);
+    return packet;
+}
+
+static void read_packets(void)
+{
+    vrt49_packet packet = read_packet(context, ENTRIES(context));
+    const uint32_t *body = context + packet.body_at;
+    vrt49_trailer trailer;
+    vrt49_place place;
+    expect("the header", packet.type == VRT49_TYPE_CONTEXT && packet.tsi == VRT49_TSI_UTC && packet.tsf == VRT49_TSF_PICOSECONDS, 1);
+    expect("the time", packet.seconds == 1794715200 && vrt49_fraction(&packet) == 4294967301u, 1);
+    expect("vrt49_check_body", vrt49_check_body(body, packet.body_words), VRT49_OK);
+    expect("vrt49_find", vrt49_find(body, packet.body_words, VRT49_BIT_LEVEL, &place), VRT49_OK);
+    printf("  %" PRIu32 " fields; the level at %zu of the body, %zu word\n", vrt49_field_count(body[0]), place.at, place.words);
+    expect("vrt49_find of an absent field", vrt49_find(body, packet.body_words, VRT49_BIT_GAIN, &place) + place.present, 0);
+    packet = read_packet(data, ENTRIES(data));
+    expect("vrt49_trailer_parts", vrt49_trailer_parts(packet.trailer, &trailer), VRT49_OK);
+    expect("the trailer", trailer.enables == VRT49_TRAILER_VALID_DATA && trailer.indicators == VRT49_TRAILER_VALID_DATA, 1);
+    printf("  trailer: valid data; E %" PRIu32 ", associated %" PRIu32 "\n", trailer.e, trailer.associated);
+    expect("vrt49_read of a packet that is cut", vrt49_read(data, 4, &packet), VRT49_CUT);
+    expect("vrt49_read of nothing", vrt49_read(NULL, 0, &packet), VRT49_EMPTY);
+    expect("the packet after refusals", packet.size == ENTRIES(data), 1);
+}
+
+/* writes the data packet again, from its parts and its body, behind two words that stay */
+static void write_packet(void)
+{
+    vrt49_packet packet = read_packet(data, ENTRIES(data));
+    vrt49_parts parts = vrt49_parts_of(&packet);
+    uint32_t out[8] = {1, 2};
+    size_t length;
+    expect("vrt49_trailer_word", vrt49_trailer_word(VRT49_TRAILER_VALID_DATA, VRT49_TRAILER_VALID_DATA, 0, 0, &parts.trailer), VRT49_OK);
+    expect("vrt49_write", vrt49_write(&parts, data + packet.body_at, packet.body_words, out, ENTRIES(out), 2, &length), VRT49_OK);
+    expect("the packet written", out[0] == 1 && out[1] == 2 && memcmp(out + 2, data, sizeof data) == 0, 1);
+    printf("written: %zu words, the same packet\n", length);
+    expect("vrt49_write past the end", vrt49_write(&parts, data + 2, 2, out, ENTRIES(out), 4, &length), VRT49_ROOM);
+    expect("the length after a refusal", length == 5, 1);
+}
+
+/* a run over packets that are cut: the last entry has the refusal, and the place is the refused packet's own */
+static void play_cut(uint32_t *table, size_t layout, const uint32_t *words, size_t words_n)
+{
+    vrt49_entry entries[4];
+    size_t packets, next;
+    expect("vrt49_play_entries", vrt49_play_entries(table, layout, words, words_n, 0, entries, ENTRIES(entries), &packets, &next), VRT49_OK);
+    expect("the entries", packets == 2 && entries[0].number == VRT49_OK && entries[0].size == 11, 1);
+    expect("the entry of a refusal", entries[1].number == VRT49_CUT && entries[1].size == 0 && next == 11, 1);
+    printf("cut: packet at %zu refused, %s\n", next, vrt49_name(entries[1].number));
+}
+
+/* plays both packets on a fresh table of streams 7 and 9, and gives the words of its layout */
+static size_t play_packets(uint32_t *table, size_t room)
+{
+    static const uint32_t ids[] = {7, 9}, twice[] = {7, 7};
+    uint32_t recording[ENTRIES(context) + ENTRIES(data)];
+    vrt49_entry entries[4];
+    vrt49_heard heard;
+    size_t layout, packets, next;
+    memcpy(recording, context, sizeof context);
+    memcpy(recording + ENTRIES(context), data, sizeof data);
+    expect("vrt49_start of one identifier twice", vrt49_start(twice, ENTRIES(twice), table, 0, &layout), VRT49_LIST);
+    expect("vrt49_start", vrt49_start(ids, ENTRIES(ids), table, room, &layout), VRT49_OK);
+    play_cut(table, layout, recording, ENTRIES(recording) - 1);
+    expect("vrt49_start", vrt49_start(ids, ENTRIES(ids), table, room, &layout), VRT49_OK);
+    expect("the layout", layout == VRT49_TABLE_WORDS(2), 1);
+    expect("vrt49_play_entries", vrt49_play_entries(table, layout, recording, ENTRIES(recording), 0, entries, ENTRIES(entries), &packets, &next), VRT49_OK);
+    expect("the second entry", entries[1].size == 5 && entries[1].type == VRT49_TYPE_DATA && entries[1].stream == 0 && entries[1].missing == 0, 1);
+    printf("played: %zu packets, %zu words, on a table of %zu words\n", packets, next, layout);
+    expect("vrt49_play", vrt49_play(table, layout, data, ENTRIES(data), &heard), VRT49_OK);
+    printf("played again: type %" PRIu32 " of stream %" PRIu32 ", missing %" PRIu32 "\n", heard.type, heard.stream, heard.missing);
+    return layout;
+}
+
+/* saves a table, puts the page back into another, and compares the two */
+static void save_table(const uint32_t *table, size_t layout)
+{
+    uint32_t page[VRT49_PAGE_WORDS(VRT49_STREAMS_MAX)], again[VRT49_TABLE_WORDS(VRT49_STREAMS_MAX)];
+    size_t length, words;
+    expect("vrt49_page_length", vrt49_page_length(table, layout, &length), 0);
+    expect("vrt49_save", vrt49_save(table, layout, page, length, &length), 0);
+    expect("vrt49_put_back", vrt49_put_back(page, length, again, ENTRIES(again), &words), 0);
+    expect("vrt49_well_made", vrt49_well_made(again, words), 1);
+    expect("the table put back", words == layout && memcmp(table, again, layout * sizeof again[0]) == 0, 1);
+    printf("saved: a page of %zu words; put back: the same table\n", length);
+}
+
+static void show_readings(const uint32_t *table, size_t layout)
+{
+    uint32_t held[VRT49_FIELD_WORDS];
+    vrt49_shown shown;
+    size_t length;
+    expect("vrt49_show", vrt49_show(table, layout, 0, VRT49_BIT_SAMPLE_RATE, &shown), VRT49_OK);
+    expect("the kind", shown.kind, VRT49_KIND_FREQUENCY);
+    printf("sample rate: %" PRId64 " hertz and %" PRIu32 " parts, %.3f MHz\n", shown.hertz, shown.parts, vrt49_hertz(&shown) / 1e6);
+    expect("vrt49_show", vrt49_show(table, layout, 0, VRT49_BIT_LEVEL, &shown), VRT49_OK);
+    expect("the kind", shown.kind, VRT49_KIND_LEVEL);
+    printf("level: %g dBm\n", (double)shown.levels[0]);
+    expect("vrt49_held_words", vrt49_held_words(table, layout, 0, VRT49_BIT_BANDWIDTH, held, ENTRIES(held), &length), VRT49_OK);
+    printf("bandwidth: %zu words held, 0x%08" PRIX32 " 0x%08" PRIX32 "\n", length, held[0], held[1]);
+    expect("vrt49_show of a stream that is not there", vrt49_show(table, layout, 2, VRT49_BIT_LEVEL, &shown), VRT49_STREAM);
+    expect("what was shown, after a refusal", shown.kind, VRT49_KIND_LEVEL);
+    expect("vrt49_show of an absent field", vrt49_show(table, layout, 1, VRT49_BIT_GAIN, &shown), VRT49_OK);
+    expect("the kind", shown.kind, VRT49_KIND_ABSENT);
+}
+
+/* unpacks three samples of 12 bits, link-efficient, and packs them again */
+static void unpack_samples(void)
+{
+    static const uint32_t format[] = {0x800002CB, 0};
+    uint64_t items[3];
+    uint8_t events[3];
+    uint16_t channels[3];
+    uint32_t words[2];
+    int64_t value;
+    size_t length;
+    expect("vrt49_unpack", vrt49_unpack(format[0], format[1], 3, data + 2, 2, items, 3, events, 3, channels, 3), 0);
+    expect("vrt49_signed", vrt49_signed(12, items[0], &value), 0);
+    printf("unpacked: %03" PRIX64 " %03" PRIX64 " %03" PRIX64 "; the first is %" PRId64 "\n", items[0], items[1], items[2], value);
+    expect("vrt49_words_needed", vrt49_words_needed(format[0], format[1], 3, &length), 0);
+    expect("the words needed", length == 2, 1);
+    expect("vrt49_pack", vrt49_pack(format[0], format[1], items, 3, events, 3, channels, 3, words, 2, &length), 0);
+    printf("packed: 0x%08" PRIX32 " 0x%08" PRIX32 "\n", words[0], words[1]);
+}
+
+int main(void)
+{
+    static uint32_t table[VRT49_TABLE_WORDS(VRT49_STREAMS_MAX)];
+    size_t layout;
+    read_packets();
+    write_packet();
+    layout = play_packets(table, ENTRIES(table));
+    save_table(table, layout);
+    show_readings(table, layout);
+    unpack_samples();
+    return 0;
+}
