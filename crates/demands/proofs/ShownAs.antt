@@ -16,7 +16,7 @@ use Rattle.panel.specs.Readings.{isFrequency, shownOf}
 use Rattle.panel.proofs.ValueLaws.{hertz-and-parts}
 use Rattle.panel.proofs.Quotient.{over-exact}
 use Rattle.panel.proofs.Pattern.{half-pattern, fields-fit}
-use Rattle.demands.specs.ShownAs.{Hertz, Exactly, frequencies, ShownAs}
+use Rattle.demands.specs.ShownAs.{Exactly, frequencies, ShownAs}
 
 near : (z : ℤ) → mag z < 2 ^ 15 → natAbs z < 2 ^ 24
 near (pos n) b = omega arith

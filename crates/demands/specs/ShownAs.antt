@@ -8,7 +8,7 @@ use Rattle.words.specs.Tests.{among}
 use Rattle.words.specs.Word.{bits, highFirst}
 use Rattle.words.specs.Signed.{twosComplement}
 use Rattle.panel.specs.Pattern.{signField, exponentField, fractionField}
-use Rattle.panel.specs.Readings.{Reading, frequency, level, gain, temperature, other, shownOf}
+use Rattle.panel.specs.Readings.{frequency, level, gain, temperature, other, shownOf}
 
 -- "Frequencies (29 to 25, 21) are whole hertz rounded down, and 0 to 1,048,575 parts of 2^20": both together are z units of 2 ^ -20 hertz
 pub record Hertz (z hertz : ℤ) (parts : ℕ) : Type 0 where
