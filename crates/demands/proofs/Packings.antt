@@ -188,7 +188,8 @@ module _ (first second : ℕ) (items events channels out : List ℕ) (p : PackPa
         (le-or-lt (wordsFor first (length items)) j);
     padding =
         word-padding (carriedBits first) (packingSize first) (wordsFor first (length items)) (length items)
-        (fieldsOf (packingOf first) items events channels) ws (carry-some first) (field-some first) (enough (carriedBits first) (packingSize first) (length items) (carry-some first))
+        (fieldsOf (packingOf first) items events channels) ws (carry-some first) (field-some first)
+        (enough (carriedBits first) (packingSize first) (length items) (carry-some first))
         (word-packed first second items events channels out p) past
         (λ k l. fields-blank (packingOf first) k items events channels l (omega (arith, p .events-fit .many)) (omega (arith, p .channels-fit .many)));
   }
