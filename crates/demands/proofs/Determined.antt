@@ -18,7 +18,7 @@ use Rattle.table.specs.Layout.{recordAt}
 use Rattle.table.proofs.RecordLaws.{record-identifier}
 use Rattle.table.proofs.WellLaws.{well-whole, well-record}
 use Rattle.page.specs.Layout.{tableFrom}
-use Rattle.page.proofs.PieceLaws.{part-join}
+use Rattle.words.proofs.PieceLaws.{part-join}
 use Rattle.page.proofs.LayoutLaws.{table-same, table-again}
 use Rattle.demands.specs.Trace.{Arrival, traceOf, own, lastCarried, countedTypes, countsOf, countRule}
 use Rattle.demands.specs.Right.{heldIn, Right, layoutOf, Determined}
