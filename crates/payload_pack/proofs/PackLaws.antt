@@ -1,12 +1,14 @@
 -- What is known where nothing of packing is refused, and the answers of `pack` by whether its checks pass.
-use Rattle.words.proofs.Kit.{_≡_, refl, sym, ap, _∙_, Bool, true, false, not, List, [], _∷_, ⊎-elim, ℕ, _+_, _-_, _*_, _^_, _≤_, _<_, arith, length, getD, ltb}
-use Rattle.words.proofs.Kit.{eqb, eq-eqb, ne-eqb, lt-ltb, le-ltb, ltb-false, eqb-true, not-false}
+use Rattle.words.proofs.Kit.{_≡_, refl, sym, ap, _∙_, true, false, not, List, [], _∷_, ⊎-elim, ℕ, _+_, _-_, _*_, _^_, _≤_, _<_, arith, length, getD, ltb}
+use Rattle.words.proofs.Kit.{eqb, ltb-false, eqb-true, not-false}
 use lib.ListN.{List·getD-eq-default}
 use lib.Arith.{lt-one}
+use Rattle.words.specs.Tests.{either}
+use Rattle.words.specs.declared.Length.{Length}
 use Rattle.words.specs.declared.Length.the-variants.{Accepted, Refused}
 use Rattle.words.specs.Outcome.{Outcome, refused, accepted, measured, Meets}
 use Rattle.words.specs.Refusals.{firstGiven}
-use Rattle.words.specs.Numbers.{FORMAT, COUNT, VALUE, ROOM}
+use Rattle.words.specs.Numbers.{COUNT, VALUE, ROOM}
 use Rattle.words.proofs.Cases.{le-or-lt}
 use Rattle.words.proofs.RefusalLaws.{first-passed, either-passed, first-refused, first-fine}
 use Rattle.words.proofs.MeetLaws.{meets-refused, meets-length}
@@ -15,11 +17,11 @@ use Rattle.bitstream.specs.Carried.{needed, wordOf}
 use Rattle.bitstream.specs.Filled.{filled}
 use Rattle.payload_format.specs.declared.inner.Packing.{Packing}
 use Rattle.payload_format.specs.Format.{formatBad, packingOf}
-use Rattle.payload_format.specs.Count.{countBad, wordsFor}
+use Rattle.payload_format.specs.Count.{countBad, wordsFor, neededOf}
 use Rattle.payload_format.specs.Field.{fieldsOf}
 use Rattle.payload_pack.specs.Pack.{packed, fitting, valueBad, packList, packOf}
 use Rattle.payload_pack.specs.inner.Packable.{packCheck, Packable, Fitting}
-use Rattle.payload_format.proofs.FormatLaws.{legal, count-few}
+use Rattle.payload_format.proofs.FormatLaws.{legal, count-few, needed-first, needed-words}
 use Rattle.payload_pack.proofs.FitLaws.{fitting-each}
 
 -- a list whose entries have no bits is 0 everywhere
@@ -45,52 +47,22 @@ untagged p n items events channels out z he hc =
         let c : getD channels k 0 ≡ 0 = all-zero (p .channel) n channels (omega arith) hc k in
         rw (e, c) (omega arith)
 
--- what `words_of` may be asked, where FORMAT and COUNT are not given
-pub words-asked : (first second n : ℕ) (p : Packing) (format count : Bool) → format ≡ formatBad first second → format ≡ false → count ≡ countBad first second n
-    → count ≡ false → p ≡ packingOf first → (0 < p .carry) × (p .carry ≤ 32) × (p .field ≤ 64) × (n ≤ 2097120)
-words-asked first second n p format count f x k y i =
-    let l = legal first second (sym f ∙ x) in
-    rw i (l .some, l .most, l .few, count-few first second n (sym k ∙ y))
-
--- ---- the answers of `pack_check`, by those of its tests
-module _ (first second : ℕ) (items events channels : List ℕ) (room : ℕ) (format : Bool) (f : format ≡ formatBad first second) where
-  pub format-refused : format ≡ true → refused FORMAT ≡ packCheck first second items events channels room
+-- ---- the answers of `pack_check`, by what `words_needed` says
+module _ (first second : ℕ) (items events channels : List ℕ) (room : ℕ) (answer : Length) (e : measured answer ≡ neededOf first second (length items)) where
+  pub needed-refused : (k : ℕ) → answer ≡ Refused k → refused k ≡ packCheck first second items events channels room
   unfolding packCheck
-  format-refused t = rw (← f, t)
+  needed-refused k r = rw (needed-first first second (length items), ← e, r)
 
-  module _ (legal-here : format ≡ false) (count : Bool) (k : count ≡ countBad first second (length items)) where
-    pub count-refused : count ≡ true → refused COUNT ≡ packCheck first second items events channels room
-    unfolding packCheck
-    count-refused t = rw (← f, legal-here, ← k, t)
-
-    module _ (many : count ≡ false) where
-      pub events-refused : (length events ≡ length items → ⊥) → refused COUNT ≡ packCheck first second items events channels room
-      unfolding packCheck
-      events-refused t = rw (← f, legal-here, ← k, many, ne-eqb (length events) (length items) t)
-
-      pub channels-refused : length events ≡ length items → (length channels ≡ length items → ⊥)
-          → refused COUNT ≡ packCheck first second items events channels room
-      unfolding packCheck
-      channels-refused e t = rw (← f, legal-here, ← k, many, eq-eqb (length events) (length items) e, ne-eqb (length channels) (length items) t)
-
-      module _ (e : length events ≡ length items) (c : length channels ≡ length items) (value : Bool) (v : value ≡ valueBad first items events channels) where
-        pub value-refused : value ≡ true → refused VALUE ≡ packCheck first second items events channels room
-        unfolding packCheck
-        value-refused t =
-            rw (← f, legal-here, ← k, many, eq-eqb (length events) (length items) e, eq-eqb (length channels) (length items) c, ← v, t)
-
-        module _ (fit : value ≡ false) (p : Packing) (i : p ≡ packingOf first) (m : ℕ) (w : m ≡ needed (p .carry) (p .field) (length items)) where
-          last : packCheck first second items events channels room ≡ firstGiven ((ROOM, ltb room m) ∷ []) (accepted tt)
-          unfolding packCheck wordsFor packingOf
-          last =
-              rw (← f, legal-here, ← k, many, eq-eqb (length events) (length items) e, eq-eqb (length channels) (length items) c, ← v, fit)
-              (rw (w, i))
-
-          pub room-refused : room < m → refused ROOM ≡ packCheck first second items events channels room
-          room-refused t = sym (last ∙ rw (lt-ltb room m t))
-
-          pub all-pass : m ≤ room → accepted tt ≡ packCheck first second items events channels room
-          all-pass t = sym (last ∙ rw (le-ltb room m t))
+  -- the lines of `packCheck` that are left
+  pub counted : (m : ℕ) → answer ≡ Accepted m → packCheck first second items events channels room
+      ≡ firstGiven
+      ((COUNT, either (not (eqb (length events) (length items))) (not (eqb (length channels) (length items))))
+      ∷ (VALUE, valueBad first items events channels)
+      ∷ (ROOM, ltb room m)
+      ∷ [])
+      (accepted tt)
+  unfolding packCheck
+  counted m r = let w = needed-words first second (length items) m (sym e ∙ ap measured r) in rw (needed-first first second (length items), ← e, r, w)
 
 -- ---- what `packCheck` lets through
 pub record PackPassed (first second : ℕ) (items events channels : List ℕ) (room : ℕ) : Type 0 where

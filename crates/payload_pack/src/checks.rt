@@ -4,11 +4,9 @@ ghost use Rattle.words.specs.Outcome.{checked};
 ghost use Rattle.payload_pack.specs.Pack.{fitting, valueBad};
 ghost use Rattle.payload_pack.specs.inner.AnyBits.{anyBits};
 ghost use Rattle.payload_pack.specs.inner.Packable.{packCheck};
-use payload_format::inner::count_bad;
-use payload_format::inner::format_bad;
-use payload_format::inner::packing_of;
-use payload_format::inner::words_of;
+use payload_format::words_needed;
 use words::Check;
+use words::Length;
 
 // The bits that any of the items has.
 fn join_items(items: &[u64]) -> u64
@@ -86,7 +84,7 @@ fn value_bad(first: u32, items: &[u64], events: &[u8], channels: &[u16]) -> bool
     !channels_fit(fields::inner::channel_size(first) as usize, channels)
 }
 
-// The first refusal of packing, by the inputs and how many places there are.
+// The first refusal of packing, by the inputs and how many places there are. FORMAT and COUNT of the items are asked as `words_needed` asks them.
 pub fn pack_check(
     first: u32,
     second: u32,
@@ -98,24 +96,23 @@ pub fn pack_check(
     ensures { λ r. ⌜ checked r ≡ packCheck first second (now (items .entry)) (now (events .entry)) (now (channels .entry)) room ⌝ }
 {
     let n = items.len();
-    if format_bad(first, second) {
-        return Check::Refused(words::FORMAT);
+    let needed = words_needed(first, second, n);
+    match needed {
+        Length::Refused(number) => Check::Refused(number),
+        Length::Accepted(m) => {
+            if events.len() != n {
+                return Check::Refused(words::COUNT);
+            }
+            if channels.len() != n {
+                return Check::Refused(words::COUNT);
+            }
+            if value_bad(first, items, events, channels) {
+                return Check::Refused(words::VALUE);
+            }
+            if room < m {
+                return Check::Refused(words::ROOM);
+            }
+            Check::Fine
+        }
     }
-    if count_bad(first, second, n) {
-        return Check::Refused(words::COUNT);
-    }
-    if events.len() != n {
-        return Check::Refused(words::COUNT);
-    }
-    if channels.len() != n {
-        return Check::Refused(words::COUNT);
-    }
-    if value_bad(first, items, events, channels) {
-        return Check::Refused(words::VALUE);
-    }
-    let p = packing_of(first);
-    if room < words_of(p.carry, p.field, n) {
-        return Check::Refused(words::ROOM);
-    }
-    Check::Fine
 }

@@ -1,23 +1,42 @@
--- `pack_check` meets its promise: each return is a line of the definition, by the answers of the tests before it.
-use Rattle.words.proofs.Kit.{needs}
-use Rattle.payload_pack.proofs.PackLaws.{format-refused, count-refused, events-refused, channels-refused, words-asked, value-refused}
-use Rattle.payload_pack.proofs.PackLaws.{room-refused, all-pass}
+-- `pack_check` meets its promise: a refusal of `words_needed` is its own (`needed-refused`), and else each return is a line that is left (`counted`).
+use Rattle.words.proofs.Kit.{_≡_, not, [], _∷_, length, eqb, ltb, needs}
+use Rattle.words.specs.Tests.{either}
+use Rattle.words.specs.Outcome.{accepted}
+use Rattle.words.specs.Refusals.{firstGiven}
+use Rattle.words.specs.Numbers.{COUNT, VALUE, ROOM}
+use Rattle.words.proofs.Cases.{cases}
+use Rattle.payload_pack.specs.Pack.{valueBad}
+use Rattle.payload_pack.specs.inner.Packable.{packCheck}
+use Rattle.payload_pack.proofs.PackLaws.{needed-refused, counted}
 use Rattle.payload_pack.proofs.checks.pack_check.Statement.{statement}
 use Rattle.payload_pack.proofs.checks.pack_check.Tie as tie
 
-words-of-requires : tie.Need-words-of-requires
-words-of-requires c κs =
-    let at-format-bad : tie.After-format-bad = search in
-    let at-if1 : tie.Else1 = search in
-    let at-count-bad : tie.After-count-bad = search in
-    let at-if2 : tie.Else2 = search in
-    words-asked _ _ _ _ _ _ (at-format-bad .format-bad .ensures) (at-if1 .if1 .left) (at-count-bad .count-bad .ensures) (at-if2 .if2 .left)
-    (c .packing-of .ensures)
+lines : (c : tie.After-known-told2) →
+    let start : tie.Start = search in
+    let a = start .args in
+    let n = length (a .items .now) in
+    packCheck (a .first) (a .second) (a .items .now) (a .events .now) (a .channels .now) (a .room)
+    ≡ firstGiven
+    ((COUNT, either (not (eqb (length (a .events .now)) n)) (not (eqb (length (a .channels .now)) n)))
+    ∷ (VALUE, valueBad (a .first) (a .items .now) (a .events .now) (a .channels .now))
+    ∷ (ROOM, ltb (a .room) (c .before .needed2 .given .0 .0))
+    ∷ [])
+    (accepted tt)
+lines c = search counted
+
+-- and the last of those, where COUNT and VALUE are not given
+last : (c : tie.Else3) →
+    let start : tie.Start = search in
+    let told : tie.After-known-told2 = search in
+    let a = start .args in
+    packCheck (a .first) (a .second) (a .items .now) (a .events .now) (a .channels .now) (a .room)
+    ≡ firstGiven ((ROOM, ltb (a .room) (told .before .needed2 .given .0 .0)) ∷ []) (accepted tt)
+last c = rw (lines (search), ← (c .before .value-bad .ensures), c .if3 .left) (search cases)
 
 pub pack-check-spec : {M : Type 1} → statement M
 pack-check-spec =
     tie.close
     (tie.spec
-    (λ c κs. search needs) (λ c. search format-refused) (λ c κs. search needs) (λ c. search count-refused) (λ c. search events-refused)
-    (λ c. search channels-refused) (λ c κs. search needs) (λ c. search value-refused) (λ c κs. search needs) words-of-requires
-    (λ c. search room-refused) (λ c. search all-pass))
+    (λ c κs. search needs) (λ c. search needs) (λ c. search needs) (λ c. rw (lines (search)) (search cases)) (λ c. rw (lines (search)) (search cases))
+    (λ c κs. search needs) (λ c. rw (lines (search), ← (c .before .value-bad .ensures), c .if3 .taken) (search cases))
+    (λ c. rw (last (search)) (search cases)) (λ c. search needed-refused) (λ c. rw (last (search)) (search cases)))
