@@ -27,7 +27,7 @@ in-order = record {
   save = λ t page. record { order = refl; first = refl };
   putBack = λ p t. record { order = refl; first = refl };
   reading = λ t stream bit. record { order = refl; first = refl };
-  pack = λ first second is es cs out. record { order = refl; first = refl };
+  pack = λ first second items events channels out. record { order = refl; first = refl };
   unpack = λ first second n ws b. record { order = refl; first = refl };
   signed = λ w x. record { order = refl; first = refl };
   checkBody = λ body. record { order = refl; first = refl };

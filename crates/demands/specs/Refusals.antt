@@ -59,9 +59,9 @@ pub record InOrder : Type 0 where
   pub reading : (t : List ℕ) (stream bit : ℕ)
       → Ordered (readingOf t stream bit) (TABLE ∷ STREAM ∷ VALUE ∷ []) (readingList t stream bit) (recordShows bit (recordAt stream t))
   -- "Pack: FORMAT, COUNT, VALUE, ROOM. Unpack: FORMAT, COUNT, ROOM. Signed value: FORMAT, VALUE."
-  pub pack : (first second : ℕ) (is es cs out : List ℕ) → let n = length is in
-      Ordered (packOf first second is es cs out) (FORMAT ∷ COUNT ∷ VALUE ∷ ROOM ∷ []) (packList first second is es cs (length out))
-      (record { says = wordsFor first n; leaves = packed (packingOf first) n is es cs out })
+  pub pack : (first second : ℕ) (items events channels out : List ℕ) → let n = length items in
+      Ordered (packOf first second items events channels out) (FORMAT ∷ COUNT ∷ VALUE ∷ ROOM ∷ []) (packList first second items events channels (length out))
+      (record { says = wordsFor first n; leaves = packed (packingOf first) n items events channels out })
   pub unpack : (first second n : ℕ) (ws : List ℕ) (b : Buffers)
       → Ordered (unpackOf first second n ws b) (FORMAT ∷ COUNT ∷ ROOM ∷ [])
       (unpackList first second n (length ws) (length (b .items)) (length (b .events)) (length (b .channels)))

@@ -42,7 +42,7 @@ abbrev pub wrote : ℕ → List ℕ → Outcome (Done ℕ (List ℕ))
 wrote n ws = accepted (record { says = n; leaves = ws })
 
 abbrev pub gave : ℕ → List ℕ → List ℕ → List ℕ → Outcome (Done ℕ Buffers)
-gave n is es cs = accepted (record { says = n; leaves = buffers is es cs })
+gave n items events channels = accepted (record { says = n; leaves = buffers items events channels })
 
 abbrev pub none3 : List ℕ
 none3 = 0 ∷ 0 ∷ 0 ∷ []

@@ -58,58 +58,58 @@ fn class_bad(free: bool, high: u32) -> bool
 }
 
 // CLASS and TIME.
-fn check_prologue(free: bool, w: u32, words: &[u32]) -> words::Check
-    requires { ⌜ (requiredOf w ≤ sizeOf w) × (sizeOf w ≤ length (now words)) ⌝ }
-    ensures { λ r. ⌜ checked r ≡ prologueChecks free w (now (words .entry)) ⌝ }
+fn check_prologue(free: bool, w: u32, ws: &[u32]) -> words::Check
+    requires { ⌜ (requiredOf w ≤ sizeOf w) × (sizeOf w ≤ length (now ws)) ⌝ }
+    ensures { λ r. ⌜ checked r ≡ prologueChecks free w (now (ws .entry)) ⌝ }
 {
-    if class_bad(free, crate::prologue::class_high(w, words)) {
+    if class_bad(free, crate::prologue::class_high(w, ws)) {
         return words::Check::Refused(words::CLASS);
     }
     if crate::header::tsf_of(w) != 2 {
         return words::Check::Fine;
     }
     let at = crate::header::fraction_at(w);
-    if fraction_over(words[at], words[at + 1]) {
+    if fraction_over(ws[at], ws[at + 1]) {
         return words::Check::Refused(words::TIME);
     }
     words::Check::Fine
 }
 
 // INDICATOR, LAYOUT and FIELD, of the body of a packet that fits.
-pub fn check_context(w: u32, words: &[u32]) -> words::Check
-    requires { ⌜ (requiredOf w ≤ sizeOf w) × (sizeOf w ≤ length (now words)) ⌝ }
-    ensures { λ r. ⌜ checked r ≡ bodyChecks (typeOf w) (bodyOf w (now (words .entry))) ⌝ }
+pub fn check_context(w: u32, ws: &[u32]) -> words::Check
+    requires { ⌜ (requiredOf w ≤ sizeOf w) × (sizeOf w ≤ length (now ws)) ⌝ }
+    ensures { λ r. ⌜ checked r ≡ bodyChecks (typeOf w) (bodyOf w (now (ws .entry))) ⌝ }
 {
     if crate::header::type_of(w) != 4 {
         return words::Check::Fine;
     }
     let at = crate::header::body_at(w);
     let end = crate::prologue::body_end(w);
-    fields::check_body(&words[at..end])
+    fields::check_body(&ws[at..end])
 }
 
 // TYPE, BITS, SHORT, CUT, CLASS and TIME, of words whose header is w.
-fn check_headed(free: bool, w: u32, words: &[u32]) -> words::Check
-    ensures { λ r. ⌜ checked r ≡ headedChecks free w (now (words .entry)) ⌝ }
+fn check_headed(free: bool, w: u32, ws: &[u32]) -> words::Check
+    ensures { λ r. ⌜ checked r ≡ headedChecks free w (now (ws .entry)) ⌝ }
 {
     let header = check_header(w);
     if let words::Check::Refused(n) = header {
         return words::Check::Refused(n);
     }
-    let size = check_size(w, words.len());
+    let size = check_size(w, ws.len());
     if let words::Check::Refused(n) = size {
         return words::Check::Refused(n);
     }
-    check_prologue(free, w, words)
+    check_prologue(free, w, ws)
 }
 
 // All that is refused before the body is looked at: EMPTY, and then TYPE, BITS, SHORT, CUT, CLASS and TIME; CLASS not where the top bits of the class's first
 // word are free.
-pub fn check_front(free: bool, words: &[u32]) -> words::Check
-    ensures { λ r. ⌜ checked r ≡ frontChecks free (now (words .entry)) ⌝ }
+pub fn check_front(free: bool, ws: &[u32]) -> words::Check
+    ensures { λ r. ⌜ checked r ≡ frontChecks free (now (ws .entry)) ⌝ }
 {
-    if words.len() == 0 {
+    if ws.len() == 0 {
         return words::Check::Refused(words::EMPTY);
     }
-    check_headed(free, words[0], words)
+    check_headed(free, ws[0], ws)
 }

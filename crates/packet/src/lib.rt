@@ -44,17 +44,17 @@ pub enum Parsed {
 }
 
 // The packet that stands at the front of the words, or the first of the refusals 1 to 10 that applies. Words beyond its size are ignored.
-pub fn read(words: &[u32]) -> Parsed
-    ensures { λ r. ⌜ parsedPaper r ≡ readOf (now (words .entry)) ⌝ }
+pub fn read(ws: &[u32]) -> Parsed
+    ensures { λ r. ⌜ parsedPaper r ≡ readOf (now (ws .entry)) ⌝ }
 {
-    let front = checks::check_front(false, words);
+    let front = checks::check_front(false, ws);
     if let words::Check::Refused(n) = front {
         return Parsed::Refused(n);
     }
-    let w = words[0];
-    let body = checks::check_context(w, words);
+    let w = ws[0];
+    let body = checks::check_context(w, ws);
     if let words::Check::Refused(n) = body {
         return Parsed::Refused(n);
     }
-    Parsed::Accepted(prologue::packet_of(w, words))
+    Parsed::Accepted(prologue::packet_of(w, ws))
 }

@@ -4,54 +4,50 @@ ghost use Rattle.packet.specs.Header.{reservedOf, sizeOf};
 ghost use Rattle.packet.specs.Parts.{streamed, requiredOf, bodyAt, bodyLength, wordIf, classHigh, classLow, fractionOf, partsOf, packetOf};
 
 // The word at a place, of a part that may be absent.
-fn word_if(present: bool, at: usize, words: &[u32]) -> u32
-    requires { ⌜ (present ≡ true → at < length (now words)) ⌝ }
-    ensures { λ r. ⌜ r ≡ wordIf present at (now (words .entry)) ⌝ }
+fn word_if(present: bool, at: usize, ws: &[u32]) -> u32
+    requires { ⌜ (present ≡ true → at < length (now ws)) ⌝ }
+    ensures { λ r. ⌜ r ≡ wordIf present at (now (ws .entry)) ⌝ }
 {
-    if present { words[at] } else { 0 }
+    if present { ws[at] } else { 0 }
 }
 
 // The stream identifier.
-pub fn identifier_of(w: u32, words: &[u32]) -> u32
-    requires { ⌜ (requiredOf w ≤ sizeOf w) × (sizeOf w ≤ length (now words)) ⌝ }
-    ensures { λ r. ⌜ r ≡ wordIf (streamed w) 1 (now (words .entry)) ⌝ }
+pub fn identifier_of(w: u32, ws: &[u32]) -> u32
+    requires { ⌜ (requiredOf w ≤ sizeOf w) × (sizeOf w ≤ length (now ws)) ⌝ }
+    ensures { λ r. ⌜ r ≡ wordIf (streamed w) 1 (now (ws .entry)) ⌝ }
 {
-    word_if(crate::header::has_stream(w), 1, words)
+    word_if(crate::header::has_stream(w), 1, ws)
 }
 
 // The class's first word.
-pub fn class_high(w: u32, words: &[u32]) -> u32
-    requires { ⌜ (requiredOf w ≤ sizeOf w) × (sizeOf w ≤ length (now words)) ⌝ }
-    ensures { λ r. ⌜ r ≡ classHigh w (now (words .entry)) ⌝ }
+pub fn class_high(w: u32, ws: &[u32]) -> u32
+    requires { ⌜ (requiredOf w ≤ sizeOf w) × (sizeOf w ≤ length (now ws)) ⌝ }
+    ensures { λ r. ⌜ r ≡ classHigh w (now (ws .entry)) ⌝ }
 {
-    word_if(
-        crate::header::has_class(w),
-        crate::header::class_at(w),
-        words,
-    )
+    word_if(crate::header::has_class(w), crate::header::class_at(w), ws)
 }
 
 // The class's second word.
-fn class_low(w: u32, words: &[u32]) -> u32
-    requires { ⌜ (requiredOf w ≤ sizeOf w) × (sizeOf w ≤ length (now words)) ⌝ }
-    ensures { λ r. ⌜ r ≡ classLow w (now (words .entry)) ⌝ }
+fn class_low(w: u32, ws: &[u32]) -> u32
+    requires { ⌜ (requiredOf w ≤ sizeOf w) × (sizeOf w ≤ length (now ws)) ⌝ }
+    ensures { λ r. ⌜ r ≡ classLow w (now (ws .entry)) ⌝ }
 {
     word_if(
         crate::header::has_class(w),
         crate::header::class_at(w) + 1,
-        words,
+        ws,
     )
 }
 
 // The fraction.
-fn fraction_of(w: u32, words: &[u32]) -> u64
-    requires { ⌜ (requiredOf w ≤ sizeOf w) × (sizeOf w ≤ length (now words)) ⌝ }
-    ensures { λ r. ⌜ r ≡ fractionOf w (now (words .entry)) ⌝ }
+fn fraction_of(w: u32, ws: &[u32]) -> u64
+    requires { ⌜ (requiredOf w ≤ sizeOf w) × (sizeOf w ≤ length (now ws)) ⌝ }
+    ensures { λ r. ⌜ r ≡ fractionOf w (now (ws .entry)) ⌝ }
 {
     let present = crate::header::has_fraction(w);
     let at = crate::header::fraction_at(w);
-    let high = word_if(present, at, words);
-    let low = word_if(present, at + 1, words);
+    let high = word_if(present, at, ws);
+    let low = word_if(present, at + 1, ws);
     words::inner::high_first(high, low)
 }
 
@@ -64,12 +60,12 @@ pub fn body_end(w: u32) -> usize
 }
 
 // All parts beside the body.
-fn parts_of(w: u32, words: &[u32]) -> crate::Parts
-    requires { ⌜ (requiredOf w ≤ sizeOf w) × (sizeOf w ≤ length (now words)) × (reservedOf w ≡ 0) ⌝ }
-    ensures { λ r. ⌜ r ≡ partsOf w (now (words .entry)) ⌝ }
+fn parts_of(w: u32, ws: &[u32]) -> crate::Parts
+    requires { ⌜ (requiredOf w ≤ sizeOf w) × (sizeOf w ≤ length (now ws)) × (reservedOf w ≡ 0) ⌝ }
+    ensures { λ r. ⌜ r ≡ partsOf w (now (ws .entry)) ⌝ }
 {
-    let high = class_high(w, words);
-    let low = class_low(w, words);
+    let high = class_high(w, ws);
+    let low = class_low(w, ws);
     crate::Parts {
         kind: crate::header::type_of(w),
         classed: crate::header::has_class(w),
@@ -78,30 +74,30 @@ fn parts_of(w: u32, words: &[u32]) -> crate::Parts
         tsi: crate::header::tsi_of(w),
         tsf: crate::header::tsf_of(w),
         count: crate::header::count_of(w),
-        identifier: identifier_of(w, words),
+        identifier: identifier_of(w, ws),
         oui: high % 0x100_0000,
         information: low / 0x1_0000 % 0x1_0000,
         code: low % 0x1_0000,
         seconds: word_if(
             crate::header::has_seconds(w),
             crate::header::seconds_at(w),
-            words,
+            ws,
         ),
-        fraction: fraction_of(w, words),
+        fraction: fraction_of(w, ws),
         trailer: word_if(
             crate::header::has_trailer(w),
             crate::header::size_of(w) - 1,
-            words,
+            ws,
         ),
     }
 }
 
 // The packet that was read.
-pub fn packet_of(w: u32, words: &[u32]) -> crate::Packet
-    requires { ⌜ (requiredOf w ≤ sizeOf w) × (sizeOf w ≤ length (now words)) × (reservedOf w ≡ 0) ⌝ }
-    ensures { λ r. ⌜ r ≡ packetOf w (now (words .entry)) ⌝ }
+pub fn packet_of(w: u32, ws: &[u32]) -> crate::Packet
+    requires { ⌜ (requiredOf w ≤ sizeOf w) × (sizeOf w ≤ length (now ws)) × (reservedOf w ≡ 0) ⌝ }
+    ensures { λ r. ⌜ r ≡ packetOf w (now (ws .entry)) ⌝ }
 {
-    let parts = parts_of(w, words);
+    let parts = parts_of(w, ws);
     let place = crate::header::body_at(w);
     crate::Packet {
         parts,

@@ -6,10 +6,10 @@ mod showing;
 use words::Length;
 
 // A page to be put back: the answer, the table, and the page that is saved of it again.
-fn put_case(words: &[u32], table: &mut [u32], page: &mut [u32]) {
+fn put_case(ws: &[u32], table: &mut [u32], page: &mut [u32]) {
     lines::inner::pattern(table);
     lines::inner::pattern(page);
-    match page::put_back(words, table) {
+    match page::put_back(ws, table) {
         Length::Accepted(length) => {
             lines::inner::named(b"put", length as u64);
             showing::end_line();
@@ -28,16 +28,16 @@ fn put_case(words: &[u32], table: &mut [u32], page: &mut [u32]) {
 }
 
 // A table to be saved: the answer, the buffer, and the page's length.
-fn save_case(words: &[u32], page: &mut [u32]) {
+fn save_case(ws: &[u32], page: &mut [u32]) {
     lines::inner::pattern(page);
-    match page::save(words, page) {
+    match page::save(ws, page) {
         Length::Accepted(length) => lines::inner::named(b"saved", length as u64),
         Length::Refused(n) => lines::inner::named(b"refused", n as u64),
     }
     showing::end_line();
     showing::show_words(b"page", page);
     lines::inner::text(b" ");
-    match page::page_length(words) {
+    match page::page_length(ws) {
         Length::Accepted(length) => lines::inner::named(b"length", length as u64),
         Length::Refused(n) => lines::inner::named(b"length refused", n as u64),
     }
@@ -45,31 +45,31 @@ fn save_case(words: &[u32], page: &mut [u32]) {
 }
 
 // The room and the words of a page to be put back.
-fn read_put(words: &mut [u32], table: &mut [u32], page: &mut [u32]) {
+fn read_put(ws: &mut [u32], table: &mut [u32], page: &mut [u32]) {
     let room = lines::inner::word() as usize;
     let n = lines::inner::word() as usize;
-    if words.len() < n {
+    if ws.len() < n {
         return;
     }
     if table.len() < room {
         return;
     }
-    lines::inner::fill(&mut words[0..n]);
-    put_case(&words[0..n], &mut table[0..room], page);
+    lines::inner::fill(&mut ws[0..n]);
+    put_case(&ws[0..n], &mut table[0..room], page);
 }
 
 // The room and the words of a table to be saved.
-fn read_save(words: &mut [u32], page: &mut [u32]) {
+fn read_save(ws: &mut [u32], page: &mut [u32]) {
     let room = lines::inner::word() as usize;
     let n = lines::inner::word() as usize;
-    if words.len() < n {
+    if ws.len() < n {
         return;
     }
     if page.len() < room {
         return;
     }
-    lines::inner::fill(&mut words[0..n]);
-    save_case(&words[0..n], &mut page[0..room]);
+    lines::inner::fill(&mut ws[0..n]);
+    save_case(&ws[0..n], &mut page[0..room]);
 }
 
 // The case of a word: 1 a recording, 2 a page to be put back, 3 a table to be saved. Pages are saved into 2,882 words but in a case of saving.
@@ -79,20 +79,20 @@ fn asked(
     table: &mut [u32],
     second: &mut [u32],
     page: &mut [u32],
-    words: &mut [u32],
+    ws: &mut [u32],
 ) {
     if page.len() < 2882 {
         return;
     }
     if kind == 1 {
-        resuming::recording(ids, table, &mut page[0..2882], second, words);
+        resuming::recording(ids, table, &mut page[0..2882], second, ws);
         return;
     }
     if kind == 2 {
-        read_put(words, table, &mut page[0..2882]);
+        read_put(ws, table, &mut page[0..2882]);
         return;
     }
-    read_save(words, page);
+    read_save(ws, page);
 }
 
 // Case k; whether there was one.
@@ -102,14 +102,14 @@ fn one_case(
     table: &mut [u32],
     second: &mut [u32],
     page: &mut [u32],
-    words: &mut [u32],
+    ws: &mut [u32],
 ) -> bool {
     let next = lines::inner::next_word();
     let lines::inner::Input::Word(kind) = next else {
         return false;
     };
     lines::inner::number(k);
-    asked(kind, ids, table, second, page, words);
+    asked(kind, ids, table, second, page, ws);
     true
 }
 
@@ -124,10 +124,10 @@ fn main() {
     let table: &mut [u32] = &mut table_space;
     let second: &mut [u32] = &mut second_space;
     let page: &mut [u32] = &mut page_space;
-    let words: &mut [u32] = &mut word_space;
+    let ws: &mut [u32] = &mut word_space;
     let mut k: u64 = 0;
     while k < 0xFFFF_FFFF {
-        if one_case(k, ids, table, second, page, words) {
+        if one_case(k, ids, table, second, page, ws) {
             k += 1;
         } else {
             return;

@@ -27,17 +27,17 @@ fn fold_answer(y: u32, answer: Played) -> u32 {
 }
 
 // Plays the packet where the walk stands: one word n, and n words.
-fn play_next(table: &mut [u32], words: &[u32], walk: Walk) -> Walk {
+fn play_next(table: &mut [u32], ws: &[u32], walk: Walk) -> Walk {
     let at = walk.at;
-    if words.len() <= at {
+    if ws.len() <= at {
         return walk;
     }
     let from = at + 1;
-    let end = from + words::inner::word_at(words, at) as usize;
-    if words.len() < end {
+    let end = from + words::inner::word_at(ws, at) as usize;
+    if ws.len() < end {
         return walk;
     }
-    let answer = play::play(table, &words[from..end]);
+    let answer = play::play(table, &ws[from..end]);
     Walk {
         at: end,
         answers: fold_answer(walk.answers, answer),
@@ -45,22 +45,22 @@ fn play_next(table: &mut [u32], words: &[u32], walk: Walk) -> Walk {
 }
 
 // Plays some packets, from where the walk stands on.
-fn play_part(table: &mut [u32], words: &[u32], from: Walk, packets: u32) -> Walk {
+fn play_part(table: &mut [u32], ws: &[u32], from: Walk, packets: u32) -> Walk {
     let mut walk = from;
     let mut j = 0;
     while j < packets {
-        walk = play_next(table, words, walk);
+        walk = play_next(table, ws, walk);
         j += 1;
     }
     walk
 }
 
 // Puts the page back into the second table, and plays the packets that are left.
-fn resume(page: &[u32], table: &mut [u32], words: &[u32], walk: Walk, packets: u32) {
+fn resume(page: &[u32], table: &mut [u32], ws: &[u32], walk: Walk, packets: u32) {
     match page::put_back(page, table) {
         Length::Accepted(length) => {
             lines::inner::named(b"put", length as u64);
-            let end = play_part(table, words, walk, packets);
+            let end = play_part(table, ws, walk, packets);
             lines::inner::named(b"answers", end.answers as u64);
             crate::showing::show_table(length, table);
         }
@@ -69,14 +69,7 @@ fn resume(page: &[u32], table: &mut [u32], words: &[u32], walk: Walk, packets: u
 }
 
 // Saves the first table, puts its page back into the second, and plays the packets that are left.
-fn stop(
-    first: &[u32],
-    page: &mut [u32],
-    second: &mut [u32],
-    words: &[u32],
-    walk: Walk,
-    packets: u32,
-) {
+fn stop(first: &[u32], page: &mut [u32], second: &mut [u32], ws: &[u32], walk: Walk, packets: u32) {
     let answer = page::save(first, page);
     crate::showing::show_saved(answer, page);
     let Length::Accepted(length) = answer else {
@@ -85,7 +78,7 @@ fn stop(
     if page.len() < length {
         return;
     }
-    resume(&page[0..length], second, words, walk, packets);
+    resume(&page[0..length], second, ws, walk, packets);
 }
 
 // Plays the packets before a cut on the first table, and stops there.
@@ -93,7 +86,7 @@ fn play_cut(
     first: &mut [u32],
     page: &mut [u32],
     second: &mut [u32],
-    words: &[u32],
+    ws: &[u32],
     cut: u32,
     packets: u32,
 ) {
@@ -101,8 +94,8 @@ fn play_cut(
         return;
     }
     let start = Walk { at: 0, answers: 0 };
-    let walk = play_part(first, words, start, cut);
-    stop(first, page, second, words, walk, packets - cut);
+    let walk = play_part(first, ws, start, cut);
+    stop(first, page, second, ws, walk, packets - cut);
 }
 
 // The line of a cut.
@@ -111,7 +104,7 @@ fn one_cut(
     first: &mut [u32],
     page: &mut [u32],
     second: &mut [u32],
-    words: &[u32],
+    ws: &[u32],
     packets: u32,
 ) {
     let cut = lines::inner::word();
@@ -121,7 +114,7 @@ fn one_cut(
     lines::inner::pattern(page);
     lines::inner::pattern(second);
     table::start(ids, first);
-    play_cut(first, page, second, words, cut, packets);
+    play_cut(first, page, second, ws, cut, packets);
     crate::showing::end_line();
 }
 
@@ -131,13 +124,13 @@ fn all_cuts(
     first: &mut [u32],
     page: &mut [u32],
     second: &mut [u32],
-    words: &[u32],
+    ws: &[u32],
     packets: u32,
 ) {
     let cuts = lines::inner::word();
     let mut c = 0;
     while c < cuts {
-        one_cut(ids, first, page, second, words, packets);
+        one_cut(ids, first, page, second, ws, packets);
         c += 1;
     }
 }
@@ -148,15 +141,15 @@ fn read_packets(
     first: &mut [u32],
     page: &mut [u32],
     second: &mut [u32],
-    words: &mut [u32],
+    ws: &mut [u32],
 ) {
     let packets = lines::inner::word();
     let n = lines::inner::word() as usize;
-    if words.len() < n {
+    if ws.len() < n {
         return;
     }
-    lines::inner::fill(&mut words[0..n]);
-    all_cuts(ids, first, page, second, &words[0..n], packets);
+    lines::inner::fill(&mut ws[0..n]);
+    all_cuts(ids, first, page, second, &ws[0..n], packets);
 }
 
 // The identifiers of a recording, its packets, and its cuts.
@@ -165,14 +158,14 @@ fn read_list(
     first: &mut [u32],
     page: &mut [u32],
     second: &mut [u32],
-    words: &mut [u32],
+    ws: &mut [u32],
 ) {
     let n = lines::inner::word() as usize;
     if ids.len() < n {
         return;
     }
     lines::inner::fill(&mut ids[0..n]);
-    read_packets(&ids[0..n], first, page, second, words);
+    read_packets(&ids[0..n], first, page, second, ws);
 }
 
 // A recording: the rooms of the two tables, its identifiers, its packets, and its cuts.
@@ -181,7 +174,7 @@ pub fn recording(
     first: &mut [u32],
     page: &mut [u32],
     second: &mut [u32],
-    words: &mut [u32],
+    ws: &mut [u32],
 ) {
     lines::inner::text(b" recording\n");
     let room = lines::inner::word() as usize;
@@ -192,5 +185,5 @@ pub fn recording(
     if second.len() < other {
         return;
     }
-    read_list(ids, &mut first[0..room], page, &mut second[0..other], words);
+    read_list(ids, &mut first[0..room], page, &mut second[0..other], ws);
 }

@@ -7,14 +7,14 @@ pub fn end_line() {
 }
 
 // The line of a buffer: all its words where they are at most 200, and else their check number.
-pub fn show_words(name: &[u8], words: &[u32]) {
+pub fn show_words(name: &[u8], ws: &[u32]) {
     lines::inner::text(b"  ");
-    if words.len() <= 200 {
+    if ws.len() <= 200 {
         lines::inner::text(name);
-        lines::inner::list(words);
+        lines::inner::list(ws);
     } else {
         lines::inner::text(b"fold ");
-        lines::inner::number(lines::inner::fold_of(words) as u64);
+        lines::inner::number(lines::inner::fold_of(ws) as u64);
     }
     end_line();
 }

@@ -30,7 +30,7 @@ fn unpack_case(k: u64) {
     let room_events = count();
     let room_channels = count();
     let m = count();
-    let words = read_words(m);
+    let ws = read_words(m);
     let mut items = blank_items();
     let mut events = blank_events();
     let mut channels = blank_channels();
@@ -38,7 +38,7 @@ fn unpack_case(k: u64) {
         first,
         second,
         n,
-        &words[..m],
+        &ws[..m],
         &mut items[..room_items],
         &mut events[..room_events],
         &mut channels[..room_channels],
@@ -98,7 +98,7 @@ fn needed_case(k: u64) {
     let n = lines::inner::word() as usize;
     let r = payload_format::words_needed(first, second, n);
     match r {
-        Length::Accepted(w) => print_accepted(k, b" words ", w as u64),
+        Length::Accepted(w) => print_accepted(k, b" ws ", w as u64),
         Length::Refused(e) => print_refused(k, e),
     }
 }

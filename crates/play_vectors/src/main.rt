@@ -57,20 +57,20 @@ fn store(table: &mut [u32], stores: u32) {
 }
 
 // Plays the next packet of the input.
-fn play_next(j: u64, table: &mut [u32], words: &mut [u32]) {
+fn play_next(j: u64, table: &mut [u32], ws: &mut [u32]) {
     let n = lines::inner::word() as usize;
-    if words.len() < n {
+    if ws.len() < n {
         return;
     }
-    lines::inner::fill(&mut words[0..n]);
-    show_played(j, play::play(table, &words[0..n]));
+    lines::inner::fill(&mut ws[0..n]);
+    show_played(j, play::play(table, &ws[0..n]));
 }
 
 // Plays the packets of a recording.
-fn play_all(table: &mut [u32], words: &mut [u32], packets: u32) {
+fn play_all(table: &mut [u32], ws: &mut [u32], packets: u32) {
     let mut j = 0;
     while j < packets {
-        play_next(j as u64, table, words);
+        play_next(j as u64, table, ws);
         j += 1;
     }
 }
@@ -94,11 +94,11 @@ fn skip_packets(packets: u32) {
 }
 
 // A recording whose table was started: stores, packets, and the table afterwards.
-fn play_recording(length: usize, table: &mut [u32], words: &mut [u32]) {
+fn play_recording(length: usize, table: &mut [u32], ws: &mut [u32]) {
     lines::inner::named(b"started", length as u64);
     lines::inner::text(b"\n");
     store(table, lines::inner::word());
-    play_all(table, words, lines::inner::word());
+    play_all(table, ws, lines::inner::word());
     show_table(table, length);
     show_past(table, length);
 }
@@ -116,7 +116,7 @@ fn pass_over(n: u32, table: &[u32]) {
 }
 
 // Starts a table for the next identifiers of the input, and plays the recording.
-fn recording(table: &mut [u32], ids: &mut [u32], words: &mut [u32]) {
+fn recording(table: &mut [u32], ids: &mut [u32], ws: &mut [u32]) {
     let n = lines::inner::word() as usize;
     if ids.len() < n {
         return;
@@ -124,13 +124,13 @@ fn recording(table: &mut [u32], ids: &mut [u32], words: &mut [u32]) {
     lines::inner::fill(&mut ids[0..n]);
     lines::inner::pattern(table);
     match table::start(&ids[0..n], table) {
-        Length::Accepted(length) => play_recording(length, table, words),
+        Length::Accepted(length) => play_recording(length, table, ws),
         Length::Refused(number) => pass_over(number, table),
     }
 }
 
 // Plays recording k; whether there was one.
-fn one_case(k: u64, table: &mut [u32], ids: &mut [u32], words: &mut [u32]) -> bool {
+fn one_case(k: u64, table: &mut [u32], ids: &mut [u32], ws: &mut [u32]) -> bool {
     let next = lines::inner::next_word();
     let lines::inner::Input::Word(w) = next else {
         return false;
@@ -140,7 +140,7 @@ fn one_case(k: u64, table: &mut [u32], ids: &mut [u32], words: &mut [u32]) -> bo
         return false;
     }
     lines::inner::number(k);
-    recording(&mut table[0..room], ids, words);
+    recording(&mut table[0..room], ids, ws);
     true
 }
 
@@ -151,10 +151,10 @@ fn main() {
     let mut word_space = [0u32; 4096];
     let table: &mut [u32] = &mut table_space;
     let ids: &mut [u32] = &mut id_space;
-    let words: &mut [u32] = &mut word_space;
+    let ws: &mut [u32] = &mut word_space;
     let mut k: u64 = 0;
     while k < 0xFFFF_FFFF {
-        if one_case(k, table, ids, words) {
+        if one_case(k, table, ids, ws) {
             k += 1;
         } else {
             return;

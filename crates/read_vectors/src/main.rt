@@ -12,7 +12,7 @@ fn show_field(body: &[u32], bit: u32) {
     lines::inner::text(b"  field ");
     lines::inner::number(bit as u64);
     lines::inner::named(b"at", at as u64);
-    lines::inner::named(b"words", n as u64);
+    lines::inner::named(b"ws", n as u64);
     lines::inner::text(b"\n");
 }
 
@@ -26,24 +26,24 @@ fn show_fields(body: &[u32]) {
 }
 
 // The lines of an accepted packet.
-fn show_packet(p: Packet, words: &[u32])
-    requires { ⌜ p .place + p .length ≤ length (now words) ⌝ }
+fn show_packet(p: Packet, ws: &[u32])
+    requires { ⌜ p .place + p .length ≤ length (now ws) ⌝ }
 {
     lines::inner::show_packet(p);
     let parts = p.parts;
     let body = p.place;
     let end = body + p.length;
     if parts.kind == 4 {
-        show_fields(&words[body..end]);
+        show_fields(&ws[body..end]);
     }
 }
 
 // The lines of case k.
-fn show(k: u64, words: &[u32]) {
+fn show(k: u64, ws: &[u32]) {
     lines::inner::number(k);
-    let answer = packet::read(words);
+    let answer = packet::read(ws);
     match answer {
-        Parsed::Accepted(p) => show_packet(p, words),
+        Parsed::Accepted(p) => show_packet(p, ws),
         Parsed::Refused(n) => {
             lines::inner::named(b"refused", n as u64);
             lines::inner::text(b"\n");

@@ -6,13 +6,13 @@ use play::Played;
 use words::Length;
 
 // The words of bytes, four for each.
-fn words_of(words: &mut [u32], bytes: &[u8])
-    requires { ⌜ 4 * length (now words) ≤ length (now bytes) ⌝ }
+fn words_of(ws: &mut [u32], bytes: &[u8])
+    requires { ⌜ 4 * length (now ws) ≤ length (now bytes) ⌝ }
 {
     let mut i = 0;
-    while i < words.len() {
+    while i < ws.len() {
         let at = 4 * i;
-        words[i] = lines::inner::big_endian(bytes[at], bytes[at + 1], bytes[at + 2], bytes[at + 3]);
+        ws[i] = lines::inner::big_endian(bytes[at], bytes[at + 1], bytes[at + 2], bytes[at + 3]);
         i += 1;
     }
 }
@@ -52,12 +52,12 @@ fn show_end(at: usize, tail: usize) {
 }
 
 // Walks the packets from a place on, on a table that is well made. Gives the place where the walk stops.
-fn walk(table: &mut [u32], words: &[u32], from: usize) -> usize
+fn walk(table: &mut [u32], ws: &[u32], from: usize) -> usize
     requires { ⌜ wellMade (now table) ≡ true ⌝ }
 {
     let mut at = from;
-    while at < words.len() {
-        let s = play::inner::step(table, words, at);
+    while at < ws.len() {
+        let s = play::inner::step(table, ws, at);
         let answer = s.answer;
         show_played(at, answer);
         at = s.next;
@@ -75,26 +75,26 @@ fn refuse_list() -> usize {
 }
 
 // Starts a table for the S identifiers behind word 0, and walks the packets after them. Gives the place where the walk stops.
-fn play_packets(table: &mut [u32], words: &[u32], s: u32) -> usize {
+fn play_packets(table: &mut [u32], ws: &[u32], s: u32) -> usize {
     let streams = s as usize;
-    if words.len() <= streams {
+    if ws.len() <= streams {
         return refuse_list();
     }
     let first = 1 + streams;
-    match table::start(&words[1..first], table) {
-        Length::Accepted(_) => walk(table, words, first),
+    match table::start(&ws[1..first], table) {
+        Length::Accepted(_) => walk(table, ws, first),
         Length::Refused(_) => refuse_list(),
     }
 }
 
 // A recording: S, S identifiers, packets.
-fn play_words(words: &[u32]) -> usize {
-    if words.len() == 0 {
+fn play_words(ws: &[u32]) -> usize {
+    if ws.len() == 0 {
         return refuse_list();
     }
     let mut space = [0u32; 2817];
     let table: &mut [u32] = &mut space;
-    play_packets(table, words, words[0])
+    play_packets(table, ws, ws[0])
 }
 
 // Reads up to 65,536 bytes, plays them, and writes where it stopped.
@@ -102,11 +102,11 @@ fn main() {
     let mut byte_space = [0u8; 65536];
     let bytes: &mut [u8] = &mut byte_space;
     let mut word_space = [0u32; 16384];
-    let words: &mut [u32] = &mut word_space;
+    let ws: &mut [u32] = &mut word_space;
     let n = io::read_full(STDIN_FILENO, bytes);
     let whole = n / 4;
-    words_of(&mut words[0..whole], bytes);
-    let recording: &[u32] = words;
+    words_of(&mut ws[0..whole], bytes);
+    let recording: &[u32] = ws;
     let end = play_words(&recording[0..whole]);
     show_end(end, n % 4);
 }

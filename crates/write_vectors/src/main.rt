@@ -6,13 +6,13 @@ use packet_trailer::TrailerWord;
 use words::Length;
 
 // The line of a buffer: its words where they are few, and else their sum.
-fn show_buffer(words: &[u32]) {
-    if words.len() <= 300 {
-        lines::inner::text(b"  words");
-        lines::inner::list(words);
+fn show_buffer(ws: &[u32]) {
+    if ws.len() <= 300 {
+        lines::inner::text(b"  ws");
+        lines::inner::list(ws);
     } else {
         lines::inner::text(b"  sum ");
-        lines::inner::number(lines::inner::sum_of(words) as u64);
+        lines::inner::number(lines::inner::sum_of(ws) as u64);
     }
     lines::inner::text(b"\n");
 }
@@ -77,11 +77,11 @@ fn write(parts: Parts, body: &[u32], out: &mut [u32], at: usize) -> bool {
 }
 
 // Shows the packet at a place of a buffer.
-fn show_again(words: &[u32], at: usize) {
-    if words.len() < at {
+fn show_again(ws: &[u32], at: usize) {
+    if ws.len() < at {
         return;
     }
-    let answer = packet::read(&words[at..]);
+    let answer = packet::read(&ws[at..]);
     if let Parsed::Accepted(p) = answer {
         lines::inner::text(b" ");
         lines::inner::show_packet(p);
@@ -105,7 +105,7 @@ fn write_case(body: &mut [u32], out: &mut [u32]) {
 }
 
 // A packet that was read, written again at a place of a buffer and read again.
-fn write_again(answer: Parsed, words: &[u32], out: &mut [u32], at: usize) {
+fn write_again(answer: Parsed, ws: &[u32], out: &mut [u32], at: usize) {
     match answer {
         Parsed::Refused(n) => {
             lines::inner::named(b"refused", n as u64);
@@ -114,14 +114,14 @@ fn write_again(answer: Parsed, words: &[u32], out: &mut [u32], at: usize) {
         Parsed::Accepted(p) => {
             let body = p.place;
             let length = p.length;
-            if words.len() < body {
+            if ws.len() < body {
                 return;
             }
-            if words.len() - body < length {
+            if ws.len() - body < length {
                 return;
             }
             let end = body + length;
-            if write(p.parts, &words[body..end], out, at) {
+            if write(p.parts, &ws[body..end], out, at) {
                 show_again(out, at);
             }
         }
@@ -129,18 +129,18 @@ fn write_again(answer: Parsed, words: &[u32], out: &mut [u32], at: usize) {
 }
 
 // A case that reads, writes again and reads again.
-fn again_case(words: &mut [u32], out: &mut [u32]) {
+fn again_case(ws: &mut [u32], out: &mut [u32]) {
     let at = lines::inner::word() as usize;
     let room = lines::inner::word() as usize;
     let n = lines::inner::word() as usize;
-    if words.len() < n {
+    if ws.len() < n {
         return;
     }
     if out.len() < room {
         return;
     }
-    lines::inner::fill(&mut words[0..n]);
-    let given = &words[0..n];
+    lines::inner::fill(&mut ws[0..n]);
+    let given = &ws[0..n];
     write_again(packet::read(given), given, &mut out[0..room], at);
 }
 
@@ -159,16 +159,16 @@ fn trailer_case() {
 }
 
 // Runs case k; whether there was one.
-fn one_case(k: u64, words: &mut [u32], out: &mut [u32]) -> bool {
+fn one_case(k: u64, ws: &mut [u32], out: &mut [u32]) -> bool {
     let next = lines::inner::next_word();
     let lines::inner::Input::Word(op) = next else {
         return false;
     };
     lines::inner::number(k);
     if op == 1 {
-        write_case(words, out);
+        write_case(ws, out);
     } else if op == 2 {
-        again_case(words, out);
+        again_case(ws, out);
     } else {
         trailer_case();
     }
@@ -179,11 +179,11 @@ fn one_case(k: u64, words: &mut [u32], out: &mut [u32]) -> bool {
 fn main() {
     let mut body_space = [0u32; 65600];
     let mut out_space = [0u32; 65600];
-    let words: &mut [u32] = &mut body_space;
+    let ws: &mut [u32] = &mut body_space;
     let out: &mut [u32] = &mut out_space;
     let mut k: u64 = 0;
     while k < 0xFFFF_FFFF {
-        if one_case(k, words, out) {
+        if one_case(k, ws, out) {
             k += 1;
         } else {
             return;

@@ -9,7 +9,7 @@ use Rattle.packet.proofs.read.Tie as tie
 returns : tie.Need-returns
 returns c =
     let b : tie.Start = search in
-    sym (front-refuses false (now (b .args .words)) _ (sym (c .before .before .before .check-front .ensures) ∙ ap checked (c .before .front .given .1)))
+    sym (front-refuses false (now (b .args .ws)) _ (sym (c .before .before .before .check-front .ensures) ∙ ap checked (c .before .front .given .1)))
 
 shared-slice-read-w : tie.Need-shared-slice-read-w
 shared-slice-read-w c = front-some false _ (sym (c .before .before .before .check-front .ensures) ∙ ap checked (c .before .enum-told .given .1))
@@ -22,7 +22,7 @@ returns-2 c =
     let at-check-front : tie.After-check-front = search in
     let at-enum-told : tie.After-enum-told = search in
     let b : tie.Start = search in
-    sym (body-refuses false (now (b .args .words)) (sym (at-check-front .check-front .ensures) ∙ ap checked (at-enum-told .enum-told .given .1)) _
+    sym (body-refuses false (now (b .args .ws)) (sym (at-check-front .check-front .ensures) ∙ ap checked (at-enum-told .enum-told .given .1)) _
     (sym (c .before .before .before .check-context .ensures) ∙ ap checked (c .before .body .given .1)))
 
 packet-of-requires : tie.Need-packet-of-requires
@@ -38,7 +38,7 @@ returns-3 c =
     let at-enum-told : tie.After-enum-told = search in
     let b : tie.Start = search in
     ap (λ (p : Packet). accepted p) (c .packet-of .ensures)
-    ∙ sym (body-accepted false (now (b .args .words)) (sym (at-check-front .check-front .ensures) ∙ ap checked (at-enum-told .enum-told .given .1))
+    ∙ sym (body-accepted false (now (b .args .ws)) (sym (at-check-front .check-front .ensures) ∙ ap checked (at-enum-told .enum-told .given .1))
     (sym (c .before .before .before .check-context .ensures) ∙ ap checked (c .before .enum-told2 .given .1)))
 
 pub read-spec : {M : Type 1} → statement M

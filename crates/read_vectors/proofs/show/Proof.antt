@@ -9,7 +9,7 @@ use Rattle.read_vectors.proofs.show.Tie as tie
 show-packet-requires : tie.Need-show-packet-requires
 show-packet-requires c κs =
     let start : tie.Start = search in
-    let ws = now (start .args .words) in
+    let ws = now (start .args .ws) in
     let p = c .before .answer .given .0 .0 in
     let e : readOf ws ≡ accepted p = sym (c .before .before .before .read .ensures) ∙ ap parsedPaper (c .before .answer .given .1) in
     omega (arith, body-inside false ws p e, read-inside false ws p e)

@@ -24,7 +24,7 @@ returns-2 c =
     let b = c .before .before .before in
     let t = b .before .before in
     let a = t .before .before .args in
-    let e = seen (b .body-at .result) (c .before .before .body-end .result) (bodyLength (a .w)) (now (a .words))
+    let e = seen (b .body-at .result) (c .before .before .body-end .result) (bodyLength (a .w)) (now (a .ws))
     (omega (arith, c .before .before .body-end .ensures, b .body-at .ensures .0)) in
     rw (← t .type-of .ensures, eq-eqb _ _ (b .before .if1 .left), ← b .body-at .ensures .0, ← e) (c .check-body .ensures)
 

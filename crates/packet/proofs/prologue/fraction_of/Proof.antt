@@ -6,7 +6,7 @@ use Rattle.packet.proofs.prologue.fraction_of.Statement.{statement}
 use Rattle.packet.proofs.prologue.fraction_of.Tie as tie
 
 -- a fraction that is there ends inside
-inside : (c : tie.Start) → hasFraction (c .args .w) ≡ true → fractionAt (c .args .w) + 2 ≤ length (now (c .args .words))
+inside : (c : tie.Start) → hasFraction (c .args .w) ≡ true → fractionAt (c .args .w) + 2 ≤ length (now (c .args .ws))
 inside c there = when-inside _ _ _ _ (room _ _ (c .pre .0) (c .pre .1) .fraction) there
 
 word-if-requires : tie.Need-word-if-requires
