@@ -98,7 +98,7 @@ fn needed_case(k: u64) {
     let n = lines::inner::word() as usize;
     let r = payload_format::words_needed(first, second, n);
     match r {
-        Length::Accepted(w) => print_accepted(k, b" ws ", w as u64),
+        Length::Accepted(w) => print_accepted(k, b" words ", w as u64),
         Length::Refused(e) => print_refused(k, e),
     }
 }

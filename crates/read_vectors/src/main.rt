@@ -12,7 +12,7 @@ fn show_field(body: &[u32], bit: u32) {
     lines::inner::text(b"  field ");
     lines::inner::number(bit as u64);
     lines::inner::named(b"at", at as u64);
-    lines::inner::named(b"ws", n as u64);
+    lines::inner::named(b"words", n as u64);
     lines::inner::text(b"\n");
 }
 

@@ -8,7 +8,7 @@ use words::Length;
 // The line of a buffer: its words where they are few, and else their sum.
 fn show_buffer(ws: &[u32]) {
     if ws.len() <= 300 {
-        lines::inner::text(b"  ws");
+        lines::inner::text(b"  words");
         lines::inner::list(ws);
     } else {
         lines::inner::text(b"  sum ");
