@@ -1,18 +1,21 @@
 -- What is known of a format that FORMAT does not refuse, and of a number of items that COUNT does not refuse.
-use Rattle.words.proofs.Kit.{_≡_, refl, _∙_, Bool, true, false, not, [], _∷_, ℕ, _+_, _*_, _/_, _≤_, _<_, arith, ltb, leb, eqb, ltb-false, not-false}
+use Rattle.words.proofs.Kit.{_≡_, refl, sym, ap, _∙_, Bool, true, false, not, [], _∷_, ℕ, _+_, _*_, _/_, _≤_, _<_, arith, ltb, leb, eqb, ltb-false, not-false}
 use native.Mathlib.Nat.{div-mul-le-self, le-div-iff-mul-le, mul-le-mul-right}
 use borrow.Author.Tests.{leb-true}
 use Rattle.words.specs.Tests.{pick, either}
-use Rattle.words.specs.Outcome.{Outcome, accepted, onward}
+use Rattle.words.specs.declared.Check.{Check}
+use Rattle.words.specs.declared.Check.the-variants as found
+use Rattle.words.specs.Outcome.{Outcome, refused, accepted, after, checked}
 use Rattle.words.specs.Refusals.{Refusals, firstGiven}
 use Rattle.words.specs.Numbers.{FORMAT, COUNT}
 use Rattle.words.specs.Word.{bits}
-use Rattle.words.proofs.Cases.{both-right, accepted-same}
-use Rattle.words.proofs.RefusalLaws.{first-passed, either-passed}
+use Rattle.words.proofs.Cases.{both-right}
+use Rattle.words.proofs.RefusalLaws.{first-passed, either-passed, first-refused, first-fine}
 use Rattle.fields.specs.Format.{realComplex, itemCode, eventSize, channelSize, packingSize, itemSize, formatOk, codeKnown, codeFits}
 use Rattle.payload_format.specs.declared.inner.Packing.{Packing}
 use Rattle.payload_format.specs.Format.{linkEfficient, formatBad, carriedBits, packingOf}
 use Rattle.payload_format.specs.inner.Legal.{Legal}
+use Rattle.payload_format.specs.inner.Checked.{itemsCheck}
 use Rattle.bitstream.specs.Carried.{needed}
 use Rattle.payload_format.specs.Count.{countBad, wordsFor, neededList, neededOf}
 
@@ -99,22 +102,32 @@ pub words-for : (first n m : ℕ) (p : Packing) → p ≡ packingOf first → m 
 unfolding packingOf wordsFor
 words-for first n m p q e = e ∙ rw q
 
--- ---- FORMAT and COUNT are asked once, by `words_needed`
+-- ---- FORMAT and COUNT are asked once, by `items_check`
+module _ (first second n : ℕ) where
+  -- a list that begins with FORMAT and COUNT of n, and has another test of COUNT beside it: what `items_check` answers, and then the rest
+  pub items-first : {A : Type 0} (more : Bool) (rest : Refusals) (answer : Outcome A)
+      → firstGiven ((FORMAT, formatBad first second) ∷ (COUNT, either (countBad first second n) more) ∷ rest) answer
+      ≡ after (itemsCheck first second n) (firstGiven ((COUNT, more) ∷ rest) answer)
+  unfolding itemsCheck
+  items-first more rest answer = by-tests (formatBad first second) (countBad first second n)
+    where
+      by-tests : (f c : Bool) → firstGiven ((FORMAT, f) ∷ (COUNT, either c more) ∷ rest) answer
+          ≡ after (firstGiven {A = Unit} ((FORMAT, f) ∷ (COUNT, c) ∷ []) (accepted tt)) (firstGiven ((COUNT, more) ∷ rest) answer)
+      by-tests true c = refl
+      by-tests false true = refl
+      by-tests false false = refl
 
--- a list that begins with FORMAT and COUNT of n, and has another test of COUNT beside it: what `words_needed` answers, and then the rest
-pub needed-first : {A : Type 0} (first second n : ℕ) (more : Bool) (rest : Refusals) (answer : Outcome A)
-    → firstGiven ((FORMAT, formatBad first second) ∷ (COUNT, either (countBad first second n) more) ∷ rest) answer
-    ≡ onward (neededOf first second n) (λ w. firstGiven ((COUNT, more) ∷ rest) answer)
-unfolding neededOf
-needed-first first second n more rest answer = by-tests (formatBad first second) (countBad first second n)
-  where
-    by-tests : (f c : Bool) → firstGiven ((FORMAT, f) ∷ (COUNT, either c more) ∷ rest) answer
-        ≡ onward (firstGiven ((FORMAT, f) ∷ (COUNT, c) ∷ []) (accepted (wordsFor first n))) (λ w. firstGiven ((COUNT, more) ∷ rest) answer)
-    by-tests true c = refl
-    by-tests false true = refl
-    by-tests false false = refl
+  module _ (answer : Check) (e : checked answer ≡ itemsCheck first second n) where
+    -- n of a number of items that is let through
+    pub items-few : answer ≡ found.Fine → n ≤ 2097120
+    unfolding itemsCheck
+    items-few fine = count-few first second n (first-passed (neededList first second n) _ tt (sym e ∙ ap checked fine) .0 .1 .0)
 
--- the number that it accepts with
-pub needed-words : (first second n m : ℕ) → neededOf first second n ≡ accepted m → wordsFor first n ≡ m
-unfolding neededOf
-needed-words first second n m e = accepted-same (first-passed (neededList first second n) _ m e .1)
+    -- the answers of `words_needed`
+    pub needed-refused : (k : ℕ) → answer ≡ found.Refused k → refused k ≡ neededOf first second n
+    unfolding neededOf itemsCheck
+    needed-refused k r = sym (first-refused (neededList first second n) tt k _ (sym e ∙ ap checked r))
+
+    pub needed-accepted : (m : ℕ) → answer ≡ found.Fine → m ≡ wordsFor first n → accepted m ≡ neededOf first second n
+    unfolding neededOf itemsCheck
+    needed-accepted m fine w = ap accepted w ∙ sym (first-fine (neededList first second n) tt tt _ (sym e ∙ ap checked fine))

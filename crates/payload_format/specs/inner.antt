@@ -2,3 +2,5 @@
 
 -- the sizes of a legal packing
 pub mod Legal
+-- what the checks answer
+pub mod Checked

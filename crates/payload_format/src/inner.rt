@@ -1,14 +1,17 @@
 // The format's two words: the sizes that they give, FORMAT, COUNT, and the words that fields take.
 ghost use Rattle.words.specs.Kit.{_≡_, _≤_, _<_};
+ghost use Rattle.words.specs.Outcome.{checked};
 ghost use Rattle.bitstream.specs.Carried.{needed};
 ghost use Rattle.payload_format.specs.Format.{linkEfficient, componentRepeat, repeatSize, vectorSize, wideProcessing, formatBad, carriedBits, packingOf};
-ghost use Rattle.payload_format.specs.Count.{unitOf, countBad};
+ghost use Rattle.payload_format.specs.Count.{unitOf, countBad, wordsFor};
+ghost use Rattle.payload_format.specs.inner.Checked.{itemsCheck};
 use fields::inner::channel_size;
 use fields::inner::event_size;
 use fields::inner::format_ok;
 use fields::inner::item_size;
 use fields::inner::packing_size;
 use fields::inner::real_complex;
+use words::Check;
 
 // The sizes of a packing, in bits: how many of each word carry fields, and those of a field and its parts.
 pub struct Packing {
@@ -59,7 +62,7 @@ fn wide_processing(first: u32) -> bool
 }
 
 // Whether a format is refused.
-pub fn format_bad(first: u32, second: u32) -> bool
+fn format_bad(first: u32, second: u32) -> bool
     ensures { λ r. ⌜ r ≡ formatBad first second ⌝ }
 {
     if !format_ok(first) {
@@ -113,7 +116,7 @@ fn unit(first: u32, second: u32) -> usize
 }
 
 // Whether a number of items is refused.
-pub fn count_bad(first: u32, second: u32, n: usize) -> bool
+fn count_bad(first: u32, second: u32, n: usize) -> bool
     ensures { λ r. ⌜ r ≡ countBad first second n ⌝ }
 {
     if 2_097_120 < n {
@@ -123,9 +126,31 @@ pub fn count_bad(first: u32, second: u32, n: usize) -> bool
 }
 
 // The words that n fields of f bits take, where c bits of each word carry them.
-pub fn words_of(c: usize, f: usize, n: usize) -> usize
+fn words_of(c: usize, f: usize, n: usize) -> usize
     requires { ⌜ (0 < c) × (c ≤ 32) × (f ≤ 64) × (n ≤ 2097120) ⌝ }
     ensures { λ r. ⌜ r ≡ needed c f n ⌝ }
 {
     (f * n + (c - 1)) / c
+}
+
+// The words that n items take under a format.
+pub fn words_for(first: u32, n: usize) -> usize
+    requires { ⌜ n ≤ 2097120 ⌝ }
+    ensures { λ r. ⌜ r ≡ wordsFor first n ⌝ }
+{
+    let p = packing_of(first);
+    words_of(p.carry, p.field, n)
+}
+
+// FORMAT, then COUNT of n items: what `words_needed`, packing and unpacking ask first.
+pub fn items_check(first: u32, second: u32, n: usize) -> Check
+    ensures { λ r. ⌜ checked r ≡ itemsCheck first second n ⌝ }
+{
+    if format_bad(first, second) {
+        return Check::Refused(words::FORMAT);
+    }
+    if count_bad(first, second, n) {
+        return Check::Refused(words::COUNT);
+    }
+    Check::Fine
 }

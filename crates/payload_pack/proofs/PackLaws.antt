@@ -4,9 +4,10 @@ use Rattle.words.proofs.Kit.{eqb, ltb-false, eqb-true, not-false}
 use lib.ListN.{List·getD-eq-default}
 use lib.Arith.{lt-one}
 use Rattle.words.specs.Tests.{either}
-use Rattle.words.specs.declared.Length.{Length}
+use Rattle.words.specs.declared.Check.{Check}
+use Rattle.words.specs.declared.Check.the-variants as found
 use Rattle.words.specs.declared.Length.the-variants.{Accepted, Refused}
-use Rattle.words.specs.Outcome.{Outcome, refused, accepted, measured, Meets}
+use Rattle.words.specs.Outcome.{Outcome, refused, accepted, checked, measured, Meets}
 use Rattle.words.specs.Refusals.{firstGiven}
 use Rattle.words.specs.Numbers.{COUNT, VALUE, ROOM}
 use Rattle.words.proofs.Cases.{le-or-lt}
@@ -17,11 +18,12 @@ use Rattle.bitstream.specs.Carried.{needed, wordOf}
 use Rattle.bitstream.specs.Filled.{filled}
 use Rattle.payload_format.specs.declared.inner.Packing.{Packing}
 use Rattle.payload_format.specs.Format.{formatBad, packingOf}
-use Rattle.payload_format.specs.Count.{countBad, wordsFor, neededOf}
+use Rattle.payload_format.specs.Count.{countBad, wordsFor}
+use Rattle.payload_format.specs.inner.Checked.{itemsCheck}
 use Rattle.payload_format.specs.Field.{fieldsOf}
 use Rattle.payload_pack.specs.Pack.{packed, fitting, valueBad, packList, packOf}
 use Rattle.payload_pack.specs.inner.Packable.{packCheck, Packable, Fitting}
-use Rattle.payload_format.proofs.FormatLaws.{legal, count-few, needed-first, needed-words}
+use Rattle.payload_format.proofs.FormatLaws.{legal, count-few, items-first}
 use Rattle.payload_pack.proofs.FitLaws.{fitting-each}
 
 -- a list whose entries have no bits is 0 everywhere
@@ -47,22 +49,22 @@ untagged p n items events channels out z he hc =
         let c : getD channels k 0 ≡ 0 = all-zero (p .channel) n channels (omega arith) hc k in
         rw (e, c) (omega arith)
 
--- ---- the answers of `pack_check`, by what `words_needed` says
-module _ (first second : ℕ) (items events channels : List ℕ) (room : ℕ) (answer : Length) (e : measured answer ≡ neededOf first second (length items)) where
-  pub needed-refused : (k : ℕ) → answer ≡ Refused k → refused k ≡ packCheck first second items events channels room
+-- ---- the answers of `pack_check`, by what `items_check` says
+module _ (first second : ℕ) (items events channels : List ℕ) (room : ℕ) (answer : Check) (e : checked answer ≡ itemsCheck first second (length items)) where
+  pub asked-refused : (k : ℕ) → answer ≡ found.Refused k → refused k ≡ packCheck first second items events channels room
   unfolding packCheck
-  needed-refused k r = rw (needed-first first second (length items), ← e, r)
+  asked-refused k r = rw (items-first first second (length items), ← e, r)
 
   -- the lines of `packCheck` that are left
-  pub counted : (m : ℕ) → answer ≡ Accepted m → packCheck first second items events channels room
+  pub asked-fine : answer ≡ found.Fine → packCheck first second items events channels room
       ≡ firstGiven
       ((COUNT, either (not (eqb (length events) (length items))) (not (eqb (length channels) (length items))))
       ∷ (VALUE, valueBad first items events channels)
-      ∷ (ROOM, ltb room m)
+      ∷ (ROOM, ltb room (wordsFor first (length items)))
       ∷ [])
       (accepted tt)
   unfolding packCheck
-  counted m r = let w = needed-words first second (length items) m (sym e ∙ ap measured r) in rw (needed-first first second (length items), ← e, r, w)
+  asked-fine r = rw (items-first first second (length items), ← e, r)
 
 -- ---- what `packCheck` lets through
 pub record PackPassed (first second : ℕ) (items events channels : List ℕ) (room : ℕ) : Type 0 where

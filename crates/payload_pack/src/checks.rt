@@ -4,9 +4,9 @@ ghost use Rattle.words.specs.Outcome.{checked};
 ghost use Rattle.payload_pack.specs.Pack.{fitting, valueBad};
 ghost use Rattle.payload_pack.specs.inner.AnyBits.{anyBits};
 ghost use Rattle.payload_pack.specs.inner.Packable.{packCheck};
-use payload_format::words_needed;
+use payload_format::inner::items_check;
+use payload_format::inner::words_for;
 use words::Check;
-use words::Length;
 
 // The bits that any of the items has.
 fn join_items(items: &[u64]) -> u64
@@ -84,7 +84,7 @@ fn value_bad(first: u32, items: &[u64], events: &[u8], channels: &[u16]) -> bool
     !channels_fit(fields::inner::channel_size(first) as usize, channels)
 }
 
-// The first refusal of packing, by the inputs and how many places there are. FORMAT and COUNT of the items are asked as `words_needed` asks them.
+// The first refusal of packing, by the inputs and how many places there are.
 pub fn pack_check(
     first: u32,
     second: u32,
@@ -96,23 +96,21 @@ pub fn pack_check(
     ensures { λ r. ⌜ checked r ≡ packCheck first second (now (items .entry)) (now (events .entry)) (now (channels .entry)) room ⌝ }
 {
     let n = items.len();
-    let needed = words_needed(first, second, n);
-    match needed {
-        Length::Refused(number) => Check::Refused(number),
-        Length::Accepted(m) => {
-            if events.len() != n {
-                return Check::Refused(words::COUNT);
-            }
-            if channels.len() != n {
-                return Check::Refused(words::COUNT);
-            }
-            if value_bad(first, items, events, channels) {
-                return Check::Refused(words::VALUE);
-            }
-            if room < m {
-                return Check::Refused(words::ROOM);
-            }
-            Check::Fine
-        }
+    let asked = items_check(first, second, n);
+    if let Check::Refused(number) = asked {
+        return Check::Refused(number);
     }
+    if events.len() != n {
+        return Check::Refused(words::COUNT);
+    }
+    if channels.len() != n {
+        return Check::Refused(words::COUNT);
+    }
+    if value_bad(first, items, events, channels) {
+        return Check::Refused(words::VALUE);
+    }
+    if room < words_for(first, n) {
+        return Check::Refused(words::ROOM);
+    }
+    Check::Fine
 }

@@ -8,7 +8,7 @@ mod making;
 use checks::pack_check;
 use making::pack_fields;
 use payload_format::inner::packing_of;
-use payload_format::inner::words_of;
+use payload_format::inner::words_for;
 use words::Check;
 use words::Length;
 
@@ -28,8 +28,7 @@ pub fn pack(
     if let Check::Refused(number) = checked {
         return Length::Refused(number);
     }
-    let p = packing_of(first);
     let n = items.len();
-    pack_fields(p, n, items, events, channels, out);
-    Length::Accepted(words_of(p.carry, p.field, n))
+    pack_fields(packing_of(first), n, items, events, channels, out);
+    Length::Accepted(words_for(first, n))
 }

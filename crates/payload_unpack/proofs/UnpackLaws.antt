@@ -4,7 +4,6 @@ use Rattle.words.proofs.Kit.{ltb-false, eqb-true, not-false}
 use native.Mathlib.Nat.{mod-one, div-one}
 use Rattle.words.specs.declared.Check.{Check}
 use Rattle.words.specs.declared.Check.the-variants as found
-use Rattle.words.specs.declared.Length.{Length}
 use Rattle.words.specs.declared.Length.the-variants.{Accepted, Refused}
 use Rattle.words.specs.Tests.{either}
 use Rattle.words.specs.Outcome.{refused, accepted, checked, measured, Meets}
@@ -18,9 +17,10 @@ use Rattle.bitstream.proofs.CarriedLaws.{enough, none-over, field-word, field-w
 use Rattle.bitstream.proofs.FilledLaws.{filled-same}
 use Rattle.payload_format.specs.declared.inner.Packing.{Packing}
 use Rattle.payload_format.specs.Format.{formatBad, packingOf, carriedBits}
-use Rattle.payload_format.specs.Count.{countBad, wordsFor, neededOf}
+use Rattle.payload_format.specs.Count.{countBad, wordsFor}
+use Rattle.payload_format.specs.inner.Checked.{itemsCheck}
 use Rattle.payload_format.specs.Field.{fieldIn, itemIn}
-use Rattle.payload_format.proofs.FormatLaws.{legal, count-few, carry-some, needed-first, needed-words}
+use Rattle.payload_format.proofs.FormatLaws.{legal, count-few, carry-some, items-first}
 use Rattle.payload_unpack.specs.Unpack.{Buffers, buffers, unpacked, unpackList, unpackOf}
 use Rattle.payload_unpack.specs.inner.Unpackable.{unpackCheck, Unpackable}
 
@@ -79,17 +79,17 @@ module _ {p : Packing} {n room : ℕ} {ws : List ℕ} (u : Unpackable p n ws roo
         rw (two-field, two-carry, two)
         (sym (ap (λ (x : ℕ). x / 2 ^ 0) (field-words ws small k) ∙ div-one (highFirst (getD ws (2 * k) 0) (getD ws (2 * k + 1) 0)))))
 
--- ---- the answers of `unpack_check`, by what `words_needed` says
-module _ (first second n : ℕ) (answer : Length) (e : measured answer ≡ neededOf first second n) (given items events channels : ℕ) where
-  pub needed-refused : (k : ℕ) → answer ≡ Refused k → refused k ≡ unpackCheck first second n given items events channels
+-- ---- the answers of `unpack_check`, by what `items_check` says
+module _ (first second n : ℕ) (answer : Check) (e : checked answer ≡ itemsCheck first second n) (given items events channels : ℕ) where
+  pub asked-refused : (k : ℕ) → answer ≡ found.Refused k → refused k ≡ unpackCheck first second n given items events channels
   unfolding unpackCheck
-  needed-refused k r = rw (needed-first first second n, ← e, r)
+  asked-refused k r = rw (items-first first second n, ← e, r)
 
   -- the lines of `unpackCheck` that are left
-  pub counted : (m : ℕ) → answer ≡ Accepted m → unpackCheck first second n given items events channels
-      ≡ firstGiven ((COUNT, not (eqb given m)) ∷ (ROOM, either (ltb items n) (either (ltb events n) (ltb channels n))) ∷ []) (accepted tt)
+  pub asked-fine : answer ≡ found.Fine → unpackCheck first second n given items events channels
+      ≡ firstGiven ((COUNT, not (eqb given (wordsFor first n))) ∷ (ROOM, either (ltb items n) (either (ltb events n) (ltb channels n))) ∷ []) (accepted tt)
   unfolding unpackCheck
-  counted m r = let w = needed-words first second n m (sym e ∙ ap measured r) in rw (needed-first first second n, ← e, r, w)
+  asked-fine r = rw (items-first first second n, ← e, r)
 
 -- ---- what `unpackCheck` lets through
 pub record UnpackPassed (first second n words room-items room-events room-channels : ℕ) : Type 0 where

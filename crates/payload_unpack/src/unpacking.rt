@@ -7,12 +7,13 @@ use crate::plain::clear_tags;
 use crate::plain::unpack_plain;
 use crate::tagged::unpack_tagged;
 use payload_format::inner::Packing;
+use payload_format::inner::items_check;
 use payload_format::inner::packing_of;
-use payload_format::words_needed;
+use payload_format::inner::words_for;
 use words::Check;
 use words::Length;
 
-// The first refusal of unpacking, by how many words are given and how many places there are. FORMAT and COUNT of n are asked as `words_needed` asks them.
+// The first refusal of unpacking, by how many words are given and how many places there are.
 fn unpack_check(
     first: u32,
     second: u32,
@@ -24,25 +25,23 @@ fn unpack_check(
 ) -> Check
     ensures { λ r. ⌜ checked r ≡ unpackCheck first second n given items events channels ⌝ }
 {
-    let needed = words_needed(first, second, n);
-    match needed {
-        Length::Refused(number) => Check::Refused(number),
-        Length::Accepted(m) => {
-            if given != m {
-                return Check::Refused(words::COUNT);
-            }
-            if items < n {
-                return Check::Refused(words::ROOM);
-            }
-            if events < n {
-                return Check::Refused(words::ROOM);
-            }
-            if channels < n {
-                return Check::Refused(words::ROOM);
-            }
-            Check::Fine
-        }
+    let asked = items_check(first, second, n);
+    if let Check::Refused(number) = asked {
+        return Check::Refused(number);
     }
+    if given != words_for(first, n) {
+        return Check::Refused(words::COUNT);
+    }
+    if items < n {
+        return Check::Refused(words::ROOM);
+    }
+    if events < n {
+        return Check::Refused(words::ROOM);
+    }
+    if channels < n {
+        return Check::Refused(words::ROOM);
+    }
+    Check::Fine
 }
 
 // The items and tags of the first n fields: where a format has no tags, the items alone, and all tags 0.

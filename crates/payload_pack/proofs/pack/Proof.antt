@@ -1,6 +1,6 @@
 -- `pack` meets its promise: `pack-refused` and `pack-accepted`, by what the checks answer.
 use Rattle.words.specs.Outcome.{checked}
-use Rattle.payload_format.proofs.FormatLaws.{legal, count-few, words-for}
+use Rattle.payload_format.proofs.FormatLaws.{count-few}
 use Rattle.payload_pack.proofs.PackLaws.{PackPassed, pack-passed, packable, pack-refused, pack-accepted}
 use Rattle.words.proofs.Kit.{length, sym, ap, _∙_, needs}
 use Rattle.payload_pack.proofs.pack.Statement.{statement}
@@ -12,9 +12,11 @@ checked-here : (c : tie.After-packing-of) →
     PackPassed (a .first) (a .second) (a .items .now) (a .events .now) (a .channels .now) (length (a .out .now))
 checked-here c =
     let start : tie.Start = search in
+    let at-enum-told : tie.After-enum-told = search in
+    let at-pack-check : tie.After-pack-check = search in
     let a = start .args in
     pack-passed (a .first) (a .second) (a .items .now) (a .events .now) (a .channels .now) (length (a .out .now))
-    (sym (c .before .before .before .pack-check .ensures) ∙ ap checked (c .before .enum-told .given .1))
+    (sym (at-pack-check .pack-check .ensures) ∙ ap checked (at-enum-told .enum-told .given .1))
 
 returns : tie.Need-returns
 returns c =
@@ -27,17 +29,16 @@ pack-fields-requires : tie.Need-pack-fields-requires
 pack-fields-requires c κs =
     let start : tie.Start = search in
     let a = start .args in
-    rw (c .before .packing-of .ensures)
-    (packable (a .first) (a .second) (a .items .now) (a .events .now) (a .channels .now) (length (a .out .now)) (checked-here (c .before)))
+    let at-packing-of : tie.After-packing-of = search in
+    rw (at-packing-of .packing-of .ensures)
+    (packable (a .first) (a .second) (a .items .now) (a .events .now) (a .channels .now) (length (a .out .now)) (checked-here at-packing-of))
 
-words-of-requires : tie.Need-words-of-requires
-words-of-requires c κs =
+words-for-requires : tie.Need-words-for-requires
+words-for-requires c κs =
     let start : tie.Start = search in
     let at-packing-of : tie.After-packing-of = search in
     let a = start .args in
-    let k = checked-here at-packing-of in
-    let l = legal (a .first) (a .second) (k .format) in
-    rw (at-packing-of .packing-of .ensures) (l .some, l .most, l .few, count-few (a .first) (a .second) (length (a .items .now)) (k .count))
+    count-few (a .first) (a .second) (length (a .items .now)) (checked-here at-packing-of .count)
 
 returns-2 : tie.Need-returns-2
 returns-2 c =
@@ -45,15 +46,16 @@ returns-2 c =
     let at-enum-told : tie.After-enum-told = search in
     let at-pack-check : tie.After-pack-check = search in
     let at-packing-of : tie.After-packing-of = search in
+    let at-pack-fields : tie.After-pack-fields = search in
     let a = start .args in
     pack-accepted (a .first) (a .second) (a .items .now) (a .events .now) (a .channels .now) (a .out .now) _ _
     (sym (ap checked (at-enum-told .enum-told .given .1)) ∙ at-pack-check .pack-check .ensures)
-    (words-for _ _ _ _ (at-packing-of .packing-of .ensures) (c .words-of .ensures))
-    (rw (at-packing-of .packing-of .ensures) at (c .before .before .before .pack-fields .ensures))
+    (c .words-for .ensures)
+    (rw (at-packing-of .packing-of .ensures) at (at-pack-fields .pack-fields .ensures))
 
 pub pack-spec : {M : Type 1} → statement M
 pack-spec =
     tie.close
     (tie.spec
-    (λ c κs. search needs) (λ c. search needs) returns (λ c. search needs) (λ c κs. search needs) pack-fields-requires words-of-requires
+    (λ c κs. search needs) (λ c. search needs) returns (λ c. search needs) (λ c κs. search needs) pack-fields-requires words-for-requires
     (λ c. search needs) returns-2)
