@@ -68,10 +68,10 @@ fn format_bad(first: u32, second: u32) -> bool
     if !format_ok(first) {
         return true;
     }
-    if repeat_size(second) != 1 {
+    if component_repeat(first) {
         return true;
     }
-    if component_repeat(first) {
+    if repeat_size(second) != 1 {
         return true;
     }
     wide_processing(first)
