@@ -11,12 +11,12 @@ use Rattle.words.specs.Outcome.{refused, accepted}
 use Rattle.words.proofs.Cases.{both-left, both-right}
 use Rattle.words.proofs.RefusalLaws.{None, none-given}
 use Rattle.words.proofs.PartLaws.{part-part}
-use Rattle.record.specs.Layout.{recordWords, heldOf, orderOf, countAt, countWords, slotOf}
+use Rattle.record.specs.Layout.{recordWords, heldOf, countedTypes, orderOf, countAt, countWords, slotOf, isHeld, heldWordsIn}
 use Rattle.record.proofs.PacketLaws.{order-small}
 use Rattle.table.specs.Layout.{base, recordAt}
-use Rattle.panel.specs.HeldWords.{heldWordsIn, heldWordsOf}
-use Rattle.panel.specs.Readings.{absent, shownOf, isHeld, recordShows, readingList, readingOf}
-use Rattle.demands.specs.Trace.{traceOf, own, kept, lastCarried, countedTypes, countsOf, countRule}
+use Rattle.panel.specs.HeldWords.{heldWordsOf}
+use Rattle.panel.specs.Readings.{absent, shownOf, recordShows, readingList, readingOf}
+use Rattle.demands.specs.Trace.{traceOf, own, kept, lastCarried, countsOf, countRule}
 use Rattle.demands.specs.Program.{ours}
 use Rattle.demands.specs.Right.{heldIn, Right}
 use Rattle.demands.specs.PanelShows.{shownBy, wordsBy, PanelShows}

@@ -17,7 +17,7 @@ use Rattle.words.proofs.AllLaws.{all-same, first-one}
 use Rattle.words.proofs.PartLaws.{part-within}
 use Rattle.packet.specs.declared.Packet.{Packet}
 use Rattle.packet.specs.Read.{readOf}
-use Rattle.record.specs.Layout.{recordWords}
+use Rattle.record.specs.Layout.{recordWords, heldWordsIn}
 use Rattle.record.specs.Good.{recordGood}
 use Rattle.table.specs.Layout.{streamsOf, base, layoutWords, recordAt, withRecord}
 use Rattle.table.specs.Identifiers.{declared, streamOf}
@@ -34,7 +34,7 @@ use Rattle.play.proofs.KeepLaws.{play-keeps}
 use Rattle.page.specs.Layout.{savedBody, pageOf, pageLength}
 use Rattle.page.specs.Save.{lengthOf, saveOf}
 use Rattle.page.proofs.LayoutLaws.{page-same, page-length}
-use Rattle.panel.specs.HeldWords.{heldWordsIn, copyList, heldWordsOf}
+use Rattle.panel.specs.HeldWords.{copyList, heldWordsOf}
 use Rattle.panel.specs.Readings.{recordShows, readingList, readingOf}
 use Rattle.demands.specs.Program.{ours}
 use Rattle.demands.specs.PastUnread.{IsLayout, PastUnread}

@@ -6,10 +6,10 @@ use Rattle.words.specs.Numbers.{ROOM}
 use Rattle.words.specs.Tests.{among}
 use Rattle.words.specs.Part.{part}
 use Rattle.words.specs.Outcome.{refused, accepted}
-use Rattle.record.specs.Layout.{orderOf, countAt}
+use Rattle.record.specs.Layout.{countedTypes, orderOf, countAt}
 use Rattle.table.specs.Layout.{base}
 use Rattle.panel.specs.Readings.{Reading, absent, shownOf}
-use Rattle.demands.specs.Trace.{traceOf, own, kept, lastCarried, countedTypes, countsOf, countRule}
+use Rattle.demands.specs.Trace.{traceOf, own, kept, lastCarried, countsOf, countRule}
 use Rattle.demands.specs.Program.{Program}
 
 -- what a reading shows of the field of bit b, by the value that was carried, if one was

@@ -18,6 +18,7 @@ use Rattle.payload_pack.specs.Pack.{packed, packList, packOf}
 use Rattle.words.specs.Signed.{twosComplement}
 use Rattle.payload_format.specs.Signs.{signedList, signedOf}
 use Rattle.payload_unpack.specs.Unpack.{Buffers, unpacked, unpackList, unpackOf}
+use Rattle.record.specs.Layout.{heldWordsIn}
 use Rattle.table.specs.Layout.{base, recordAt}
 use Rattle.table.specs.Identifiers.{streamOf}
 use Rattle.table.specs.Start.{freshTable, startList, startOf}
@@ -26,7 +27,7 @@ use Rattle.play.specs.Run.{wholeWalk, reachedOf, answersOf, runOf}
 use Rattle.page.specs.Layout.{pageOf, pageLength, bodiesIn, tableOf}
 use Rattle.page.specs.Save.{lengthList, saveList, lengthOf, saveOf}
 use Rattle.page.specs.PutBack.{putBackList, putBackOf}
-use Rattle.panel.specs.HeldWords.{heldWordsIn, heldWordsList, heldWordsOf}
+use Rattle.panel.specs.HeldWords.{heldWordsList, heldWordsOf}
 use Rattle.panel.specs.Readings.{recordShows, readingList, readingOf}
 
 -- a call's list has these numbers in this order; the call gives the first of the list that applies, and is else accepted with this answer
