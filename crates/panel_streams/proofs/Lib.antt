@@ -1,0 +1,8 @@
+-- The laws of what a table says of a stream, each beside its kin.
+
+-- the public answers
+pub mod AskedLaws
+-- what the record of a stream says
+pub mod RecordLaws
+-- two answers that meet a promise are equal
+pub mod Uniqueness
