@@ -4,5 +4,7 @@
 pub mod AskedLaws
 -- what the record of a stream says
 pub mod RecordLaws
+-- fields that are not the same in two records
+pub mod ChangedLaws
 -- two answers that meet a promise are equal
 pub mod Uniqueness

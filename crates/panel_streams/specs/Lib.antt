@@ -6,5 +6,7 @@ pub mod Identity
 pub mod TypeCounts
 -- its record as a table of its own
 pub mod OwnTable
+-- which held fields are not the same in two records
+pub mod Changed
 -- what only the contracts inside cite
 pub mod inner

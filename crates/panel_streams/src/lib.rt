@@ -1,4 +1,6 @@
-// What a table says of a stream beside its readings: who it is and which fields it holds, what it counted, its record as a table of its own.
+// What a table says of a stream beside its readings: who it is and which fields it holds, what it counted, its record as a table of its own, and which held
+// fields two records have not the same.
+mod changes;
 mod records;
 
 ghost use mathlib.Core.Path.{_≡_};
@@ -6,6 +8,8 @@ ghost use Rattle.words.specs.Outcome.{measured, Meets};
 ghost use Rattle.panel_streams.specs.Identity.{identityOf, identityPaper};
 ghost use Rattle.panel_streams.specs.TypeCounts.{typeCountsOf, typeCountsPaper};
 ghost use Rattle.panel_streams.specs.OwnTable.{ownTableOf};
+ghost use Rattle.panel_streams.specs.Changed.{changedOf, changedPaper};
+pub use changes::Changed;
 pub use records::Identity;
 
 // What a stream counted of a type: how many packets it saw, how many are missing, and the last count; or that none of the type came; or the number of the refusal.
@@ -44,5 +48,16 @@ pub fn own_table(table: &[u32], stream: usize, out: &mut [u32]) -> words::Length
     match table::inner::check_stream(table, stream) {
         words::Check::Refused(n) => words::Length::Refused(n),
         words::Check::Fine => records::copy_own(table, stream, out),
+    }
+}
+
+// The bits, of 30 to 10, of the fields for which two streams do not hold the same words; an absent field holds none. TABLE where either table is not well made,
+// STREAM where either number is not in its table.
+pub fn changed(before: &[u32], stream: usize, after: &[u32], other: usize) -> Changed
+    ensures { λ r. ⌜ changedPaper r ≡ changedOf (now (before .entry)) stream (now (after .entry)) other ⌝ }
+{
+    match changes::check(before, stream, after, other) {
+        words::Check::Refused(n) => Changed::Refused(n),
+        words::Check::Fine => changes::changed_at(before, stream, after, other),
     }
 }
