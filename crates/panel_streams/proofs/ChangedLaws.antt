@@ -14,7 +14,7 @@ use Rattle.words.specs.Word.{has}
 use Rattle.words.specs.Part.{part}
 use Rattle.words.specs.All.{all}
 use Rattle.words.specs.Outcome.{refused, accepted, checked}
-use Rattle.words.proofs.Cases.{same-test, true-or-false, same-or-not, true-is-false, same-words, words-same}
+use Rattle.words.proofs.Cases.{same-test, true-or-false, both-left, both-right, both-no, same-or-not, true-is-false, same-words, words-same}
 use Rattle.words.proofs.RefusalLaws.{first-passed, first-refused, first-fine, either-passed}
 use Rattle.words.proofs.PowerLaws.{halves}
 use Rattle.words.proofs.BitLaws.{has-low}
@@ -78,6 +78,38 @@ marked-none : (k : ℕ) (f : ℕ → Bool) → ((b : ℕ) → b < k → f b ≡ 
 unfolding marked
 marked-none zero f e = refl
 marked-none (suc k) f e = rw (e k (omega arith), marked-none k f (λ b h. e b (omega arith)))
+
+-- ---- what the bits say
+
+module _ (r q : List ℕ) where
+  -- bits 30 to 10 alone
+  pub changed-bit : (b : ℕ) → b < 31 → has (changedIn r q) b ≡ differs r q b
+  unfolding changedIn
+  changed-bit b h = marked-has 31 (differs r q) b h
+
+  pub changed-small : changedIn r q < 2 ^ 31
+  unfolding changedIn
+  changed-small = marked-small 31 (differs r q)
+
+  -- both ways: a bit is set where the words are not the same, and the words are the same where it is not
+  pub changed-set : (b : ℕ) → b < 31 → has (changedIn r q) b ≡ true → (holds b ≡ true) × (heldWordsIn b r ≡ heldWordsIn b q → ⊥)
+  unfolding differs
+  changed-set b h e =
+      let d : differs r q b ≡ true = sym (changed-bit b h) ∙ e in (
+        both-left (holds b) _ d,
+        λ f. true-is-false (sym (both-right (holds b) _ d) ∙ ap (λ (ws : List ℕ). not (sameWords ws (heldWordsIn b q))) f ∙ ap not (words-same (heldWordsIn b q))),
+      )
+
+  pub changed-not : (b : ℕ) → b < 31 → holds b ≡ true → has (changedIn r q) b ≡ false → heldWordsIn b r ≡ heldWordsIn b q
+  unfolding differs
+  changed-not b h o e =
+      let d : both (holds b) (not (sameWords (heldWordsIn b r) (heldWordsIn b q))) ≡ false = sym (changed-bit b h) ∙ e in
+      same-words _ _ (not-false (sameWords (heldWordsIn b r) (heldWordsIn b q)) (rw o at d))
+
+-- a record and itself
+pub changed-self : (r : List ℕ) → changedIn r r ≡ 0
+unfolding changedIn differs
+changed-self r = marked-none 31 (differs r r) (λ b h. rw (words-same (heldWordsIn b r)) (both-no (holds b)))
 
 -- ---- the loop that marks: the bits below 10 are of no held field
 module _ (r q : List ℕ) where

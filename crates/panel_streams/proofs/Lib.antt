@@ -6,5 +6,7 @@ pub mod AskedLaws
 pub mod RecordLaws
 -- fields that are not the same in two records
 pub mod ChangedLaws
+-- a stream's own table
+pub mod OwnLaws
 -- two answers that meet a promise are equal
 pub mod Uniqueness
