@@ -28,6 +28,7 @@ use Rattle.panel.specs.HeldWords.{heldWordsList, heldWordsOf}
 use Rattle.panel_streams.specs.Identity.{identityOf}
 use Rattle.panel_streams.specs.TypeCounts.{typeCountsList, typeCountsOf}
 use Rattle.panel_streams.specs.OwnTable.{ownTableList, ownTableOf}
+use Rattle.panel_streams.specs.Changed.{changedList, changedOf}
 use Rattle.vrt49.specs.Answers.{Tells, plain, left, beside}
 use Rattle.vrt49.specs.Packets.{packetValues, trailerValues, foundValues, writeWordsList, writeWordsOf}
 use Rattle.vrt49.specs.Tables.{heardValues, reachedValues}
@@ -188,6 +189,11 @@ forOwnTable =
     tells (λ (h : List ℕ × ℕ × List ℕ × ℕ). ownTableOf (h .0) (h .1) (h .2)) (beside plain) (λ h. (h .2, h .3))
     (λ h. ownTableList (h .0) (h .1) (h .2)) (TABLE ∷ STREAM ∷ ROOM ∷ [])
 
+abbrev pub forChanged : CallForC
+forChanged =
+    tells (λ (h : List ℕ × ℕ × List ℕ × ℕ × ℕ). changedOf (h .0) (h .1) (h .2) (h .3)) plain (λ h. h .4)
+    (λ h. changedList (h .0) (h .1) (h .2) (h .3)) (TABLE ∷ STREAM ∷ [])
+
 -- ---- all of them, in the order of include/vrt49.h
 
 abbrev pub callsForC : List {1} CallForC
@@ -197,5 +203,5 @@ callsForC =
     ∷ forStart ∷ forWellMade ∷ forPlay ∷ forPlayRun
     ∷ forPageLength ∷ forSave ∷ forPutBack
     ∷ forReading ∷ forHeldWords
-    ∷ forIdentity ∷ forCounts ∷ forOwnTable
+    ∷ forIdentity ∷ forCounts ∷ forOwnTable ∷ forChanged
     ∷ []

@@ -1,7 +1,8 @@
-// What a table says of a stream: who it is, what it counted, its own table.
+// What a table says of a stream: who it is, what it counted, its own table, and which of its fields are not those of another.
 ghost use Rattle.panel_streams.specs.Identity.{identityOf};
 ghost use Rattle.panel_streams.specs.TypeCounts.{typeCountsOf};
 ghost use Rattle.panel_streams.specs.OwnTable.{ownTableOf};
+ghost use Rattle.panel_streams.specs.Changed.{changedOf};
 ghost use Rattle.vrt49.specs.Answers.{Tells, plain, beside};
 ghost use Rattle.vrt49.specs.Streams.{identityValues, countValues};
 
@@ -66,4 +67,24 @@ pub extern "C" fn vrt49_own_table(
     ensures { λ r. ⌜ Tells (beside plain) (ownTableOf (now (table .entry)) stream (now (out .entry))) (now (out .entry), now (length .entry)) r (now (out .exit), now (length .exit)) ⌝ }
 {
     crate::answers::give_length(panel_streams::own_table(table, stream, out), length)
+}
+
+// The bits of the fields for which two streams do not hold the same words; answers TABLE or STREAM, of either.
+#[no_mangle]
+pub extern "C" fn vrt49_changed(
+    before: &[u32],
+    before_stream: usize,
+    after: &[u32],
+    after_stream: usize,
+    fields: &mut u32,
+) -> u32
+    ensures { λ r. ⌜ Tells plain (changedOf (now (before .entry)) «before_stream» (now (after .entry)) «after_stream») (now (fields .entry)) r (now (fields .exit)) ⌝ }
+{
+    match panel_streams::changed(before, before_stream, after, after_stream) {
+        panel_streams::Changed::Refused(n) => n,
+        panel_streams::Changed::Fields(w) => {
+            *fields = w;
+            0
+        }
+    }
 }
