@@ -26,6 +26,12 @@ use Rattle.play.specs.Play.{playedPaper}
 use Rattle.play.specs.Run.{runPaper}
 use Rattle.panel.specs.declared.FieldReading.the-variants as dial
 use Rattle.panel.specs.Readings.{Reading, frequency, level, gain, temperature, other, absent, readingPaper}
+use Rattle.panel_streams.specs.declared.records.Identity.the-variants as named
+use Rattle.panel_streams.specs.declared.TypeCounts.the-variants as counting
+use Rattle.panel_streams.specs.declared.changes.Changed.the-variants as changes
+use Rattle.panel_streams.specs.Identity.{Declared, identityPaper}
+use Rattle.panel_streams.specs.TypeCounts.{Count, started, notStarted, typeCountsPaper}
+use Rattle.panel_streams.specs.Changed.{changedPaper}
 use Rattle.demands.specs.Calls.{lends, SomeOutcome, Each, calls}
 use Rattle.demands.proofs.Listing.{_and_}
 
@@ -73,6 +79,19 @@ says-reading (accepted (temperature x)) = (dial.Temperature x, refl)
 says-reading (accepted other) = (dial.Other, refl)
 says-reading (accepted absent) = (dial.Absent, refl)
 
+says-identity : (o : Outcome Declared) → Says identityPaper o
+says-identity (refused n) = (named.Refused n, refl)
+says-identity (accepted d) = (named.Declared (d .identifier) (d .held), refl)
+
+says-counts : (o : Outcome Count) → Says typeCountsPaper o
+says-counts (refused n) = (counting.Refused n, refl)
+says-counts (accepted (started seen missing last)) = (counting.Started seen missing last, refl)
+says-counts (accepted notStarted) = (counting.NotStarted, refl)
+
+says-changed : (o : Outcome ℕ) → Says changedPaper o
+says-changed (refused n) = (changes.Refused n, refl)
+says-changed (accepted w) = (changes.Fields w, refl)
+
 -- a field is found at a place, or not
 says-pick : (t : Bool) (xs ys : List ℕ) → Says foundPaper xs → Says foundPaper ys → Says foundPaper (pick t xs ys)
 says-pick true xs ys a b = a
@@ -116,4 +135,8 @@ some-outcome =
     and lent-says _ _ _ says-measured
     and (λ h. says-reading _)
     and lent-says _ _ _ says-measured
+    and (λ h. says-identity _)
+    and (λ h. says-counts _)
+    and lent-says _ _ _ says-measured
+    and (λ h. says-changed _)
     and tt

@@ -10,7 +10,7 @@ use Rattle.words.proofs.Cases.{true-or-false}
 use Rattle.words.proofs.BitLaws.{word-same}
 use Rattle.words.proofs.PartLaws.{part-length, getD-part, part-whole}
 use Rattle.record.specs.Held.{heldMask, holds, heldBits, slotAt}
-use Rattle.record.specs.Layout.{headWords, slotWords, recordWords, identifierOf, heldOf, orderOf, countWords, slotIn, slotsOf, slotOf}
+use Rattle.record.specs.Layout.{headWords, slotWords, recordWords, identifierOf, heldOf, countedTypes, orderOf, countWords, slotIn, slotsOf, slotOf}
 use Rattle.record.specs.Good.{recordGood, Good}
 use Rattle.record.proofs.SlotLaws.{in-order-same, in-order-parts, slots-whole}
 use Rattle.record.proofs.GoodLaws.{good-of}
@@ -20,7 +20,7 @@ use Rattle.table.proofs.WellLaws.{well-whole, well-record}
 use Rattle.page.specs.Layout.{tableFrom}
 use Rattle.words.proofs.PieceLaws.{part-join}
 use Rattle.page.proofs.LayoutLaws.{table-same, table-again}
-use Rattle.demands.specs.Trace.{Arrival, traceOf, own, lastCarried, countedTypes, countsOf, countRule}
+use Rattle.demands.specs.Trace.{Arrival, traceOf, own, lastCarried, countsOf, countRule}
 use Rattle.demands.specs.Right.{heldIn, Right, layoutOf, Determined}
 use Rattle.demands.proofs.HearingLaws.{record-whole}
 use Rattle.demands.proofs.RightLaws.{right-listed}

@@ -14,7 +14,7 @@ use Rattle.packet.specs.Parts.{partsOf, packetOf}
 use Rattle.packet.specs.Read.{headerList, readOf}
 use Rattle.packet.specs.inner.Steps.{headerChecks}
 use Rattle.packet.proofs.ReadLaws.{read-accepts, count-small, body-context}
-use Rattle.record.specs.Layout.{recordWords}
+use Rattle.record.specs.Layout.{recordWords, countedTypes}
 use Rattle.record.specs.After.{recordAfter, addedBy}
 use Rattle.record.proofs.PacketLaws.{after-length}
 use Rattle.table.specs.Layout.{streamsOf, Has, recordAt, withRecord}
@@ -29,7 +29,7 @@ use Rattle.play.specs.Play.{tableAfter, stepOf, playOf}
 use Rattle.play.specs.inner.Steps.{soughtOf}
 use Rattle.play.proofs.PlayLaws.{step-read, play-step}
 use Rattle.play.proofs.KeepLaws.{play-keeps}
-use Rattle.demands.specs.Trace.{Arrival, placeIn, arrivalList, arrivalOf, heardBy, countedTypes}
+use Rattle.demands.specs.Trace.{Arrival, placeIn, arrivalList, arrivalOf, heardBy}
 
 -- ---- what a heard packet is
 

@@ -15,10 +15,15 @@ use Rattle.page.specs.Save.{lengthOf, saveOf}
 use Rattle.page.specs.PutBack.{putBackOf}
 use Rattle.panel.specs.HeldWords.{heldWordsOf}
 use Rattle.panel.specs.Readings.{readingOf}
+use Rattle.panel_streams.specs.Identity.{identityOf}
+use Rattle.panel_streams.specs.TypeCounts.{typeCountsOf}
+use Rattle.panel_streams.specs.OwnTable.{ownTableOf}
+use Rattle.panel_streams.specs.Changed.{changedOf}
 use Rattle.demands.specs.Refusals.{InOrder}
 
 pub in-order : InOrder
 unfolding readBy writeOf startOf playOf saveOf putBackOf readingOf packOf unpackOf signedOf contextOf neededOf trailerWordOf runOf lengthOf heldWordsOf
+    identityOf typeCountsOf ownTableOf changedOf
 in-order = record {
   read = λ ws. record { order = refl; first = refl };
   write = λ p body out at. record { order = refl; first = refl };
@@ -36,4 +41,8 @@ in-order = record {
   playRun = λ t ws from out. record { order = refl; first = refl };
   pageLengthOf = λ t. record { order = refl; first = refl };
   heldWords = λ t stream bit out. record { order = refl; first = refl };
+  identity = λ t stream. record { order = refl; first = refl };
+  counts = λ t stream kind. record { order = refl; first = refl };
+  ownTable = λ t stream out. record { order = refl; first = refl };
+  changed = λ t s u v. record { order = refl; first = refl };
 }

@@ -1,25 +1,32 @@
 -- What is seen is what is held. The idea: no test refuses a stream of the list and a kept field of a right table (`asked`); and what a record shows, or gives
--- as words, is by what it holds (`shows-held`, `words-held`), which the rules fix.
-use Rattle.words.proofs.Kit.{_≡_, refl, sym, ap, _∙_, Bool, true, false, List, [], _++_, ℕ, _+_, _≤_, _<_, arith, lt-ltb, le-ltb, lt-leb, leb, length, drop}
-use mathlib.Core.Option.{some, none}
+-- as words, is by what it holds (`shows-held`, `words-held`), which the rules fix; so are its held indicator (`some-carried`) and its counts (`count-by`).
+use Rattle.words.proofs.Kit.{_≡_, refl, sym, ap, _∙_, Bool, true, false, List, [], _∷_, _++_, ℕ, _+_, _-_, _≤_, _<_, arith, ne-eqb, lt-ltb}
+use Rattle.words.proofs.Kit.{le-ltb, lt-leb, leb, length, drop}
+use mathlib.Core.Option.{Option, some, none}
 use borrow.Author.Tests.{leb-true}
 use Rattle.words.specs.Numbers.{ROOM}
-use Rattle.words.specs.Tests.{pick, among}
+use Rattle.words.specs.Tests.{pick, among, either}
 use Rattle.words.specs.Word.{has}
 use Rattle.words.specs.Part.{part}
 use Rattle.words.specs.Outcome.{refused, accepted}
 use Rattle.words.proofs.Cases.{both-left, both-right}
 use Rattle.words.proofs.RefusalLaws.{None, none-given}
 use Rattle.words.proofs.PartLaws.{part-part}
-use Rattle.record.specs.Layout.{recordWords, heldOf, orderOf, countAt, countWords, slotOf}
+use Rattle.fields.specs.Layout.{fieldOf}
+use Rattle.record.specs.Layout.{recordWords, heldOf, countedTypes, orderOf, countAt, countWords, slotOf, isHeld, heldWordsIn}
 use Rattle.record.proofs.PacketLaws.{order-small}
 use Rattle.table.specs.Layout.{base, recordAt}
-use Rattle.panel.specs.HeldWords.{heldWordsIn, heldWordsOf}
-use Rattle.panel.specs.Readings.{absent, shownOf, isHeld, recordShows, readingList, readingOf}
-use Rattle.demands.specs.Trace.{traceOf, own, kept, lastCarried, countedTypes, countsOf, countRule}
+use Rattle.table.specs.Identifiers.{listed}
+use Rattle.table.specs.Stream.{streamNumberList}
+use Rattle.table.proofs.RecordLaws.{record-identifier}
+use Rattle.panel.specs.HeldWords.{heldWordsOf}
+use Rattle.panel.specs.Readings.{absent, shownOf, recordShows, readingList, readingOf}
+use Rattle.panel_streams.specs.Identity.{Declared, declaredIn, identityOf}
+use Rattle.panel_streams.specs.TypeCounts.{countIn, typeCountIn, typeCountsOf}
+use Rattle.demands.specs.Trace.{Arrival, traceOf, own, kept, carries, valueCarried, orElse, lastCarried, countsOf, lastCount, countRule}
 use Rattle.demands.specs.Program.{ours}
 use Rattle.demands.specs.Right.{heldIn, Right}
-use Rattle.demands.specs.PanelShows.{shownBy, wordsBy, PanelShows}
+use Rattle.demands.specs.PanelShows.{shownBy, wordsBy, someCarried, countBy, PanelShows}
 use Rattle.demands.proofs.Listing.{_and_}
 
 -- ---- a record
@@ -39,6 +46,38 @@ shows-held b r = by-value b (has (heldOf r) b) (slotOf b r)
 words-held : (b : ℕ) (r : List ℕ) → heldWordsIn b r ≡ wordsBy (heldIn b r)
 unfolding heldWordsIn isHeld
 words-held b r = by-words (has (heldOf r) b) (slotOf b r)
+
+-- ---- whether a field was carried, and a count
+
+isSome : {A : Type 0} → Option A → Bool
+isSome none = false
+isSome (some a) = true
+
+some-pick : {A : Type 0} (t : Bool) (a : A) → isSome (pick t (some a) none) ≡ t
+unfolding isSome
+some-pick true a = refl
+some-pick false a = refl
+
+some-else : {A : Type 0} (x y : Option A) → isSome (orElse x y) ≡ either (isSome y) (isSome x)
+unfolding isSome
+some-else none none = refl
+some-else none (some b) = refl
+some-else (some a) none = refl
+some-else (some a) (some b) = refl
+
+some-carried : (b : ℕ) (packets : List Arrival) → isSome (lastCarried b packets) ≡ someCarried b packets
+unfolding isSome
+some-carried b [] = refl
+some-carried b (a ∷ later) =
+    some-else (lastCarried b later) (valueCarried b a) ∙ rw (some-pick (carries b a) (fieldOf b (a .body)), some-carried b later)
+
+count-by : (counts : List ℕ) → countIn (countRule counts) ≡ countBy counts
+unfolding countIn
+count-by [] = refl
+count-by (c ∷ later) =
+    let n : lastCount c later + 1 ≡ 0 → ⊥ = λ e. omega (arith, e) in
+    let m : lastCount c later + 1 - 1 ≡ lastCount c later = omega arith in
+    rw (ne-eqb (lastCount c later + 1) 0 n, m)
 
 -- ---- a right table
 
@@ -73,5 +112,32 @@ module _ (ids : List ℕ) (packets : List (List ℕ)) (t : List ℕ) (r : Right 
   counts-stand kind o =
       sym (part-part (countAt (orderOf kind)) 3 (base s) recordWords t (omega (arith, order-small kind))) ∙ r .counts s h kind o
 
+  known : None (streamNumberList t s)
+  known = (rw (r .made)) and (rw (r .streams, lt-leb (length ids) s h)) and tt
+
+  pub counts-said : (kind : ℕ) → among kind countedTypes ≡ true → typeCountsOf t s kind ≡ accepted (countBy (countsOf kind (own s (traceOf ids packets))))
+  unfolding typeCountsOf typeCountIn
+  counts-said kind o =
+      none-given (streamNumberList t s) _ known ∙ rw o (ap accepted (ap countIn (r .counts s h kind o) ∙ count-by (countsOf kind (own s (traceOf ids packets)))))
+
+  pub identified : (d : Declared) × (identityOf t s ≡ accepted d) × (d .identifier ≡ listed ids s)
+      × ((b : ℕ) → has (d .held) b ≡ someCarried b (own s (traceOf ids packets)))
+  unfolding identityOf declaredIn
+  identified = (
+    declaredIn (recordAt s t),
+    none-given (streamNumberList t s) _ known,
+    record-identifier s t ∙ r .list s h,
+    λ b.
+        sym (some-pick (has (heldOf (recordAt s t)) b) (slotOf b (recordAt s t))) ∙ ap isSome (r .held s h b)
+        ∙ some-carried b (own s (traceOf ids packets)),
+  )
+
   pub shows : PanelShows ours ids packets t s
-  shows = record { reading = shown; heldWords = held-words-last; no-room = held-words-room; counts = counts-stand }
+  shows = record {
+    reading = shown;
+    heldWords = held-words-last;
+    no-room = held-words-room;
+    counts = counts-stand;
+    typeCounts = counts-said;
+    identity = identified;
+  }

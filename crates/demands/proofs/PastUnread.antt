@@ -12,16 +12,17 @@ use Rattle.words.specs.Part.{put}
 use Rattle.words.specs.Outcome.{Outcome, refused, accepted, onward, Done, saidOf, leftOf}
 use Rattle.words.specs.Refusals.{firstGiven}
 use Rattle.words.proofs.Cases.{le-or-lt, true-or-false}
-use Rattle.words.proofs.RefusalLaws.{first-same}
+use Rattle.words.proofs.RefusalLaws.{either-passed, first-same}
 use Rattle.words.proofs.AllLaws.{all-same, first-one}
 use Rattle.words.proofs.PartLaws.{part-within}
 use Rattle.packet.specs.declared.Packet.{Packet}
 use Rattle.packet.specs.Read.{readOf}
-use Rattle.record.specs.Layout.{recordWords}
+use Rattle.record.specs.Layout.{recordWords, heldWordsIn}
 use Rattle.record.specs.Good.{recordGood}
 use Rattle.table.specs.Layout.{streamsOf, base, layoutWords, recordAt, withRecord}
 use Rattle.table.specs.Identifiers.{declared, streamOf}
 use Rattle.table.specs.Well.{recordGoodAt, wellMade}
+use Rattle.table.specs.Stream.{streamNumberList}
 use Rattle.table.proofs.ListLaws.{list-same, stream-is}
 use Rattle.play.specs.declared.Heard.{Heard}
 use Rattle.play.specs.declared.run.Reached.{Reached}
@@ -34,8 +35,12 @@ use Rattle.play.proofs.KeepLaws.{play-keeps}
 use Rattle.page.specs.Layout.{savedBody, pageOf, pageLength}
 use Rattle.page.specs.Save.{lengthOf, saveOf}
 use Rattle.page.proofs.LayoutLaws.{page-same, page-length}
-use Rattle.panel.specs.HeldWords.{heldWordsIn, copyList, heldWordsOf}
+use Rattle.panel.specs.HeldWords.{copyList, heldWordsOf}
 use Rattle.panel.specs.Readings.{recordShows, readingList, readingOf}
+use Rattle.panel_streams.specs.Identity.{declaredIn, identityOf}
+use Rattle.panel_streams.specs.TypeCounts.{typeList, typeCountIn, typeCountsOf}
+use Rattle.panel_streams.specs.OwnTable.{ownDone, ownList, ownTableOf}
+use Rattle.panel_streams.specs.Changed.{changedIn, changedList, changedOf}
 use Rattle.demands.specs.Program.{ours}
 use Rattle.demands.specs.PastUnread.{IsLayout, PastUnread}
 
@@ -152,6 +157,43 @@ module _ (l x : List ℕ) (e : IsLayout l) where
       (accepted (record { says = length (heldWordsIn bit r); leaves = heldWordsIn bit r ++ drop (length (heldWordsIn bit r)) out })))
       (shows-alone stream (k .1 .0))))
 
+  -- ---- what a table says of a stream
+
+  -- whatever is asked of a stream's record
+  asked-alone : {A : Type 0} (stream : ℕ) (f : List ℕ → Outcome A)
+      → firstGiven (streamNumberList (l ++ x) stream) (f (recordAt stream (l ++ x))) ≡ firstGiven (streamNumberList l stream) (f (recordAt stream l))
+  asked-alone stream f = rw (well-alone, streams-alone) (first-same (streamNumberList l stream) _ _ (λ k. ap f (shows-alone stream (k .1 .0))))
+
+  identity-alone : (stream : ℕ) → identityOf (l ++ x) stream ≡ identityOf l stream
+  unfolding identityOf
+  identity-alone stream = asked-alone stream (λ r. accepted (declaredIn r))
+
+  counts-alone : (stream kind : ℕ) → typeCountsOf (l ++ x) stream kind ≡ typeCountsOf l stream kind
+  unfolding typeCountsOf
+  counts-alone stream kind = asked-alone stream (λ r. firstGiven (typeList kind) (accepted (typeCountIn kind r)))
+
+  own-alone : (stream : ℕ) (out : List ℕ) → ownTableOf (l ++ x) stream out ≡ ownTableOf l stream out
+  unfolding ownTableOf
+  own-alone stream out = asked-alone stream (λ r. firstGiven (ownList out) (accepted (ownDone r out)))
+
+  before-alone : (stream : ℕ) (u : List ℕ) (other : ℕ) → changedOf (l ++ x) stream u other ≡ changedOf l stream u other
+  unfolding changedOf
+  before-alone stream u other =
+      rw (well-alone, streams-alone)
+      (first-same (changedList l stream u other) _ _
+      (λ k.
+      ap (λ (r : List ℕ). accepted (changedIn r (recordAt other u)))
+      (shows-alone stream (either-passed (leb (streamsOf l) stream) (leb (streamsOf u) other) (k .1 .0) .0))))
+
+  after-alone : (t : List ℕ) (stream other : ℕ) → changedOf t stream (l ++ x) other ≡ changedOf t stream l other
+  unfolding changedOf
+  after-alone t stream other =
+      rw (well-alone, streams-alone)
+      (first-same (changedList t stream l other) _ _
+      (λ k.
+      ap (λ (r : List ℕ). accepted (changedIn (recordAt stream t) r))
+      (shows-alone other (either-passed (leb (streamsOf t) stream) (leb (streamsOf l) other) (k .1 .0) .1))))
+
 -- ---- a run
 
 -- the walk of the longer table, and that of the layout alone
@@ -225,4 +267,9 @@ past-unread l x e = record {
   save = λ page. rw (well-alone l x e, length-alone l x e, page-alone l x e);
   reading = reading-alone l x e;
   heldWords = held-alone l x e;
+  identity = identity-alone l x e;
+  counts = counts-alone l x e;
+  ownTable = own-alone l x e;
+  changed-before = before-alone l x e;
+  changed-after = after-alone l x e;
 }

@@ -12,32 +12,21 @@ use Rattle.words.proofs.Cases.{same-test, true-or-false, true-is-false, same-or
 use Rattle.words.proofs.SetBitLaws.{has-above}
 use Rattle.fields.specs.Layout.{indicatorOf, fieldOf}
 use Rattle.record.specs.Held.{holds}
-use Rattle.record.specs.Layout.{recordWords, heldOf, orderOf, countWords, slotOf}
+use Rattle.record.specs.Layout.{recordWords, heldOf, countedTypes, orderOf, countWords, slotOf}
 use Rattle.record.specs.Counts.{countedOf}
 use Rattle.record.specs.After.{slotAfter, recordAfter}
 use Rattle.record.specs.Good.{recordGood}
 use Rattle.record.proofs.SlotLaws.{held-low, held-high, held-all}
 use Rattle.record.proofs.AfterLaws.{held-bit}
+use Rattle.record.proofs.CountLaws.{by-types}
 use Rattle.record.proofs.GoodLaws.{good-of}
 use Rattle.record.proofs.PacketLaws.{order-small, after-length, after-slot, after-held, after-count, after-other, after-good}
 use Rattle.table.specs.Start.{freshRecord}
-use Rattle.demands.specs.Trace.{Arrival, kept, valueCarried, orElse, countedTypes}
+use Rattle.demands.specs.Trace.{Arrival, kept, valueCarried, orElse}
 use Rattle.demands.specs.Right.{heldIn}
 use Rattle.demands.proofs.HearingLaws.{Heeded}
 
 -- ---- the types that are counted
-
--- a number is one of four, or none of them
-pub by-types : (C : ℕ → Type 0) → C 1 → C 3 → C 4 → C 5 → (kind : ℕ) → among kind countedTypes ≡ true → C kind
-by-types C x y z w kind e =
-    ⊎-elim (λ (h : kind ≡ 1). rw h x)
-    (λ h. ⊎-elim (λ (i : kind ≡ 3). rw i y)
-    (λ i. ⊎-elim (λ (j : kind ≡ 4). rw j z)
-    (λ j. ⊎-elim (λ (k : kind ≡ 5). rw k w)
-    (λ k.
-    let n : among kind countedTypes ≡ false = rw (ne-eqb kind 1 h, ne-eqb kind 3 i, ne-eqb kind 4 j, ne-eqb kind 5 k) in
-    absurd (true-is-false (sym e ∙ n)))
-    (same-or-not kind 5)) (same-or-not kind 4)) (same-or-not kind 3)) (same-or-not kind 1)
 
 typeAt : ℕ → ℕ
 typeAt zero = 1

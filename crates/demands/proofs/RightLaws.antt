@@ -8,7 +8,7 @@ use Rattle.words.specs.Tests.{pick, among}
 use Rattle.words.specs.Outcome.{Outcome, refused, accepted, onward, Done, saidOf, leftOf}
 use Rattle.words.proofs.Cases.{accepted-same, same-or-not}
 use Rattle.words.proofs.RefusalLaws.{first-passed}
-use Rattle.record.specs.Layout.{orderOf, countWords, lastOf}
+use Rattle.record.specs.Layout.{countedTypes, orderOf, countWords, lastOf}
 use Rattle.record.specs.Counts.{addedOf, countedOf, addedTo}
 use Rattle.record.specs.After.{addedBy}
 use Rattle.table.specs.Layout.{streamsOf, base, recordAt}
@@ -20,7 +20,7 @@ use Rattle.play.specs.declared.Heard.{Heard}
 use Rattle.play.specs.Play.{playOf}
 use Rattle.play.proofs.KeepLaws.{play-keeps}
 use Rattle.demands.specs.Trace.{Arrival, Trace, heardBy, traceOf, own, valueCarried, orElse, lastCarried}
-use Rattle.demands.specs.Trace.{countedTypes, countsOf, countRule, answerTo, answersAfter}
+use Rattle.demands.specs.Trace.{countsOf, countRule, answerTo, answersAfter}
 use Rattle.demands.specs.Program.{ours, playAll, saidAll}
 use Rattle.demands.specs.Right.{heldIn, Right, pastOf}
 use Rattle.demands.proofs.RuleLaws.{own-append, last-more, counts-append, added-by-last, rule-more}

@@ -41,6 +41,14 @@ use Rattle.panel.proofs.reading.Statement as reading
 use Rattle.panel.proofs.reading.Met as reading-met
 use Rattle.panel.proofs.held_words.Statement as held_words
 use Rattle.panel.proofs.held_words.Met as held_words-met
+use Rattle.panel_streams.proofs.identity.Statement as identity
+use Rattle.panel_streams.proofs.identity.Met as identity-met
+use Rattle.panel_streams.proofs.counts.Statement as counts
+use Rattle.panel_streams.proofs.counts.Met as counts-met
+use Rattle.panel_streams.proofs.own_table.Statement as own_table
+use Rattle.panel_streams.proofs.own_table.Met as own_table-met
+use Rattle.panel_streams.proofs.changed.Statement as changed
+use Rattle.panel_streams.proofs.changed.Met as changed-met
 use Rattle.demands.specs.Sources.{Sources}
 
 pub sources : Sources
@@ -65,6 +73,10 @@ sources = record {
   putBack = (λ κs a. tt, λ κs a z ws. refl);
   reading = (λ κs a. tt, λ κs a z ws. refl);
   heldWords = (λ κs a. tt, λ κs a z ws. refl);
+  identity = (λ κs a. tt, λ κs a z ws. refl);
+  counts = (λ κs a. tt, λ κs a z ws. refl);
+  ownTable = (λ κs a. tt, λ κs a z ws. refl);
+  changed = (λ κs a. tt, λ κs a z ws. refl);
 }
 
 -- ---- the code keeps its promises
@@ -128,3 +140,15 @@ reading-kept = reading-met.met
 
 pub held-words-kept : {M : Type 1} → held_words.statement M
 held-words-kept = held_words-met.met
+
+pub identity-kept : {M : Type 1} → identity.statement M
+identity-kept = identity-met.met
+
+pub counts-kept : {M : Type 1} → counts.statement M
+counts-kept = counts-met.met
+
+pub own-table-kept : {M : Type 1} → own_table.statement M
+own-table-kept = own_table-met.met
+
+pub changed-kept : {M : Type 1} → changed.statement M
+changed-kept = changed-met.met

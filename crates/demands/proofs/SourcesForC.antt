@@ -41,6 +41,14 @@ use Rattle.vrt49.proofs.vrt49_reading.Statement as reading
 use Rattle.vrt49.proofs.vrt49_reading.Met as reading-met
 use Rattle.vrt49.proofs.vrt49_held_words.Statement as held_words
 use Rattle.vrt49.proofs.vrt49_held_words.Met as held_words-met
+use Rattle.vrt49.proofs.vrt49_identity.Statement as identity
+use Rattle.vrt49.proofs.vrt49_identity.Met as identity-met
+use Rattle.vrt49.proofs.vrt49_counts.Statement as counts
+use Rattle.vrt49.proofs.vrt49_counts.Met as counts-met
+use Rattle.vrt49.proofs.vrt49_own_table.Statement as own_table
+use Rattle.vrt49.proofs.vrt49_own_table.Met as own_table-met
+use Rattle.vrt49.proofs.vrt49_changed.Statement as changed
+use Rattle.vrt49.proofs.vrt49_changed.Met as changed-met
 use Rattle.demands.specs.SourcesForC.{SourcesForC}
 
 pub sources-for-c : SourcesForC
@@ -65,6 +73,10 @@ sources-for-c = record {
   putBack = (λ κs a. tt, λ κs a z ws. refl);
   reading = (λ κs a. tt, λ κs a z ws. refl);
   heldWords = (λ κs a. tt, λ κs a z ws. refl);
+  identity = (λ κs a. tt, λ κs a z ws. refl);
+  counts = (λ κs a. tt, λ κs a z ws. refl);
+  ownTable = (λ κs a. tt, λ κs a z ws. refl);
+  changed = (λ κs a. tt, λ κs a z ws. refl);
 }
 
 -- ---- the code keeps its promises
@@ -128,3 +140,15 @@ for-c-reading-kept = reading-met.met
 
 pub for-c-held-words-kept : {M : Type 1} → held_words.statement M
 for-c-held-words-kept = held_words-met.met
+
+pub for-c-identity-kept : {M : Type 1} → identity.statement M
+for-c-identity-kept = identity-met.met
+
+pub for-c-counts-kept : {M : Type 1} → counts.statement M
+for-c-counts-kept = counts-met.met
+
+pub for-c-own-table-kept : {M : Type 1} → own_table.statement M
+for-c-own-table-kept = own_table-met.met
+
+pub for-c-changed-kept : {M : Type 1} → changed.statement M
+for-c-changed-kept = changed-met.met

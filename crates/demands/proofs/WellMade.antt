@@ -12,7 +12,7 @@ use Rattle.words.proofs.Cases.{le-or-lt, true-or-false, true-is-false}
 use Rattle.words.proofs.BitLaws.{has-low, word-same}
 use Rattle.words.proofs.SetBitLaws.{has-above}
 use Rattle.record.specs.Held.{holds}
-use Rattle.record.specs.Layout.{heldOf, orderOf, countWords, seenOf, missingOf, lastOf}
+use Rattle.record.specs.Layout.{heldOf, countedTypes, orderOf, countWords, seenOf, missingOf, lastOf}
 use Rattle.record.specs.Good.{GoodCount, Good}
 use Rattle.record.proofs.PacketLaws.{order-small}
 use Rattle.record.proofs.SlotLaws.{held-not, held-all}
@@ -23,7 +23,6 @@ use Rattle.page.specs.Layout.{bodiesIn, tableOf}
 use Rattle.page.specs.Good.{pageGood}
 use Rattle.page.specs.PutBack.{putBackOf}
 use Rattle.page.proofs.Exact.{page-exact}
-use Rattle.demands.specs.Trace.{countedTypes}
 use Rattle.demands.specs.WellMade.{RecordClauses, TableClauses, SavedBySome, Judged}
 use Rattle.demands.proofs.RecordLaws.{kept-same}
 use Rattle.demands.proofs.Resumed.{saves-as, saved-page}

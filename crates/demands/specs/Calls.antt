@@ -22,6 +22,10 @@ use Rattle.page.specs.PutBack.{putBackOf}
 use Rattle.page.specs.Save.{lengthOf, saveOf}
 use Rattle.panel.specs.HeldWords.{heldWordsOf}
 use Rattle.panel.specs.Readings.{readingOf, readingPaper}
+use Rattle.panel_streams.specs.Identity.{identityOf, identityPaper}
+use Rattle.panel_streams.specs.TypeCounts.{typeCountsOf, typeCountsPaper}
+use Rattle.panel_streams.specs.OwnTable.{ownTableOf}
+use Rattle.panel_streams.specs.Changed.{changedOf, changedPaper}
 use Rattle.vrt49.specs.Answers.{plain}
 
 -- a call that answers alone, and one that is lent words: how its answers read on paper, what is wanted by what it is handed, and which words are lent
@@ -120,10 +124,24 @@ readingCall = answers readingPaper (λ (h : List ℕ × ℕ × ℕ). readingOf (
 abbrev pub heldWordsCall : Call
 heldWordsCall = lends measured (λ (h : List ℕ × ℕ × ℕ × List ℕ). heldWordsOf (h .0) (h .1) (h .2) (h .3)) (λ h. h .3)
 
+-- panel_streams::identity, counts, own_table, changed
+abbrev pub identityCall : Call
+identityCall = answers identityPaper (λ (h : List ℕ × ℕ). identityOf (h .0) (h .1))
+
+abbrev pub countsCall : Call
+countsCall = answers typeCountsPaper (λ (h : List ℕ × ℕ × ℕ). typeCountsOf (h .0) (h .1) (h .2))
+
+abbrev pub ownTableCall : Call
+ownTableCall = lends measured (λ (h : List ℕ × ℕ × List ℕ). ownTableOf (h .0) (h .1) (h .2)) (λ h. h .2)
+
+abbrev pub changedCall : Call
+changedCall = answers changedPaper (λ (h : List ℕ × ℕ × List ℕ × ℕ). changedOf (h .0) (h .1) (h .2) (h .3))
+
 unfoldable pub calls : List {1} Call
 calls =
     fieldCountCall ∷ checkBodyCall ∷ findCall
     ∷ readCall ∷ writeCall ∷ trailerPartsCall ∷ trailerWordCall
     ∷ wordsNeededCall ∷ unpackCall ∷ packCall ∷ signedCall
     ∷ startCall ∷ wellMadeCall ∷ playCall ∷ playRunCall
-    ∷ pageLengthCall ∷ saveCall ∷ putBackCall ∷ readingCall ∷ heldWordsCall ∷ []
+    ∷ pageLengthCall ∷ saveCall ∷ putBackCall ∷ readingCall ∷ heldWordsCall
+    ∷ identityCall ∷ countsCall ∷ ownTableCall ∷ changedCall ∷ []

@@ -1,15 +1,19 @@
 -- What the panel and the caller see is what is held: `reading` and `held_words` answer by the value in the last accepted Context packet of the stream that
--- carried the field, "and nothing if none did"; and the counts stand in the table's words.
-use Rattle.words.specs.Kit.{_≡_, ℕ, _+_, _≤_, _<_, true, List, [], _++_, length, drop}
+-- carried the field, "and nothing if none did"; `counts` by its own accepted packets; `identity` by the list and by which fields were carried.
+use Rattle.words.specs.Kit.{_≡_, ℕ, _+_, _%_, _^_, _≤_, _<_, Bool, true, false, List, [], _∷_, _++_, length, drop}
 use mathlib.Core.Option.{Option, none, some}
 use Rattle.words.specs.Numbers.{ROOM}
-use Rattle.words.specs.Tests.{among}
+use Rattle.words.specs.Tests.{among, either}
+use Rattle.words.specs.Word.{has}
 use Rattle.words.specs.Part.{part}
 use Rattle.words.specs.Outcome.{refused, accepted}
-use Rattle.record.specs.Layout.{orderOf, countAt}
+use Rattle.record.specs.Layout.{countedTypes, orderOf, countAt}
 use Rattle.table.specs.Layout.{base}
+use Rattle.table.specs.Identifiers.{listed}
 use Rattle.panel.specs.Readings.{Reading, absent, shownOf}
-use Rattle.demands.specs.Trace.{traceOf, own, kept, lastCarried, countedTypes, countsOf, countRule}
+use Rattle.panel_streams.specs.Identity.{Declared}
+use Rattle.panel_streams.specs.TypeCounts.{Count, started, notStarted}
+use Rattle.demands.specs.Trace.{Arrival, traceOf, own, kept, carries, lastCarried, countsOf, lastCount, missed, countRule}
 use Rattle.demands.specs.Program.{Program}
 
 -- what a reading shows of the field of bit b, by the value that was carried, if one was
@@ -21,6 +25,16 @@ shownBy b (some v) = shownOf b v
 abbrev pub wordsBy : Option (List ℕ) → List ℕ
 wordsBy none = []
 wordsBy (some v) = v
+
+-- some of these packets carried the field of bit b
+abbrev pub someCarried : ℕ → List Arrival → Bool
+someCarried b [] = false
+someCarried b (a ∷ later) = either (carries b a) (someCarried b later)
+
+-- a count, by the counts of the packets of its type: seen and missing "kept modulo 2^32, and the last count"; or not started
+abbrev pub countBy : List ℕ → Count
+countBy [] = notStarted
+countBy (c ∷ later) = started (length (c ∷ later) % 2 ^ 32) (missed (c ∷ later) % 2 ^ 32) (lastCount c later)
 
 -- of stream s, in a table t that is right for the packets
 pub record PanelShows (P : Program) (ids : List ℕ) (packets : List (List ℕ)) (t : List ℕ) (s : ℕ) : Type 0 where
@@ -34,3 +48,8 @@ pub record PanelShows (P : Program) (ids : List ℕ) (packets : List (List ℕ))
   -- seen, missing and last plus one or 0, where docs/LAYOUT.md says that they stand
   pub counts : (kind : ℕ) → among kind countedTypes ≡ true
       → part (base s + countAt (orderOf kind)) 3 t ≡ countRule (countsOf kind (own s (traceOf ids packets)))
+  -- and as `counts` answers them
+  pub typeCounts : (kind : ℕ) → among kind countedTypes ≡ true → P .counts t s kind ≡ accepted (countBy (countsOf kind (own s (traceOf ids packets))))
+  -- the list's identifier; and a bit of the held indicator is set exactly where some accepted Context packet of the stream carried the field
+  pub identity : (d : Declared) × (P .identity t s ≡ accepted d) × (d .identifier ≡ listed ids s)
+      × ((b : ℕ) → has (d .held) b ≡ someCarried b (own s (traceOf ids packets)))

@@ -21,9 +21,15 @@ pub record PastUnread (P : Program) (l x : List ℕ) : Type 0 where
       (saidOf longer ≡ saidOf alone)
       × (leftOf longer (l ++ x, answers) .0 ≡ leftOf alone (l, answers) .0 ++ x)
       × (leftOf longer (l ++ x, answers) .1 ≡ leftOf alone (l, answers) .1)
-  -- a table that is read: the answer, and what is left in the buffer for a page or for words, are the same
+  -- a table that is read: the answer, and what is left in the buffer for a page, for words or for a table, are the same
   pub wellMade : P .wellMade (l ++ x) ≡ P .wellMade l
   pub pageLength : P .pageLength (l ++ x) ≡ P .pageLength l
   pub save : (page : List ℕ) → P .save (l ++ x) page ≡ P .save l page
   pub reading : (stream bit : ℕ) → P .reading (l ++ x) stream bit ≡ P .reading l stream bit
   pub heldWords : (stream bit : ℕ) (out : List ℕ) → P .heldWords (l ++ x) stream bit out ≡ P .heldWords l stream bit out
+  pub identity : (stream : ℕ) → P .identity (l ++ x) stream ≡ P .identity l stream
+  pub counts : (stream kind : ℕ) → P .counts (l ++ x) stream kind ≡ P .counts l stream kind
+  pub ownTable : (stream : ℕ) (out : List ℕ) → P .ownTable (l ++ x) stream out ≡ P .ownTable l stream out
+  -- the table before, and the table after
+  pub changed-before : (stream : ℕ) (u : List ℕ) (other : ℕ) → P .changed (l ++ x) stream u other ≡ P .changed l stream u other
+  pub changed-after : (t : List ℕ) (stream other : ℕ) → P .changed t stream (l ++ x) other ≡ P .changed t stream l other

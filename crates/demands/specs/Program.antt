@@ -19,6 +19,10 @@ use Rattle.page.specs.Save.{lengthOf, saveOf}
 use Rattle.page.specs.PutBack.{putBackOf}
 use Rattle.panel.specs.HeldWords.{heldWordsOf}
 use Rattle.panel.specs.Readings.{Reading, readingOf}
+use Rattle.panel_streams.specs.Identity.{Declared, identityOf}
+use Rattle.panel_streams.specs.TypeCounts.{Count, typeCountsOf}
+use Rattle.panel_streams.specs.OwnTable.{ownTableOf}
+use Rattle.panel_streams.specs.Changed.{changedOf}
 
 -- what its calls answer, each by the words that it is handed; `Done` has what an accepted call says and the lent words afterwards. `find` gives the place of a
 -- field and its number of words, or nothing
@@ -37,6 +41,10 @@ pub record Program : Type 0 where
   pub putBack : (page table : List ℕ) → Outcome (Done ℕ (List ℕ))
   pub reading : (table : List ℕ) (stream bit : ℕ) → Outcome Reading
   pub heldWords : (table : List ℕ) (stream bit : ℕ) (out : List ℕ) → Outcome (Done ℕ (List ℕ))
+  pub identity : (table : List ℕ) (stream : ℕ) → Outcome Declared
+  pub counts : (table : List ℕ) (stream kind : ℕ) → Outcome Count
+  pub ownTable : (table : List ℕ) (stream : ℕ) (out : List ℕ) → Outcome (Done ℕ (List ℕ))
+  pub changed : (before : List ℕ) (stream : ℕ) (after : List ℕ) (other : ℕ) → Outcome ℕ
 
 -- this project's, by the definitions that the promises cite
 abbrev pub ours : Program
@@ -55,6 +63,10 @@ ours = record {
   putBack = putBackOf;
   reading = readingOf;
   heldWords = heldWordsOf;
+  identity = identityOf;
+  counts = typeCountsOf;
+  ownTable = ownTableOf;
+  changed = changedOf;
 }
 
 -- an answer is accepted

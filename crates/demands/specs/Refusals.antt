@@ -18,16 +18,22 @@ use Rattle.payload_pack.specs.Pack.{packed, packList, packOf}
 use Rattle.words.specs.Signed.{twosComplement}
 use Rattle.payload_format.specs.Signs.{signedList, signedOf}
 use Rattle.payload_unpack.specs.Unpack.{Buffers, unpacked, unpackList, unpackOf}
+use Rattle.record.specs.Layout.{heldWordsIn}
 use Rattle.table.specs.Layout.{base, recordAt}
 use Rattle.table.specs.Identifiers.{streamOf}
+use Rattle.table.specs.Stream.{streamNumberList}
 use Rattle.table.specs.Start.{freshTable, startList, startOf}
 use Rattle.play.specs.Play.{heardDone, tableList, playList, playOf}
 use Rattle.play.specs.Run.{wholeWalk, reachedOf, answersOf, runOf}
 use Rattle.page.specs.Layout.{pageOf, pageLength, bodiesIn, tableOf}
 use Rattle.page.specs.Save.{lengthList, saveList, lengthOf, saveOf}
 use Rattle.page.specs.PutBack.{putBackList, putBackOf}
-use Rattle.panel.specs.HeldWords.{heldWordsIn, heldWordsList, heldWordsOf}
+use Rattle.panel.specs.HeldWords.{heldWordsList, heldWordsOf}
 use Rattle.panel.specs.Readings.{recordShows, readingList, readingOf}
+use Rattle.panel_streams.specs.Identity.{declaredIn, identityOf}
+use Rattle.panel_streams.specs.TypeCounts.{typeCountIn, typeCountsList, typeCountsOf}
+use Rattle.panel_streams.specs.OwnTable.{ownDone, ownTableList, ownTableOf}
+use Rattle.panel_streams.specs.Changed.{changedIn, changedList, changedOf}
 
 -- a call's list has these numbers in this order; the call gives the first of the list that applies, and is else accepted with this answer
 pub record Ordered {A : Type 0} (call : Outcome A) (numbers : List ℕ) (list : Refusals) (answer : A) : Type 0 where
@@ -79,3 +85,12 @@ pub record InOrder : Type 0 where
   pub heldWords : (t : List ℕ) (stream bit : ℕ) (out : List ℕ) → let ws = heldWordsIn bit (recordAt stream t) in
       Ordered (heldWordsOf t stream bit out) (TABLE ∷ STREAM ∷ VALUE ∷ ROOM ∷ []) (heldWordsList t stream bit out)
       (record { says = length ws; leaves = ws ++ drop (length ws) out })
+  -- what a table says of a stream: TABLE and STREAM as a reading, then VALUE of a type, or ROOM; of two tables, each of either
+  pub identity : (t : List ℕ) (stream : ℕ)
+      → Ordered (identityOf t stream) (TABLE ∷ STREAM ∷ []) (streamNumberList t stream) (declaredIn (recordAt stream t))
+  pub counts : (t : List ℕ) (stream kind : ℕ)
+      → Ordered (typeCountsOf t stream kind) (TABLE ∷ STREAM ∷ VALUE ∷ []) (typeCountsList t stream kind) (typeCountIn kind (recordAt stream t))
+  pub ownTable : (t : List ℕ) (stream : ℕ) (out : List ℕ)
+      → Ordered (ownTableOf t stream out) (TABLE ∷ STREAM ∷ ROOM ∷ []) (ownTableList t stream out) (ownDone (recordAt stream t) out)
+  pub changed : (t : List ℕ) (s : ℕ) (u : List ℕ) (v : ℕ)
+      → Ordered (changedOf t s u v) (TABLE ∷ STREAM ∷ []) (changedList t s u v) (changedIn (recordAt s t) (recordAt v u))

@@ -4,11 +4,11 @@ use mathlib.Core.Logic.{_↔_}
 use mathlib.Core.Option.{Option, none, some}
 use Rattle.words.specs.Tests.{pick, among}
 use Rattle.words.specs.Word.{has}
-use Rattle.record.specs.Layout.{heldOf, orderOf, countWords, slotOf}
+use Rattle.record.specs.Layout.{heldOf, countedTypes, orderOf, countWords, slotOf}
 use Rattle.table.specs.Layout.{streamsOf, base, recordAt}
 use Rattle.table.specs.Identifiers.{listed, declared}
 use Rattle.table.specs.Well.{wellMade}
-use Rattle.demands.specs.Trace.{Arrival, traceOf, own, lastCarried, NoneCarried, LastCarried, countedTypes, countsOf, countRule}
+use Rattle.demands.specs.Trace.{Arrival, traceOf, own, lastCarried, NoneCarried, LastCarried, countsOf, countRule}
 
 -- the value of the field of bit b that a record holds, if it does
 abbrev pub heldIn : ℕ → List ℕ → Option (List ℕ)

@@ -47,10 +47,19 @@ use Rattle.panel.proofs.reading.Kinds as reading-kinds
 use Rattle.panel.proofs.reading.Reads as reading
 use Rattle.panel.proofs.held_words.Kinds as held_words-kinds
 use Rattle.panel.proofs.held_words.Reads as held_words
+use Rattle.panel_streams.proofs.identity.Kinds as identity-kinds
+use Rattle.panel_streams.proofs.identity.Reads as identity
+use Rattle.panel_streams.proofs.counts.Kinds as counts-kinds
+use Rattle.panel_streams.proofs.counts.Reads as counts
+use Rattle.panel_streams.proofs.own_table.Kinds as own_table-kinds
+use Rattle.panel_streams.proofs.own_table.Reads as own_table
+use Rattle.panel_streams.proofs.changed.Kinds as changed-kinds
+use Rattle.panel_streams.proofs.changed.Reads as changed
 use Rattle.demands.specs.Calls.{Call, answers, lends}
 use Rattle.demands.specs.Calls.{fieldCountCall, checkBodyCall, findCall, readCall, writeCall, trailerPartsCall, trailerWordCall}
 use Rattle.demands.specs.Calls.{wordsNeededCall, unpackCall, packCall, signedCall, startCall, wellMadeCall, playCall}
 use Rattle.demands.specs.Calls.{playRunCall, pageLengthCall, saveCall, putBackCall, readingCall, heldWordsCall}
+use Rattle.demands.specs.Calls.{identityCall, countsCall, ownTableCall, changedCall}
 
 -- what a call is handed, what it answers, and the lent words
 abbrev pub Handed : Call → Type 0
@@ -148,3 +157,15 @@ pub record Sources : Type 1 where
   -- panel::held_words
   pub heldWords : Source heldWordsCall held_words-kinds.ps held_words-kinds.r held_words.Asked held_words.Learnt
       (λ κs a. (a .0 .now, a .1 .0, a .1 .1 .0, a .1 .1 .1 .0 .now)) (λ κs z. z) (λ κs a ws. ws .1 .1 .1 .0)
+  -- panel_streams::identity
+  pub identity : Source identityCall identity-kinds.ps identity-kinds.r identity.Asked identity.Learnt
+      (λ κs a. (a .0 .now, a .1 .0)) (λ κs z. z) (λ κs a ws. tt)
+  -- panel_streams::counts
+  pub counts : Source countsCall counts-kinds.ps counts-kinds.r counts.Asked counts.Learnt
+      (λ κs a. (a .0 .now, a .1 .0, a .1 .1 .0)) (λ κs z. z) (λ κs a ws. tt)
+  -- panel_streams::own_table
+  pub ownTable : Source ownTableCall own_table-kinds.ps own_table-kinds.r own_table.Asked own_table.Learnt
+      (λ κs a. (a .0 .now, a .1 .0, a .1 .1 .0 .now)) (λ κs z. z) (λ κs a ws. ws .1 .1 .0)
+  -- panel_streams::changed
+  pub changed : Source changedCall changed-kinds.ps changed-kinds.r changed.Asked changed.Learnt
+      (λ κs a. (a .0 .now, a .1 .0, a .1 .1 .0 .now, a .1 .1 .1 .0)) (λ κs z. z) (λ κs a ws. tt)

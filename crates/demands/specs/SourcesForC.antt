@@ -9,6 +9,7 @@ use Rattle.vrt49.specs.Calls.{CallForC, answers, tells}
 use Rattle.vrt49.specs.Calls.{forRead, forWrite, forTrailerParts, forTrailerWord, forFieldCount, forCheckBody, forFind}
 use Rattle.vrt49.specs.Calls.{forUnpack, forPack, forWordsNeeded, forSigned, forStart, forWellMade, forPlay}
 use Rattle.vrt49.specs.Calls.{forPlayRun, forPageLength, forSave, forPutBack, forReading, forHeldWords}
+use Rattle.vrt49.specs.Calls.{forIdentity, forCounts, forOwnTable, forChanged}
 use Rattle.vrt49.proofs.vrt49_read.Kinds as read-kinds
 use Rattle.vrt49.proofs.vrt49_read.Reads as read
 use Rattle.vrt49.proofs.vrt49_write.Kinds as write-kinds
@@ -49,6 +50,14 @@ use Rattle.vrt49.proofs.vrt49_reading.Kinds as reading-kinds
 use Rattle.vrt49.proofs.vrt49_reading.Reads as reading
 use Rattle.vrt49.proofs.vrt49_held_words.Kinds as held_words-kinds
 use Rattle.vrt49.proofs.vrt49_held_words.Reads as held_words
+use Rattle.vrt49.proofs.vrt49_identity.Kinds as identity-kinds
+use Rattle.vrt49.proofs.vrt49_identity.Reads as identity
+use Rattle.vrt49.proofs.vrt49_counts.Kinds as counts-kinds
+use Rattle.vrt49.proofs.vrt49_counts.Reads as counts
+use Rattle.vrt49.proofs.vrt49_own_table.Kinds as own_table-kinds
+use Rattle.vrt49.proofs.vrt49_own_table.Reads as own_table
+use Rattle.vrt49.proofs.vrt49_changed.Kinds as changed-kinds
+use Rattle.vrt49.proofs.vrt49_changed.Reads as changed
 use Rattle.demands.specs.Sources.{AsksNothing}
 
 -- what a call is handed, and the lent places
@@ -120,3 +129,11 @@ pub record SourcesForC : Type 1 where
   pub heldWords : SourceForC forHeldWords held_words-kinds.ps held_words-kinds.r held_words.Asked held_words.Learnt
       (λ κs a. (a .0 .now, a .1 .0, a .1 .1 .0, a .1 .1 .1 .0 .now, a .1 .1 .1 .1 .0 .now))
       (λ κs z. z) (λ κs a ws. (ws .1 .1 .1 .0, ws .1 .1 .1 .1 .0))
+  pub identity : SourceForC forIdentity identity-kinds.ps identity-kinds.r identity.Asked identity.Learnt
+      (λ κs a. (a .0 .now, a .1 .0, a .1 .1 .0 .now, a .1 .1 .1 .0 .now)) (λ κs z. z) (λ κs a ws. (ws .1 .1 .0, ws .1 .1 .1 .0))
+  pub counts : SourceForC forCounts counts-kinds.ps counts-kinds.r counts.Asked counts.Learnt
+      (λ κs a. (a .0 .now, a .1 .0, a .1 .1 .0, a .1 .1 .1 .0 .now)) (λ κs z. z) (λ κs a ws. ws .1 .1 .1 .0)
+  pub ownTable : SourceForC forOwnTable own_table-kinds.ps own_table-kinds.r own_table.Asked own_table.Learnt
+      (λ κs a. (a .0 .now, a .1 .0, a .1 .1 .0 .now, a .1 .1 .1 .0 .now)) (λ κs z. z) (λ κs a ws. (ws .1 .1 .0, ws .1 .1 .1 .0))
+  pub changed : SourceForC forChanged changed-kinds.ps changed-kinds.r changed.Asked changed.Learnt
+      (λ κs a. (a .0 .now, a .1 .0, a .1 .1 .0 .now, a .1 .1 .1 .0, a .1 .1 .1 .1 .0 .now)) (λ κs z. z) (λ κs a ws. ws .1 .1 .1 .1 .0)

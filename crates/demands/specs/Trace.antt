@@ -110,9 +110,6 @@ pub record LastCarried (b : ℕ) (packets : List Arrival) (v : List ℕ) : Type 
 
 -- ---- counts: "Types 1, 3, 4 and 5 are counted apart within a stream. Each has seen and missing, both kept modulo 2^32, and the last count."
 
-abbrev pub countedTypes : List ℕ
-countedTypes = 1 ∷ 3 ∷ 4 ∷ 5 ∷ []
-
 -- the counts of the packets of one type, in their order
 abbrev pub countsOf : ℕ → List Arrival → List ℕ
 countsOf kind [] = []

@@ -9,13 +9,13 @@ use Rattle.words.specs.Word.{bits, has}
 use Rattle.words.specs.Outcome.{refused}
 use Rattle.fields.specs.Sizes.{fieldSize}
 use Rattle.fields.specs.Rules.{ruleOf}
-use Rattle.record.specs.Layout.{heldOf, orderOf, countWords, seenOf, missingOf, lastOf, slotOf}
+use Rattle.record.specs.Layout.{heldOf, countedTypes, orderOf, countWords, seenOf, missingOf, lastOf, slotOf}
 use Rattle.table.specs.Layout.{streamsOf, layoutWords, recordAt}
 use Rattle.table.specs.Identifiers.{declared}
 use Rattle.table.specs.Well.{wellMade}
 use Rattle.page.specs.Good.{pageGood}
 use Rattle.page.specs.PutBack.{putBackOf}
-use Rattle.demands.specs.Trace.{kept, countedTypes}
+use Rattle.demands.specs.Trace.{kept}
 use Rattle.demands.specs.Program.{ours}
 use Rattle.demands.specs.Resumed.{SavesAs}
 

@@ -1,27 +1,25 @@
 -- The answers. The idea: where nothing is refused the record is there and the bit has a slot; the slot is a part of the record, and so are the held words,
 -- also those of an absent field, which are none.
-use Rattle.words.proofs.Kit.{_≡_, refl, sym, ap, subst, _∙_, Bool, true, false, not, List, [], _++_, ℕ, _+_, _-_, _≤_, _<_, arith, lt-ltb, le-ltb}
+use Rattle.words.proofs.Kit.{_≡_, refl, sym, ap, subst, _∙_, Bool, true, false, not, List, _++_, ℕ, _+_, _-_, _≤_, _<_, arith, lt-ltb, le-ltb}
 use Rattle.words.proofs.Kit.{le-leb, lt-leb, ltb-false, not-true, not-false, ltb, length, take, drop}
 use borrow.Author.Tests.{leb-false}
 use Rattle.words.specs.Numbers.{TABLE, STREAM, VALUE, ROOM}
-use Rattle.words.specs.Tests.{pick, when}
+use Rattle.words.specs.Tests.{when}
 use Rattle.words.specs.Part.{part, put}
 use Rattle.words.specs.Outcome.{refused, accepted, after, checked, measured, Meets}
-use Rattle.words.proofs.Cases.{when-most}
 use Rattle.words.proofs.RefusalLaws.{first-passed, either-passed, after-first}
 use Rattle.words.proofs.MeetLaws.{meets-refused, meets-length}
-use Rattle.words.proofs.PartLaws.{seen, part-part, part-length}
+use Rattle.words.proofs.PartLaws.{seen}
 use Rattle.fields.specs.Sizes.{fieldSize}
-use Rattle.record.specs.Held.{holds, slotAt}
-use Rattle.record.specs.Layout.{headWords, slotWords, recordWords, slotIn, slotsOf, slotOf}
-use Rattle.record.proofs.SlotLaws.{held-all}
-use Rattle.record.proofs.HoldLaws.{slot-inside}
+use Rattle.record.specs.Held.{slotAt}
+use Rattle.record.specs.Layout.{headWords, recordWords, isHeld, heldWordsIn}
+use Rattle.record.proofs.HeldWordsLaws.{slot-is, held-part, held-length}
 use Rattle.table.specs.Layout.{streamsOf, base, Has, recordAt}
 use Rattle.table.specs.Well.{wellMade}
 use Rattle.table.proofs.WellLaws.{layout-has, well-whole, well-few}
-use Rattle.panel.specs.Readings.{absent, shownOf, isHeld, recordShows, readingList, readingOf, readingPaper}
+use Rattle.panel.specs.Readings.{absent, shownOf, recordShows, readingList, readingOf, readingPaper}
 use Rattle.panel.specs.inner.Asked.{askedOf}
-use Rattle.panel.specs.HeldWords.{heldWordsIn, heldWordsOf}
+use Rattle.panel.specs.HeldWords.{heldWordsOf}
 use Rattle.panel.specs.inner.Copied.{copyOf}
 use Rattle.panel.specs.declared.FieldReading.{FieldReading}
 use Rattle.words.specs.declared.Check.{Check}
@@ -107,47 +105,21 @@ unfolding recordShows
 shows-absent r b h e i = rw (← e, not-true h i)
 
 module _ (r : List ℕ) (b at z : ℕ) (l : length r ≡ recordWords) (lo : 10 ≤ b) (hi : b ≤ 30) (ea : at ≡ slotAt b) (ez : z ≡ fieldSize b) where
-  held-here : holds b ≡ true
-  held-here = held-all b lo (omega arith)
-
-  slot-is : slotOf b r ≡ part (headWords + at) (fieldSize b) r
-  unfolding slotOf slotIn slotsOf
-  slot-is = rw ea (part-part (slotAt b) (fieldSize b) headWords slotWords r (slot-inside b held-here))
-
-  pub slot-most : headWords + at + z ≤ length r
-  slot-most = omega (arith, slot-inside b held-here)
-
   pub shows-held : (h : Bool) (d : FieldReading) → h ≡ isHeld b r → not h ≡ false
       → readingPaper d ≡ accepted (shownOf b (take (headWords + at + z - (headWords + at)) (drop (headWords + at) r)))
       → readingPaper d ≡ accepted (recordShows b r)
   unfolding recordShows
   shows-held h d e i p =
       rw (← e, not-false h i) (p ∙ ap (λ (ws : List ℕ). accepted (shownOf b ws))
-      (seen (headWords + at) (headWords + at + z) z r refl ∙ rw ez (sym slot-is)))
-
-  -- the held words are a part of the record
-  part-when : (t : Bool) → pick t (slotOf b r) [] ≡ part (headWords + at) (when t (fieldSize b)) r
-  unfolding part
-  part-when true = slot-is
-  part-when false = refl
+      (seen (headWords + at) (headWords + at + z) z r refl ∙ rw ez (sym (slot-is r b at z l lo hi ea ez))))
 
   module _ (n : ℕ) (h : Bool) (eh : h ≡ isHeld b r) (en : n ≡ when h z) where
-    pub held-most : headWords + at + n ≤ length r
-    held-most = omega (arith, slot-most, when-most h z)
-
-    held-part : heldWordsIn b r ≡ part (headWords + at) n r
-    unfolding heldWordsIn
-    held-part = part-when (isHeld b r) ∙ ap (λ (k : ℕ). part (headWords + at) k r) (rw (← eh, ← ez) (sym en))
-
-    held-length : length (heldWordsIn b r) ≡ n
-    held-length = ap length held-part ∙ part-length (headWords + at) n r held-most
-
     pub copy-made : (out last : List ℕ) → n ≤ length out → last ≡ put 0 n (part (headWords + at) n r) out
         → Meets measured (copyOf (heldWordsIn b r) out) out (lengths.Accepted n) last
     unfolding copyOf put
     copy-made out last o p =
-        meets-length {left = heldWordsIn b r ++ drop n out} (rw (held-length, le-ltb (length out) n o))
-        (p ∙ ap (λ (ws : List ℕ). ws ++ drop n out) (sym held-part))
+        meets-length {left = heldWordsIn b r ++ drop n out} (rw (held-length r b at z l lo hi ea ez n h eh en, le-ltb (length out) n o))
+        (p ∙ ap (λ (ws : List ℕ). ws ++ drop n out) (sym (held-part r b at z l lo hi ea ez n h eh en)))
 
 pub copy-room : (r out : List ℕ) (b z n : ℕ) (h : Bool) → length r ≡ recordWords → 10 ≤ b → b ≤ 30 → z ≡ fieldSize b → h ≡ isHeld b r → n ≡ when h z
     → length out < n → Meets measured (copyOf (heldWordsIn b r) out) out (lengths.Refused ROOM) out

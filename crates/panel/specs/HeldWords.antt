@@ -2,16 +2,11 @@
 -- number alone and writes nothing"; "Only words needed by an accepted answer change."
 use Rattle.words.specs.Kit.{ℕ, List, [], _∷_, _++_, ltb, length, drop}
 use Rattle.words.specs.Numbers.{ROOM}
-use Rattle.words.specs.Tests.{pick}
 use Rattle.words.specs.Outcome.{Outcome, accepted, Done}
 use Rattle.words.specs.Refusals.{Refusals, firstGiven}
-use Rattle.record.specs.Layout.{slotOf}
+use Rattle.record.specs.Layout.{heldWordsIn}
 use Rattle.table.specs.Layout.{recordAt}
-use Rattle.panel.specs.Readings.{isHeld, readingList}
-
--- the words of the field of a bit in a record: none where it is absent
-unfoldable pub heldWordsIn : ℕ → List ℕ → List ℕ
-heldWordsIn bit r = pick (isHeld bit r) (slotOf bit r) []
+use Rattle.panel.specs.Readings.{readingList}
 
 -- "a buffer to be written is too short"
 abbrev pub copyList : List ℕ → List ℕ → Refusals

@@ -5,10 +5,9 @@ use lib.IntN.{ℤ}
 use lib.Ieee.{Float}
 use Rattle.words.specs.Numbers.{TABLE, STREAM, VALUE}
 use Rattle.words.specs.Tests.{pick, both, either}
-use Rattle.words.specs.Word.{has}
 use Rattle.words.specs.Outcome.{Outcome, refused, accepted}
 use Rattle.words.specs.Refusals.{Refusals, firstGiven}
-use Rattle.record.specs.Layout.{heldOf, slotOf}
+use Rattle.record.specs.Layout.{slotOf, isHeld}
 use Rattle.table.specs.Layout.{streamsOf, recordAt}
 use Rattle.table.specs.Well.{wellMade}
 use Rattle.panel.specs.Values.{unitsOf, floorDiv, floorRem, over, lowerHalf, upperHalf}
@@ -37,10 +36,6 @@ shownOf bit ws =
     (pick (eqb bit 23) (gain (over 7 (lowerHalf (getD ws 0 0))) (over 7 (upperHalf (getD ws 0 0))))
     (pick (eqb bit 18) (temperature (over 6 (lowerHalf (getD ws 0 0))))
     other)))
-
--- a record holds the field of a bit
-unfoldable pub isHeld : ℕ → List ℕ → Bool
-isHeld bit r = has (heldOf r) bit
 
 -- what the field of a bit shows in a record: absent where it is not held
 unfoldable pub recordShows : ℕ → List ℕ → Reading

@@ -1,26 +1,17 @@
 // A field in the record of a stream: what it shows, and its words.
 ghost use Rattle.words.specs.Kit.{_≡_, _≤_, _<_, length};
 ghost use Rattle.words.specs.Outcome.{accepted, measured, Meets};
-ghost use Rattle.record.specs.Layout.{recordWords};
+ghost use Rattle.record.specs.Layout.{recordWords, heldWordsIn};
 ghost use Rattle.table.specs.Layout.{Has, recordAt};
-ghost use Rattle.panel.specs.Readings.{isHeld, recordShows, readingPaper};
-ghost use Rattle.panel.specs.HeldWords.{heldWordsIn};
+ghost use Rattle.panel.specs.Readings.{recordShows, readingPaper};
 ghost use Rattle.panel.specs.inner.Copied.{copyOf};
-
-// Whether a record holds the field of a bit.
-fn is_held(rec: &[u32], bit: u32) -> bool
-    requires { ⌜ (length (now rec) ≡ recordWords) × (bit < 32) ⌝ }
-    ensures { λ r. ⌜ r ≡ isHeld bit (now (rec .entry)) ⌝ }
-{
-    (rec[1] >> bit) % 2 == 1
-}
 
 // What the field of a bit shows in a record.
 fn read_record(rec: &[u32], bit: u32) -> crate::FieldReading
     requires { ⌜ (length (now rec) ≡ recordWords) × (10 ≤ bit) × (bit ≤ 30) ⌝ }
     ensures { λ r. ⌜ readingPaper r ≡ accepted (recordShows bit (now (rec .entry))) ⌝ }
 {
-    if !is_held(rec, bit) {
+    if !record::inner::is_held(rec, bit) {
         return crate::FieldReading::Absent;
     }
     let at = record::inner::HEAD_WORDS + record::inner::slot_at(bit);
@@ -33,7 +24,8 @@ fn copy_record(rec: &[u32], bit: u32, out: &mut [u32]) -> words::Length
     requires { ⌜ (length (now rec) ≡ recordWords) × (10 ≤ bit) × (bit ≤ 30) ⌝ }
     ensures { λ r. ⌜ Meets measured (copyOf (heldWordsIn bit (now (rec .entry))) (now (out .entry))) (now (out .entry)) r (now (out .exit)) ⌝ }
 {
-    let n = words::inner::when_so(is_held(rec, bit), fields::inner::field_size(bit));
+    let held = record::inner::is_held(rec, bit);
+    let n = words::inner::when_so(held, fields::inner::field_size(bit));
     if out.len() < n {
         return words::Length::Refused(words::ROOM);
     }

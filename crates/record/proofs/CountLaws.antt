@@ -1,12 +1,12 @@
 -- Counts. The idea: the wrapping difference, reduced modulo 16, is document 01's (`added-next`); a count is three words of a record, lent as a part, so a
 -- record after a count differs in them alone.
-use Rattle.words.proofs.Kit.{_≡_, refl, sym, _∙_, true, false, ⊎-elim, List, [], _∷_, _++_, ℕ, _+_, _-_, _*_, _/_, _%_, _^_, _≤_, _<_, arith, eq-eqb}
-use Rattle.words.proofs.Kit.{ne-eqb, eqb-true, eqb, length, take, drop, getD, set}
-use Rattle.words.specs.Tests.{among}
-use Rattle.words.proofs.Cases.{true-or-false, true-is-false}
+use Rattle.words.proofs.Kit.{_≡_, refl, sym, _∙_, Bool, true, false, ⊎-elim, List, [], _∷_, _++_, ℕ, _+_, _-_, _*_, _/_, _%_, _^_, _≤_, _<_, arith}
+use Rattle.words.proofs.Kit.{eq-eqb, ne-eqb, eqb, length, take, drop, getD, set}
+use Rattle.words.specs.Tests.{pick, among}
+use Rattle.words.proofs.Cases.{same-or-not, true-is-false}
 use Rattle.words.proofs.LaidLaws.{sets-all}
 use Rattle.words.proofs.PartLaws.{seen, lent-to, part-length}
-use Rattle.record.specs.Layout.{recordWords, orderOf, countAt, countWords, lastOf}
+use Rattle.record.specs.Layout.{recordWords, countedTypes, orderOf, countAt, countWords, lastOf}
 use Rattle.record.specs.Counts.{missedOf, addedOf, countedOf, countRecord, addedTo}
 
 -- ---- what a packet adds to missing
@@ -52,28 +52,41 @@ module _ (k at : ℕ) (r : List ℕ) (e : at ≡ countAt k) where
     unfolding countRecord countWords
     count-lent last f = rw (← e) (lent-to at (at + 3) 3 (countedOf count) last r refl f)
 
--- ---- the types other than 4 that are counted
+-- ---- the types that are counted
 
+-- a number is one of four, or none of them
+pub by-types : (C : ℕ → Type 0) → C 1 → C 3 → C 4 → C 5 → (kind : ℕ) → among kind countedTypes ≡ true → C kind
+by-types C x y z w kind e =
+    ⊎-elim (λ (h : kind ≡ 1). rw h x)
+    (λ h. ⊎-elim (λ (i : kind ≡ 3). rw i y)
+    (λ i. ⊎-elim (λ (j : kind ≡ 4). rw j z)
+    (λ j. ⊎-elim (λ (k : kind ≡ 5). rw k w)
+    (λ k.
+    let n : among kind countedTypes ≡ false = rw (ne-eqb kind 1 h, ne-eqb kind 3 i, ne-eqb kind 4 j, ne-eqb kind 5 k) in
+    absurd (true-is-false (sym e ∙ n)))
+    (same-or-not kind 5)) (same-or-not kind 4)) (same-or-not kind 3)) (same-or-not kind 1)
+
+-- their order, by the square
+pub type-square : (kind : ℕ) → among kind countedTypes ≡ true → kind * kind ≤ 25
+type-square = by-types (λ n. n * n ≤ 25) (omega arith) (omega arith) (omega arith) (omega arith)
+
+pub type-order : (kind : ℕ) → among kind countedTypes ≡ true → kind * kind / 8 ≡ orderOf kind
+unfolding orderOf
+type-order = by-types (λ n. n * n / 8 ≡ orderOf n) refl refl refl refl
+
+-- those other than 4
 abbrev dataKinds : List ℕ
 dataKinds = 1 ∷ 3 ∷ 5 ∷ []
 
--- each of them is one of these numbers
-data-cases : (P : ℕ → Type 0) (kind : ℕ) → among kind dataKinds ≡ true → P 1 → P 3 → P 5 → P kind
-data-cases P kind t one three five =
-    ⊎-elim (λ x. rw (eqb-true kind 1 x) one)
-    (λ (x : eqb kind 1 ≡ false).
-    ⊎-elim (λ y. rw (eqb-true kind 3 y) three)
-    (λ (y : eqb kind 3 ≡ false).
-    ⊎-elim (λ z. rw (eqb-true kind 5 z) five) (λ (z : eqb kind 5 ≡ false). absurd (true-is-false (sym t ∙ rw (x, y, z)))) (true-or-false (eqb kind 5)))
-    (true-or-false (eqb kind 3))) (true-or-false (eqb kind 1))
-
--- their order, by the square
-pub data-square : (kind : ℕ) → among kind dataKinds ≡ true → kind * kind ≤ 25
-data-square kind t = data-cases (λ n. n * n ≤ 25) kind t (omega arith) (omega arith) (omega arith)
-
-pub data-order : (kind : ℕ) → among kind dataKinds ≡ true → kind * kind / 8 ≡ orderOf kind
-unfolding orderOf
-data-order kind t = data-cases (λ n. n * n / 8 ≡ orderOf n) kind t refl refl refl
+pub data-counted : (kind : ℕ) → among kind dataKinds ≡ true → among kind countedTypes ≡ true
+data-counted kind t = four-more (eqb kind 1) (eqb kind 3) (eqb kind 4) (eqb kind 5) t
+  where
+    four-more : (one three four five : Bool) → pick one true (pick three true (pick five true false)) ≡ true
+        → pick one true (pick three true (pick four true (pick five true false))) ≡ true
+    four-more true three four five t = refl
+    four-more false true four five t = refl
+    four-more false false true five t = refl
+    four-more false false false five t = t
 
 pub data-not : (kind : ℕ) → among kind dataKinds ≡ true → kind ≡ 4 → ⊥
 data-not kind t e = true-is-false (sym t ∙ rw e)

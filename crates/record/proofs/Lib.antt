@@ -6,6 +6,8 @@ pub mod SlotLaws
 pub mod CopyLaws
 -- fields put into their slots
 pub mod HoldLaws
+-- the words that a record holds for a field
+pub mod HeldWordsLaws
 -- slots and their held words, both ways
 pub mod SqueezeLaws
 -- a record after a packet, part by part

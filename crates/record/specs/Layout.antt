@@ -1,7 +1,8 @@
 -- A stream's record. Its first words are those of its body in a page: identifier, held indicator, "for types 1, 3, 4, 5 three words each (seen,
 -- missing, last plus one or 0 if not started)"; then a slot for each held field, in field order.
-use Rattle.words.specs.Kit.{ℕ, _+_, _*_, List, eqb, getD}
+use Rattle.words.specs.Kit.{ℕ, _+_, _*_, Bool, List, [], _∷_, eqb, getD}
 use Rattle.words.specs.Tests.{pick}
+use Rattle.words.specs.Word.{has}
 use Rattle.words.specs.Part.{part}
 use Rattle.fields.specs.Sizes.{fieldSize}
 use Rattle.record.specs.Held.{slotAt}
@@ -25,7 +26,11 @@ identifierOf r = getD r 0 0
 abbrev pub heldOf : List ℕ → ℕ
 heldOf r = getD r 1 0
 
--- the types that are counted, in their order: 1, 3, 4, 5
+-- "Types 1, 3, 4 and 5 are counted apart within a stream"
+abbrev pub countedTypes : List ℕ
+countedTypes = 1 ∷ 3 ∷ 4 ∷ 5 ∷ []
+
+-- the place of each among them
 unfoldable pub orderOf : ℕ → ℕ
 orderOf kind = pick (eqb kind 1) 0 (pick (eqb kind 3) 1 (pick (eqb kind 4) 2 3))
 
@@ -56,3 +61,11 @@ slotsOf r = part headWords slotWords r
 
 unfoldable pub slotOf : ℕ → List ℕ → List ℕ
 slotOf b r = slotIn b (slotsOf r)
+
+-- a record holds the field of bit b
+unfoldable pub isHeld : ℕ → List ℕ → Bool
+isHeld b r = has (heldOf r) b
+
+-- the words that it holds for the field: none where the field is absent
+unfoldable pub heldWordsIn : ℕ → List ℕ → List ℕ
+heldWordsIn b r = pick (isHeld b r) (slotOf b r) []

@@ -19,6 +19,10 @@ use Rattle.page.specs.Save.{lengthOf, saveOf}
 use Rattle.page.specs.PutBack.{putBackOf}
 use Rattle.panel.specs.Readings.{readingOf}
 use Rattle.panel.specs.HeldWords.{heldWordsOf}
+use Rattle.panel_streams.specs.Identity.{identityOf}
+use Rattle.panel_streams.specs.TypeCounts.{typeCountsOf}
+use Rattle.panel_streams.specs.OwnTable.{ownTableOf}
+use Rattle.panel_streams.specs.Changed.{changedOf}
 use Rattle.vrt49.specs.Answers.{Tells, placesOf}
 use Rattle.vrt49.specs.Packets.{writeWordsOf}
 use Rattle.vrt49.specs.Calls.{CallForC, answers, tells, OnceForC, SomeForC, LeavesForC, OrderForC, ZeroForC, EachForC, callsForC}
@@ -60,6 +64,7 @@ a and b = (a, b)
 
 listed : EachForC Listed callsForC
 unfolding readBy writeWordsOf trailerWordOf contextOf unpackOf packOf neededOf signedOf startOf playOf runOf lengthOf saveOf putBackOf readingOf heldWordsOf
+    identityOf typeCountsOf ownTableOf changedOf
 listed =
     (λ h. ((_, refl), refl, search needs))
     and (λ h. ((_, refl), refl, search needs))
@@ -74,6 +79,10 @@ listed =
     and (λ h. ((_, refl), refl, search needs))
     and (λ h. ((_, refl), refl, search needs))
     and tt
+    and (λ h. ((_, refl), refl, search needs))
+    and (λ h. ((_, refl), refl, search needs))
+    and (λ h. ((_, refl), refl, search needs))
+    and (λ h. ((_, refl), refl, search needs))
     and (λ h. ((_, refl), refl, search needs))
     and (λ h. ((_, refl), refl, search needs))
     and (λ h. ((_, refl), refl, search needs))

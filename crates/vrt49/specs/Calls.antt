@@ -18,16 +18,22 @@ use Rattle.payload_pack.specs.Pack.{packList, packOf}
 use Rattle.payload_unpack.specs.Unpack.{Buffers, unpackList, unpackOf}
 use Rattle.table.specs.Start.{startList, startOf}
 use Rattle.table.specs.Well.{wellMade}
+use Rattle.table.specs.Stream.{streamNumberList}
 use Rattle.play.specs.Play.{tableList, playList, playOf}
 use Rattle.play.specs.Run.{runOf}
 use Rattle.page.specs.Save.{lengthList, saveList, lengthOf, saveOf}
 use Rattle.page.specs.PutBack.{putBackList, putBackOf}
 use Rattle.panel.specs.Readings.{readingList, readingOf}
 use Rattle.panel.specs.HeldWords.{heldWordsList, heldWordsOf}
+use Rattle.panel_streams.specs.Identity.{identityOf}
+use Rattle.panel_streams.specs.TypeCounts.{typeCountsList, typeCountsOf}
+use Rattle.panel_streams.specs.OwnTable.{ownTableList, ownTableOf}
+use Rattle.panel_streams.specs.Changed.{changedList, changedOf}
 use Rattle.vrt49.specs.Answers.{Tells, plain, left, beside}
 use Rattle.vrt49.specs.Packets.{packetValues, trailerValues, foundValues, writeWordsList, writeWordsOf}
 use Rattle.vrt49.specs.Tables.{heardValues, reachedValues}
 use Rattle.vrt49.specs.Readings.{readingValues}
+use Rattle.vrt49.specs.Streams.{identityValues, countValues}
 
 -- a call that answers its value; and one that answers a number, by what is wanted of it, the values of an accepted answer, the lent places, the list of its
 -- refusals, and their numbers in document 01's order
@@ -166,6 +172,28 @@ forHeldWords =
     tells (λ (h : List ℕ × ℕ × ℕ × List ℕ × ℕ). heldWordsOf (h .0) (h .1) (h .2) (h .3)) (beside plain) (λ h. (h .3, h .4))
     (λ h. heldWordsList (h .0) (h .1) (h .2) (h .3)) (TABLE ∷ STREAM ∷ VALUE ∷ ROOM ∷ [])
 
+-- ---- what a table says of a stream: TABLE and STREAM, then each its own
+
+abbrev pub forIdentity : CallForC
+forIdentity =
+    tells (λ (h : List ℕ × ℕ × ℕ × ℕ). identityOf (h .0) (h .1)) identityValues (λ h. (h .2, h .3))
+    (λ h. streamNumberList (h .0) (h .1)) (TABLE ∷ STREAM ∷ [])
+
+abbrev pub forCounts : CallForC
+forCounts =
+    tells (λ (h : List ℕ × ℕ × ℕ × List ℕ). typeCountsOf (h .0) (h .1) (h .2)) countValues (λ h. h .3)
+    (λ h. typeCountsList (h .0) (h .1) (h .2)) (TABLE ∷ STREAM ∷ VALUE ∷ [])
+
+abbrev pub forOwnTable : CallForC
+forOwnTable =
+    tells (λ (h : List ℕ × ℕ × List ℕ × ℕ). ownTableOf (h .0) (h .1) (h .2)) (beside plain) (λ h. (h .2, h .3))
+    (λ h. ownTableList (h .0) (h .1) (h .2)) (TABLE ∷ STREAM ∷ ROOM ∷ [])
+
+abbrev pub forChanged : CallForC
+forChanged =
+    tells (λ (h : List ℕ × ℕ × List ℕ × ℕ × ℕ). changedOf (h .0) (h .1) (h .2) (h .3)) plain (λ h. h .4)
+    (λ h. changedList (h .0) (h .1) (h .2) (h .3)) (TABLE ∷ STREAM ∷ [])
+
 -- ---- all of them, in the order of include/vrt49.h
 
 abbrev pub callsForC : List {1} CallForC
@@ -175,4 +203,5 @@ callsForC =
     ∷ forStart ∷ forWellMade ∷ forPlay ∷ forPlayRun
     ∷ forPageLength ∷ forSave ∷ forPutBack
     ∷ forReading ∷ forHeldWords
+    ∷ forIdentity ∷ forCounts ∷ forOwnTable ∷ forChanged
     ∷ []

@@ -8,5 +8,7 @@ pub mod Packets
 pub mod Tables
 -- readings for the panel
 pub mod Readings
+-- what a table says of a stream
+pub mod Streams
 -- every call, with its promise and its refusals
 pub mod Calls

@@ -5,6 +5,7 @@ mod packets;
 mod pages;
 mod payloads;
 mod readings;
+mod streams;
 mod tables;
 
 pub use packets::vrt49_check_body;
@@ -23,6 +24,10 @@ pub use payloads::vrt49_unpack;
 pub use payloads::vrt49_words_needed;
 pub use readings::vrt49_held_words;
 pub use readings::vrt49_reading;
+pub use streams::vrt49_changed;
+pub use streams::vrt49_counts;
+pub use streams::vrt49_identity;
+pub use streams::vrt49_own_table;
 pub use tables::vrt49_play;
 pub use tables::vrt49_play_run;
 pub use tables::vrt49_start;

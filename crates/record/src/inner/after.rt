@@ -12,7 +12,7 @@ pub fn hear_data(rec: &mut [u32], kind: u32, count: u32) -> u32
     requires { ⌜ (length (now rec) ≡ recordWords) × (recordGood (now rec) ≡ true) × (count < 16) × (among kind (1 ∷ 3 ∷ 5 ∷ []) ≡ true) ⌝ }
     ensures { λ r. ⌜ (r ≡ addedBy kind count (now (rec .entry))) × (now (rec .exit) ≡ recordAfter kind count [] (now (rec .entry))) ⌝ }
 {
-    let order = crate::inner::counts::data_order(kind);
+    let order = crate::inner::counts::type_order(kind);
     crate::inner::counts::count(rec, order, count)
 }
 

@@ -1,7 +1,7 @@
 // The counts of a record, one for each of types 1, 3, 4 and 5.
-ghost use Rattle.words.specs.Kit.{_≡_, true, [], _∷_, _+_, _*_, _≤_, _<_, length};
+ghost use Rattle.words.specs.Kit.{_≡_, true, _+_, _*_, _≤_, _<_, length};
 ghost use Rattle.words.specs.Tests.{among};
-ghost use Rattle.record.specs.Layout.{recordWords, orderOf, countAt, countWords, lastOf};
+ghost use Rattle.record.specs.Layout.{recordWords, countedTypes, orderOf, countAt, countWords, lastOf};
 ghost use Rattle.record.specs.Counts.{addedOf, countedOf, countRecord, addedTo};
 
 // The order of type 4 among the types that are counted: 1, 3, 4, 5.
@@ -18,9 +18,9 @@ pub fn count_at(order: usize) -> usize
     2 + 3 * order
 }
 
-// The order of a type other than 4. It is an eighth of the type's square, rounded down, which takes no branch: 1, 3, 5 give 0, 1, 3.
-pub fn data_order(kind: u32) -> usize
-    requires { ⌜ among kind (1 ∷ 3 ∷ 5 ∷ []) ≡ true ⌝ }
+// The order of a type that is counted. It is an eighth of the type's square, rounded down, which takes no branch: 1, 3, 4, 5 give 0, 1, 2, 3.
+pub fn type_order(kind: u32) -> usize
+    requires { ⌜ among kind countedTypes ≡ true ⌝ }
     ensures { λ r. ⌜ (r ≡ orderOf kind) × (r < 4) ⌝ }
 {
     (kind * kind / 8) as usize

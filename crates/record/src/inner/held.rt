@@ -5,7 +5,7 @@ ghost use Rattle.words.specs.Outcome.{accepted};
 ghost use Rattle.words.specs.All.{tabled};
 ghost use Rattle.fields.specs.Layout.{contextOf};
 ghost use Rattle.record.specs.Held.{heldMask, slotAt};
-ghost use Rattle.record.specs.Layout.{slotWords, recordWords};
+ghost use Rattle.record.specs.Layout.{slotWords, recordWords, isHeld};
 ghost use Rattle.record.specs.After.{Inside, refilled, holdRecord};
 
 // The bits of the held fields, 30 to 10.
@@ -47,6 +47,14 @@ pub const SLOTS: [u8; 32] = [
     0,
     0,
 ];
+
+// Whether a record holds the field of a bit.
+pub fn is_held(rec: &[u32], bit: u32) -> bool
+    requires { ⌜ (length (now rec) ≡ recordWords) × (bit < 32) ⌝ }
+    ensures { λ r. ⌜ r ≡ isHeld bit (now (rec .entry)) ⌝ }
+{
+    (rec[crate::inner::HELD_AT] >> bit) % 2 == 1
+}
 
 // Where the slot of a field begins among the slots, by the table, which a loop builds once and lends.
 pub fn slot_in(places: &[u8; 32], bit: u32) -> usize

@@ -1,5 +1,6 @@
 -- `copy_record` meets its promise: the held words are a part of the record, none where the field is absent.
-use Rattle.panel.proofs.ReadingLaws.{held-most, copy-room, copy-made}
+use Rattle.record.proofs.HeldWordsLaws.{held-most}
+use Rattle.panel.proofs.ReadingLaws.{copy-room, copy-made}
 use borrow.Author.Needs.{needs}
 use Rattle.panel.proofs.records.copy_record.Statement.{statement}
 use Rattle.panel.proofs.records.copy_record.Tie as tie

@@ -1,5 +1,6 @@
 -- `read_record` meets its promise: the slot of a held field is lent to `show`.
-use Rattle.panel.proofs.ReadingLaws.{shows-absent, shows-held, slot-most}
+use Rattle.record.proofs.HeldWordsLaws.{slot-most}
+use Rattle.panel.proofs.ReadingLaws.{shows-absent, shows-held}
 use borrow.Author.Needs.{needs}
 use Rattle.panel.proofs.records.read_record.Statement.{statement}
 use Rattle.panel.proofs.records.read_record.Tie as tie

@@ -1,8 +1,8 @@
 -- `is_held` meets its promise: the bit of the held indicator is tested.
-use Rattle.panel.specs.Readings.{isHeld}
+use Rattle.record.specs.Layout.{isHeld}
 use borrow.Author.Needs.{needs}
-use Rattle.panel.proofs.records.is_held.Statement.{statement}
-use Rattle.panel.proofs.records.is_held.Tie as tie
+use Rattle.record.proofs.inner.held.is_held.Statement.{statement}
+use Rattle.record.proofs.inner.held.is_held.Tie as tie
 
 pub is-held-spec : {M : Type 1} → statement M
 unfolding isHeld

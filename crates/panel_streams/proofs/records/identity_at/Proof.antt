@@ -1,0 +1,12 @@
+-- `identity_at` meets its promise: the first two words of the record.
+use Rattle.panel_streams.proofs.RecordLaws.{declared-there}
+use borrow.Author.Needs.{needs}
+use Rattle.panel_streams.proofs.records.identity_at.Statement.{statement}
+use Rattle.panel_streams.proofs.records.identity_at.Tie as tie
+
+pub identity-at-spec : {M : Type 1} → statement M
+identity-at-spec =
+    tie.close
+    (tie.spec
+    (λ c κs. search needs) (λ c. search needs) (λ c. search needs) (λ c. search needs) (λ c. search needs) (λ c. search needs)
+    (λ c. search declared-there))

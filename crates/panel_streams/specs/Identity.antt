@@ -1,0 +1,27 @@
+-- Who a stream is, and what it holds: TABLE, STREAM. Its identifier, and its held indicator, of which bit b is set exactly where the field of bit b is held.
+use Rattle.words.specs.Kit.{ℕ, List}
+use Rattle.words.specs.Outcome.{Outcome, refused, accepted}
+use Rattle.words.specs.Refusals.{firstGiven}
+use Rattle.record.specs.Layout.{identifierOf, heldOf}
+use Rattle.table.specs.Layout.{recordAt}
+use Rattle.table.specs.Stream.{streamNumberList}
+use Rattle.panel_streams.specs.declared.records.Identity.{Identity}
+use Rattle.panel_streams.specs.declared.records.Identity.the-variants as named
+
+-- an identifier, and a held indicator
+pub record Declared : Type 0 where
+  pub identifier : ℕ
+  pub held : ℕ
+
+-- those of a record
+unfoldable pub declaredIn : List ℕ → Declared
+declaredIn r = record { identifier = identifierOf r; held = heldOf r }
+
+-- what `identity` answers
+unfoldable pub identityOf : List ℕ → ℕ → Outcome Declared
+identityOf t stream = firstGiven (streamNumberList t stream) (accepted (declaredIn (recordAt stream t)))
+
+-- the number or the values of its answer
+abbrev pub identityPaper : Identity → Outcome Declared
+identityPaper (named.Declared identifier held) = accepted (record { identifier = identifier; held = held })
+identityPaper (named.Refused n) = refused n

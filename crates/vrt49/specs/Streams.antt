@@ -1,0 +1,13 @@
+-- What a table says of a stream: the values of each answer, in the order of include/vrt49.h.
+use Rattle.words.specs.Kit.{ℕ, List, [], _∷_}
+use Rattle.panel_streams.specs.Identity.{Declared}
+use Rattle.panel_streams.specs.TypeCounts.{Count, started, notStarted}
+
+-- the identifier, and the held indicator
+abbrev pub identityValues : Declared → ℕ × ℕ
+identityValues d = (d .identifier, d .held)
+
+-- 1, seen, missing and last; four zeros where the type has not started
+abbrev pub countValues : Count → List ℕ
+countValues (started seen missing last) = 1 ∷ seen ∷ missing ∷ last ∷ []
+countValues notStarted = 0 ∷ 0 ∷ 0 ∷ 0 ∷ []
