@@ -1,11 +1,18 @@
 # make play, make test; for C: make lib, make example, make install, make uninstall; make compare, make speed, make stack; make wrong,
 # make count; make vectors.
 
+.DEFAULT_GOAL := play
+
+# what lib, install, stack, wrong, count and vectors need besides the kit
+.PHONY: python
+python:
+	@command -v python3 >/dev/null || { echo 'python3 is missing; on Debian, as root: apt-get install python3' >&2; exit 1; }
+
 # tries the wrong programs of wrong/, of all crates or of those named behind it: make wrong play page
 ifeq (wrong,$(firstword $(MAKECMDGOALS)))
 CRATES := $(wordlist 2,$(words $(MAKECMDGOALS)),$(MAKECMDGOALS))
 .PHONY: wrong $(CRATES)
-wrong:
+wrong: python
 	@tools/wrong $(CRATES)
 $(CRATES):
 	@:
@@ -21,19 +28,22 @@ test:
 	@bash .ci/run
 
 # proves the calls for C and builds the library
-lib:
+lib: python
 	@tools/check_header
 	@mkdir -p target
 	@rt staticlib vrt49 >target/lib.log 2>&1 || { tail -n 20 target/lib.log; exit 1; }
 	@echo 'proved and built: target/staticlib/libvrt49.a; its header: include/vrt49.h'
 
-# builds a C program over the library, and runs it on the sample survey
-example: lib
+# builds a C program over the library, and runs it on the sample survey; installs Python and the compiler from Debian where they are missing
+example:
+	@command -v python3 >/dev/null && tools/cc -static >/dev/null 2>&1 || tools/from_debian 'make example' python3 $$(tools/cc packages)
+	@$(MAKE) -s lib
 	@tools/run_c examples/c/tuning.c <samples/recordings/survey.vrt
 
 # the library, static and shared, its header, its pkg-config file and vrtplay: make install PREFIX=/usr DESTDIR=/tmp/package
 PREFIX ?= /usr/local
 LIBDIR ?= $(PREFIX)/lib
+install: python
 install uninstall:
 	@PREFIX='$(PREFIX)' LIBDIR='$(LIBDIR)' DESTDIR='$(DESTDIR)' tools/install $@
 
@@ -42,7 +52,7 @@ compare:
 	@tools/compare/compare.sh
 
 # counts executed instructions against C by hand, and against UHD
-speed: lib
+speed:
 	@bench/measure.sh
 
 # the bytes of stack that each call of the library takes
@@ -50,11 +60,11 @@ stack: lib
 	@tools/stack
 
 # what the proofs weigh, and whether they keep to their rules
-count:
+count: python
 	@tools/count
 
 # makes the vectors and what they should give again, from the reference
-vectors:
+vectors: python
 	python3 -B tools/reference/read_vectors.py crates/read_vectors/stdin crates/read_vectors/stdout
 	python3 -B tools/reference/write_vectors.py crates/write_vectors/stdin crates/write_vectors/stdout
 	python3 -B tools/reference/payload_vectors.py crates/payload_vectors/stdin crates/payload_vectors/stdout

@@ -3,13 +3,15 @@
 # It builds everything for x86-64 and counts under qemu, so that the numbers are the same on every machine.
 set -eu
 cd "$(dirname "$0")/.."
+needed='python3 gcc g++ libc6-dev qemu-user libuhd-dev libboost-dev'
 if [ "$(uname -m)" = x86_64 ]; then
-    tools/from_debian 'make speed' g++ qemu-user libuhd-dev libboost-dev
     export CC=gcc CXX=g++
 else
-    tools/from_debian 'make speed' gcc-x86-64-linux-gnu g++-x86-64-linux-gnu qemu-user libuhd-dev libboost-dev
+    needed="$needed gcc-x86-64-linux-gnu g++-x86-64-linux-gnu libc6-dev-amd64-cross"
 fi
-for part in calls play payload; do
+tools/from_debian 'make speed' $needed
+make -s lib
+for part in calls small play payload; do
     echo
     echo "bench/$part/measure.sh"
     "bench/$part/measure.sh"
@@ -22,4 +24,4 @@ echo
 echo 'bench/uhd/measure.sh'
 bench/uhd/measure.sh
 echo
-echo 'counted: read, write, play, save, put_back; play_run and the table test; unpack and pack by width; reading a header by UHD'
+echo 'counted: each call of the library; play_run and the table test; unpack and pack by width; reading a header by UHD'

@@ -10,12 +10,12 @@ work=target/compare
 mkdir -p "$work"
 
 # what is needed from Debian
-needed='g++ libuhd-dev libboost-dev tshark python3-dpkt pkg-config'
+needed='python3 gcc g++ libc6-dev libuhd-dev libboost-dev tshark python3-dpkt pkg-config'
 cc=gcc
 cxx=g++
 run=
 if [ "$(uname -m)" != x86_64 ]; then
-    needed="$needed g++-x86-64-linux-gnu libc6-dev-amd64-cross qemu-user"
+    needed="$needed gcc-x86-64-linux-gnu g++-x86-64-linux-gnu libc6-dev-amd64-cross qemu-user"
     cc=x86_64-linux-gnu-gcc
     cxx=x86_64-linux-gnu-g++
     run=qemu-x86_64

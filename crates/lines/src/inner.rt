@@ -5,6 +5,7 @@ pub use crate::input::fill;
 pub use crate::input::next_word;
 pub use crate::input::pattern;
 pub use crate::input::word;
+pub use crate::line::Line;
 pub use crate::output::list;
 pub use crate::output::named;
 pub use crate::output::named_flag;

@@ -2,6 +2,7 @@
 // No contract can say what a program reads or writes, so these functions promise only that they are safe and end.
 pub mod inner;
 mod input;
+mod line;
 mod output;
 mod packets;
 mod sums;

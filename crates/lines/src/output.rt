@@ -1,4 +1,5 @@
 // Names and numbers to standard output.
+use crate::line::Line;
 use libc::STDOUT_FILENO;
 
 // Writes a text.
@@ -23,10 +24,7 @@ pub fn signed(v: i64) {
 
 // Writes a name and a number, as ` size 5`.
 pub fn named(name: &[u8], n: u64) {
-    text(b" ");
-    text(name);
-    text(b" ");
-    number(n);
+    Line::new().named(name, n).write();
 }
 
 // Writes a name and 1 or 0.
@@ -45,10 +43,11 @@ pub fn wide(w: u32) -> u64 {
 
 // Writes words in decimal, each after a space.
 pub fn list(words: &[u32]) {
+    let mut line = Line::new();
     let mut i = 0;
     while i < words.len() {
-        text(b" ");
-        number(wide(words[i]));
+        line = line.text(b" ").number(wide(words[i]));
         i += 1;
     }
+    line.write();
 }

@@ -1,7 +1,9 @@
-// Plays a recording from standard input, as document 01 says of `vrtplay`: big-endian words, S, S identifiers, packets. It writes a line for each packet.
+// Plays a recording from standard input, as document 01 says of `vrtplay`: big-endian words, S, S identifiers, packets. It writes a line for each packet,
+// each by one write.
 ghost use Rattle.words.specs.Kit.{_≡_, true, _*_, _≤_, length};
 ghost use Rattle.table.specs.Well.{wellMade};
 use libc::STDIN_FILENO;
+use lines::inner::Line;
 use play::Played;
 use words::Length;
 
@@ -19,20 +21,24 @@ fn words_of(ws: &mut [u32], bytes: &[u8])
 
 // The line of a refusal at a place.
 fn show_refused(at: usize, n: u32) {
-    lines::inner::text(b"at ");
-    lines::inner::number(at as u64);
-    lines::inner::named(b"refused", n as u64);
-    lines::inner::text(b"\n");
+    Line::new()
+        .text(b"at ")
+        .number(at as u64)
+        .named(b"refused", n as u64)
+        .text(b"\n")
+        .write();
 }
 
 // The line of a packet that was played.
 fn show_heard(at: usize, h: play::Heard) {
-    lines::inner::text(b"at ");
-    lines::inner::number(at as u64);
-    lines::inner::named(b"type", h.kind as u64);
-    lines::inner::named(b"stream", h.stream as u64);
-    lines::inner::named(b"missing", h.missing as u64);
-    lines::inner::text(b"\n");
+    Line::new()
+        .text(b"at ")
+        .number(at as u64)
+        .named(b"type", h.kind as u64)
+        .named(b"stream", h.stream as u64)
+        .named(b"missing", h.missing as u64)
+        .text(b"\n")
+        .write();
 }
 
 // The line of the packet at a place.
@@ -45,10 +51,12 @@ fn show_played(at: usize, answer: Played) {
 
 // The last line: the stopping place, and the bytes modulo 4.
 fn show_end(at: usize, tail: usize) {
-    lines::inner::text(b"end ");
-    lines::inner::number(at as u64);
-    lines::inner::named(b"tail", tail as u64);
-    lines::inner::text(b"\n");
+    Line::new()
+        .text(b"end ")
+        .number(at as u64)
+        .named(b"tail", tail as u64)
+        .text(b"\n")
+        .write();
 }
 
 // Walks the packets from a place on, on a table that is well made. Gives the place where the walk stops.

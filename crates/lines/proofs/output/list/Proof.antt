@@ -6,14 +6,14 @@ use Rattle.lines.proofs.output.list.Statement.{statement}
 use Rattle.lines.proofs.output.list.Tie as tie
 
 abbrev Inv-loop : tie.InvT-loop
-Inv-loop words i₀ t3 i = i ≤ length words
+Inv-loop words line₀ i₀ t4 line i = i ≤ length words
 
 abbrev μ-loop : tie.MeasureT-loop
-μ-loop words i₀ t3 i = length words - i
+μ-loop words line₀ i₀ t4 line i = length words - i
 
 pub list-spec : {M : Type 1} → statement M
 list-spec =
     tie.close
     (tie.spec
-    Inv-loop μ-loop (λ c. search needs) (λ c. search needs) (λ c κs. search needs) (λ c. search needs) (λ c. search needs) (λ c κs. search needs)
-    (λ c κs. search needs) (λ c. search needs) (λ c. search needs) (λ c. search needs) (λ c. search needs))
+    Inv-loop μ-loop (λ c κs. search needs) (λ c. search needs) (λ c. search needs) (λ c κs. search needs) (λ c. search needs) (λ c. search needs)
+    (λ c κs. search needs) (λ c κs. search needs) (λ c. search needs) (λ c. search needs) (λ c. search needs) (λ c κs. search needs) (λ c. search needs))

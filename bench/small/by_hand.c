@@ -1,0 +1,80 @@
+// What the smaller calls of libvrt49.a are measured against, in C by hand, with the same checks in the same order: trailers, fields of a body, a table's
+// start, test and page length. The tests of bodies and tables are those of the play bench.
+#include "../calls/by_hand.c"
+enum { LIST = 12 };
+u32 c_trailer_parts(u32 w, u32 *a) {
+    a[0] = w >> 20;
+    a[1] = w >> 8 & 0xfff;
+    a[2] = w >> 7 & 1;
+    a[3] = w & 127;
+    return 0;
+}
+u32 c_trailer_word(u32 enables, u32 indicators, u32 e, u32 associated, u32 *word) {
+    if (enables > 0xfff || indicators > 0xfff || e > 1 || associated > 127)
+        return VALUE;
+    *word = enables << 20 | indicators << 8 | e << 7 | associated;
+    return 0;
+}
+u32 c_field_count(u32 indicator) { return __builtin_popcount(indicator & 0x7fffff00); }
+u32 c_check_body(const u32 *body, size_t n) { return n ? check_context(body, n) : LAYOUT; }
+// The words of the field at a place; of one that says its own length and whose first two words are not there, more than there are.
+static inline size_t words_of(u32 bit, const u32 *body, size_t n, size_t at) {
+    if (sizes[bit])
+        return sizes[bit];
+    if (n - at < 2)
+        return n + 1;
+    u32 a = body[at], b = body[at + 1];
+    return bit == 9 ? 2 + (size_t)b : 2 + (a >> 16 & 511) + (a & 511) + (b >> 16) + ((b & 0x7fff) << (b >> 15 & 1));
+}
+u32 c_find(const u32 *body, size_t n, u32 bit, size_t *a) {
+    a[0] = a[1] = a[2] = 0;
+    if (bit > 30 || bit < 8 || !n || !(body[0] >> bit & 1))
+        return 0;
+    u32 above = body[0] & 0x7fffffff & ~((2u << bit) - 1);
+    size_t at = 1;
+    while (above) {
+        u32 b = __builtin_clz(above) ^ 31;
+        above ^= 1u << b;
+        size_t size = words_of(b, body, n, at);
+        if (n - at < size)
+            return 0;
+        at += size;
+    }
+    size_t size = words_of(bit, body, n, at);
+    if (n - at < size)
+        return 0;
+    a[0] = 1;
+    a[1] = at;
+    a[2] = size;
+    return 0;
+}
+u32 c_start(const u32 *ids, size_t streams, u32 *t, size_t tn, size_t *length) {
+    if (streams < 1 || streams > 32)
+        return LIST;
+    for (size_t i = 1; i < streams; i++)
+        for (size_t j = 0; j < i; j++)
+            if (ids[i] == ids[j])
+                return LIST;
+    if (tn < 1 + RECORD * streams)
+        return ROOM;
+    t[0] = streams;
+    for (size_t s = 0; s < streams; s++) {
+        u32 *r = t + 1 + RECORD * s;
+        r[0] = ids[s];
+        memset(r + 1, 0, (RECORD - 1) * 4);
+    }
+    *length = 1 + RECORD * streams;
+    return 0;
+}
+u32 c_well_made(const u32 *t, size_t tn) { return table_good(t, tn); }
+u32 c_page_length(const u32 *t, size_t tn, size_t *length) {
+    if (!table_good(t, tn))
+        return TABLE;
+    size_t words = 2 + 2 * t[0];
+    for (size_t s = 0; s < t[0]; s++)
+        words += held_words(t[2 + RECORD * s]);
+    if (words > MOST)
+        return SIZE;
+    *length = words;
+    return 0;
+}

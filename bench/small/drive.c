@@ -1,0 +1,84 @@
+// Makes a body or a table, repeats one call, and prints its last answer with a sum of what it wrote.
+#include <stdint.h>
+#include <stdio.h>
+#include <stdlib.h>
+#include <string.h>
+typedef uint64_t u64;
+typedef uint32_t u32;
+#define NAME(side, call) side##_##call
+#define OF(side, call) NAME(side, call)
+#define CALL(call) OF(SIDE, call)
+#define REPEAT(answered, answer) for (size_t i = 0; i < times; i++) answered |= answer
+u32 CALL(trailer_parts)(u32, u32 *);
+u32 CALL(trailer_word)(u32, u32, u32, u32, u32 *);
+u32 CALL(field_count)(u32);
+u32 CALL(check_body)(const u32 *, size_t);
+u32 CALL(find)(const u32 *, size_t, u32, size_t *);
+u32 CALL(words_needed)(u32, u32, size_t, size_t *);
+u32 CALL(signed)(u32, u64, int64_t *);
+u32 CALL(start)(const u32 *, size_t, u32 *, size_t, size_t *);
+u32 CALL(well_made)(const u32 *, size_t);
+u32 CALL(page_length)(const u32 *, size_t, size_t *);
+u32 CALL(play)(u32 *, size_t, const u32 *, size_t, u32 *);
+enum { RECORD = 88, CONTEXT = 0x40000000 };
+// Bodies: fields 29, 27, 24, 23, 21 and 18, whose first words are small; fields 29, 27, 23, 21, 20 and 19, whose first words are all 2^16 or more.
+static const u32 small[] = {1u << 29 | 1 << 27 | 1 << 24 | 1 << 23 | 1 << 21 | 1 << 18, 1, 2, 3, 4, 0xff80, 6, 7, 8, 0xffe0};
+static const u32 large[] = {1u << 29 | 1 << 27 | 1 << 23 | 1 << 21 | 1 << 20 | 1 << 19, 0x10001, 2, 0xfff20003, 4, 0x7fff0001, 0x01000007, 8, 0x00010009, 10, 0xff80ff80};
+// Formats of 12-bit items: link-efficient, and processing-efficient in fields of 16 bits.
+static const u32 link = 1u << 31 | 11 << 6 | 11, processing = 15 << 6 | 11;
+static u32 t[1 + RECORD * 32], ids[32], a[4];
+static size_t place[3], length;
+static int64_t value;
+static u64 sum(u64 x, const u32 *w, size_t n) {
+    for (size_t i = 0; i < n; i++)
+        x = x * 31 + w[i];
+    return x;
+}
+// A table of so many streams, of which each holds the six fields; 0, or what refused.
+static u32 table(size_t streams) {
+    u32 w[2 + sizeof small / sizeof *small], refused = 0;
+    for (size_t s = 0; s < streams; s++)
+        ids[s] = 0x1000 + s;
+    refused |= CALL(start)(ids, streams, t, 1 + RECORD * streams, &length);
+    memcpy(w + 2, small, sizeof small);
+    for (size_t s = 0; s < streams; s++) {
+        w[0] = CONTEXT | sizeof w / sizeof *w;
+        w[1] = ids[s];
+        refused |= CALL(play)(t, 1 + RECORD * streams, w, sizeof w / sizeof *w, a);
+    }
+    return refused;
+}
+int main(int argc, char **argv) {
+    // CALL KIND(small large, link processing) SIZE TIMES: SIZE is streams of a table, items, or bits of one
+    if (argc != 5)
+        return 2;
+    const char *call = argv[1];
+    int of_large = !strcmp(argv[2], "large");
+    const u32 *body = of_large ? large : small;
+    size_t n = of_large ? sizeof large / sizeof *large : sizeof small / sizeof *small, size = atol(argv[3]), times = atol(argv[4]);
+    u32 format = strcmp(argv[2], "link") ? processing : link, answer = 0, r = 0;
+    size_t streams = size >= 1 && size <= 32 ? size : 1, tn = 1 + RECORD * streams;
+    r |= table(streams);
+    if (!strcmp(call, "trailer_parts"))
+        REPEAT(r, CALL(trailer_parts)(0x12345678 + i, a));
+    if (!strcmp(call, "trailer_word"))
+        REPEAT(r, CALL(trailer_word)(0x123, 0x456, 1, i % 128, a));
+    if (!strcmp(call, "field_count"))
+        REPEAT(answer, CALL(field_count)(body[0]));
+    if (!strcmp(call, "check_body"))
+        REPEAT(r, CALL(check_body)(body, n));
+    if (!strcmp(call, "find"))
+        REPEAT(r, CALL(find)(body, n, of_large ? 19 : 18, place));
+    if (!strcmp(call, "words_needed"))
+        REPEAT(r, CALL(words_needed)(format, 0, size, &length));
+    if (!strcmp(call, "signed"))
+        REPEAT(r, CALL(signed)(size, (u64)1 << (size - 1), &value));
+    if (!strcmp(call, "start"))
+        REPEAT(r, CALL(start)(ids, streams, t, tn, &length));
+    if (!strcmp(call, "well_made"))
+        REPEAT(answer, CALL(well_made)(t, tn));
+    if (!strcmp(call, "page_length"))
+        REPEAT(r, CALL(page_length)(t, tn, &length));
+    printf("%u %u %016llx %zu %zu %zu %zu %lld\n", r, answer, (unsigned long long)sum(sum(0, t, tn), a, 4), place[0], place[1], place[2], length, (long long)value);
+    return 0;
+}
