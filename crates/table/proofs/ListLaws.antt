@@ -7,7 +7,7 @@ use borrow.Author.Tests.{leb-true, eqb-false}
 use Rattle.words.specs.Tests.{both}
 use Rattle.words.specs.All.{all}
 use Rattle.words.proofs.Cases.{le-or-lt, both-left, both-right, both-true}
-use Rattle.words.proofs.AllLaws.{all-more, all-fails, all-at, all-intro, all-same, First, first-is, first-one}
+use Rattle.words.proofs.AllLaws.{all-none, all-more, all-fails, all-at, all-intro, all-same, First, first-is, first-one}
 use Rattle.table.specs.Layout.{streamsOf}
 use Rattle.table.specs.Identifiers.{spaced, listed, declared, apart, listGood, streamOf}
 use Rattle.table.specs.Well.{GoodList}
@@ -22,6 +22,11 @@ pub spaced-inside : (first step s n l : ℕ) → 1 ≤ step → s < n → first 
 spaced-inside first step s n l o h g = omega (arith, mul-le-mul-left step h, mul-suc step s)
 
 -- ---- the loop that looks for an identifier among those before it
+
+-- none stands before the first
+pub first-apart : (id : ℕ → ℕ) → all 1 (apart id) ≡ true
+unfolding apart
+first-apart id = all-more (apart id) 0 (all-none (apart id)) (all-none _)
 
 -- the identifier of u is not that of s
 unfoldable pub others : (ℕ → ℕ) → ℕ → ℕ → Bool

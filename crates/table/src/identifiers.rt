@@ -19,12 +19,12 @@ fn is_apart(ws: &[u32], first: usize, step: usize, s: usize) -> bool
     true
 }
 
-// Whether no identifier of n stands twice.
+// Whether no identifier of n stands twice. None stands before the first.
 fn all_apart(ws: &[u32], first: usize, step: usize, n: usize) -> bool
-    requires { ⌜ (1 ≤ step) × (first + step * n ≤ length (now ws)) ⌝ }
+    requires { ⌜ (1 ≤ step) × (1 ≤ n) × (first + step * n ≤ length (now ws)) ⌝ }
     ensures { λ r. ⌜ r ≡ all n (apart (spaced first step (now (ws .entry)))) ⌝ }
 {
-    let mut s = 0;
+    let mut s = 1;
     while s < n {
         if !is_apart(ws, first, step, s) {
             return false;

@@ -59,8 +59,11 @@ fn slot_zero(ws: &[u32]) -> bool
 fn count_good(seen: u32, missing: u32, last: u32) -> bool
     ensures { λ r. ⌜ r ≡ countGood seen missing last ⌝ }
 {
+    if 16 < last {
+        return false;
+    }
     if last != 0 {
-        return last <= 16;
+        return true;
     }
     words::inner::both_of(seen == 0, missing == 0)
 }
@@ -85,13 +88,13 @@ fn counts_good(rec: &[u32]) -> bool
 fn held_good(held: u32, last: u32) -> bool
     ensures { λ r. ⌜ r ≡ heldGood held last ⌝ }
 {
-    if held & crate::inner::held::HELD != held {
-        return false;
+    if held == 0 {
+        return true;
     }
     if last == 0 {
-        return held == 0;
+        return false;
     }
-    true
+    held & crate::inner::held::HELD == held
 }
 
 // Whether the words of a slot obey the rule of the field of a bit.

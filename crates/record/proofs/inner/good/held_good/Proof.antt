@@ -1,11 +1,32 @@
--- `held_good` meets its promise: each return is a row of the definition.
-use Rattle.words.proofs.Cases.{cases}
+-- `held_good` meets its promise: each return is a row of the definition. Where nothing is held, both of its tests pass.
+use Rattle.words.proofs.Kit.{_≡_, refl, sym, Bool, true, false, ℕ, eqb, ne-eqb, eq-eqb, arith}
+use lib.Bits.{bitAnd}
+use Rattle.words.specs.Tests.{pick}
+use Rattle.words.proofs.Cases.{both-yes, both-no}
 use Rattle.record.specs.Held.{heldMask}
 use Rattle.record.specs.Good.{heldGood}
 use Rattle.record.proofs.inner.good.held_good.Statement.{statement}
 use Rattle.record.proofs.inner.good.held_good.Tie as tie
 
-pub held-good-spec : {M : Type 1} → statement M
+module _ (held last : ℕ) where
+  none-held : held ≡ 0 → true ≡ heldGood held last
+  unfolding heldGood heldMask
+  none-held e = rw e (either-way (eqb last 0))
+    where
+      either-way : (t : Bool) → true ≡ pick t true true
+      either-way true = refl
+      either-way false = refl
+
+  held-early : (held ≡ 0 → ⊥) → last ≡ 0 → false ≡ heldGood held last
+  unfolding heldGood
+  held-early some e = let f = ne-eqb held 0 some in let g = eq-eqb last 0 e in rw (g, f) (sym (both-no (eqb (bitAnd held heldMask) held)))
+
+returns-3 : tie.Need-returns-3
 unfolding heldGood heldMask
-held-good-spec =
-    tie.close (tie.spec (λ c. search cases) (λ c. search cases) (λ c. search cases))
+returns-3 c =
+    let start : tie.Start = search in
+    let late = ne-eqb (start .args .last) 0 (λ e. absurd (omega (arith, e))) in
+    rw late (sym (both-yes _))
+
+pub held-good-spec : {M : Type 1} → statement M
+held-good-spec = tie.close (tie.spec (λ c. search none-held) (λ c. search held-early) returns-3)
