@@ -1,4 +1,4 @@
-# make play, make test; for C: make lib, make example, make install, make uninstall; make compare, make speed, make stack; make wrong,
+# make play, make test; for C: make lib, make example, make show, make install, make uninstall; make compare, make speed, make stack; make wrong,
 # make count; make vectors.
 
 # tries the wrong programs of wrong/, of all crates or of those named behind it: make wrong play page
@@ -10,7 +10,7 @@ wrong:
 $(CRATES):
 	@:
 else
-.PHONY: play test lib example install uninstall compare speed stack count vectors
+.PHONY: play test lib example show install uninstall compare speed stack count vectors
 
 # plays the sample survey and prints a line for each packet
 play:
@@ -31,7 +31,11 @@ lib:
 example: lib
 	@tools/run_c examples/c/tuning.c <samples/recordings/survey.vrt
 
-# the library, static and shared, its header, its pkg-config file and vrtplay: make install PREFIX=/usr DESTDIR=/tmp/package
+# builds vrtshow over the library, and shows the sample survey: its lines, and a picture in target/survey.svg
+show: lib
+	@tools/show --svg target/survey.svg samples/recordings/survey.vrt
+
+# the library, static and shared, its header, its pkg-config file, vrtplay and vrtshow: make install PREFIX=/usr DESTDIR=/tmp/package
 PREFIX ?= /usr/local
 LIBDIR ?= $(PREFIX)/lib
 install uninstall:
