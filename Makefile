@@ -41,7 +41,8 @@ LIBDIR ?= $(PREFIX)/lib
 install uninstall:
 	@PREFIX='$(PREFIX)' LIBDIR='$(LIBDIR)' DESTDIR='$(DESTDIR)' tools/install $@
 
-# holds the library for C to the reference, to UHD and to tshark, vrtplay to its recordings, and tools/capture to known packets
+# holds the library for C to the reference, to UHD and to tshark, vrtplay to its recordings, vrtshow to the reference, and tools/capture to
+# known packets
 compare:
 	@tools/compare/compare.sh
 

@@ -126,7 +126,7 @@ static void put_value(const vrt49_shown *shown)
     if (shown->kind == VRT49_KIND_FREQUENCY)
         put_megahertz(stdout, shown);
     else if (shown->kind == VRT49_KIND_GAIN)
-        printf("%.10g + %.10g", (double)shown->levels[0], (double)shown->levels[1]);
+        printf("%.10g and %.10g", (double)shown->levels[0], (double)shown->levels[1]);
     else
         printf("%.10g", (double)shown->levels[0]);
 }
@@ -280,15 +280,16 @@ static void row(const survey *all, const stream *of, const packet *at, const cha
 void tell_tuning(const survey *all, const stream *of, const packet *at, uint32_t changed,
                  const vrt49_panel *before)
 {
+    int tuning = (changed & TUNING_FIELDS) != 0;
     char what[80];
     snprintf(what, sizeof what, ",,,,0x%08" PRIX32, changed);
     if (all->manner == CSV)
-        row(all, of, at, "tuning", what);
+        row(all, of, at, tuning ? "tuning" : "other", what);
     if (all->manner != LINES)
         return;
     put_front(at);
     put_stream(all, of);
-    printf(" tuned: ");
+    printf(tuning ? " tuned: " : " changed: ");
     put_fields(&of->panel, before, changed);
 }
 
