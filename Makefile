@@ -1,4 +1,4 @@
-# make play, make test; for C: make lib, make example, make install, make uninstall; make compare, make speed, make stack; make wrong,
+# make play, make test; for C: make lib, make example, make show, make install, make uninstall; make compare, make speed, make stack; make wrong,
 # make count; make vectors.
 
 .DEFAULT_GOAL := play
@@ -17,7 +17,7 @@ wrong: python
 $(CRATES):
 	@:
 else
-.PHONY: play test lib example install uninstall compare speed stack count vectors
+.PHONY: play test lib example show install uninstall compare speed stack count vectors
 
 # plays the sample survey and prints a line for each packet
 play:
@@ -40,14 +40,19 @@ example:
 	@$(MAKE) -s lib
 	@tools/run_c examples/c/tuning.c <samples/recordings/survey.vrt
 
-# the library, static and shared, its header, its pkg-config file and vrtplay: make install PREFIX=/usr DESTDIR=/tmp/package
+# builds vrtshow over the library, and shows the sample survey: its lines, and a picture in target/survey.svg
+show: lib
+	@tools/show --svg target/survey.svg samples/recordings/survey.vrt
+
+# the library, static and shared, its header, its pkg-config file, vrtplay and vrtshow: make install PREFIX=/usr DESTDIR=/tmp/package
 PREFIX ?= /usr/local
 LIBDIR ?= $(PREFIX)/lib
 install: python
 install uninstall:
 	@PREFIX='$(PREFIX)' LIBDIR='$(LIBDIR)' DESTDIR='$(DESTDIR)' tools/install $@
 
-# holds the library for C to the reference, to UHD and to tshark, vrtplay to its recordings, and tools/capture to known packets
+# holds the library for C to the reference, to UHD and to tshark, vrtplay to its recordings, vrtshow to the reference, and tools/capture to
+# known packets
 compare:
 	@tools/compare/compare.sh
 

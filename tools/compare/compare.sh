@@ -1,6 +1,6 @@
 #!/bin/sh
-# Holds the header to the source, libvrt49.a to the reference, to UHD and to tshark, vrtplay to its recordings, tools/capture to known packets, and the
-# examples to their output, over an installed copy; ends at the first difference.
+# Holds the header to the source, libvrt49.a to the reference, to UHD and to tshark, vrtplay to its recordings, tools/capture to known packets, the
+# examples to their output, over an installed copy, and vrtshow to the reference; ends at the first difference.
 # It is what `make compare` runs. LIBRARY names a library that is made already, VRTPLAY a command that plays (recordings.sh, capture.py), PLAYER the file
 # of vrtplay that is installed for a try (tools/install).
 set -eu
@@ -62,6 +62,8 @@ step 'recordings' $here/recordings.sh
 step 'captures' python3 $here/capture.py tools/capture "$work/uhd_packets"
 step 'the examples over an installed copy' env LIBRARY="$library" tools/try_install
 step 'the examples over the recordings' python3 -B $here/examples.py target/try_install $run
+LIBRARY=$library show/build "$work/vrtshow"
+step 'vrtshow, some minutes' python3 -B $here/show.py -- $run "$work/vrtshow"
 
 # each comparison must fail when drive.c spoils an answer
 spoilt() { # BEND COMMAND ..
@@ -76,6 +78,7 @@ spoilt 1 python3 $here/cases.py --few -- $run "$work/drive"
 spoilt 2 python3 $here/peers.py uhd "$work/uhd_packets" -- $run "$work/drive"
 spoilt 2 python3 $here/peers.py tshark "$work" -- $run "$work/drive"
 step 'the comparison itself' python3 $here/test_cases.py $run "$work/drive"
+step 'vrtshow with faults' env LIBRARY="$library" python3 -B $here/test_show.py $run
 step 'tools/capture with faults' python3 $here/test_capture.py "$work/uhd_packets"
 echo
 cat "$summary"

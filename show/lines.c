@@ -1,0 +1,389 @@
+/* lines.c: what is printed: lines, or rows of CSV, and the summary. Values are those of the panel:
+   in lines frequencies are in MHz to a millihertz, in CSV they are in hertz, exactly. */
+#include <inttypes.h>
+#include <stdio.h>
+
+#include "vrtshow.h"
+
+/* The fields whose value is shown, in the order of the lines and of CSV. */
+static const struct {
+    uint32_t bit;
+    const char *text, *unit;
+} VALUES[] = {
+    {VRT49_BIT_RF_REFERENCE_FREQUENCY, "RF", "MHz"},
+    {VRT49_BIT_IF_REFERENCE_FREQUENCY, "IF", "MHz"},
+    {VRT49_BIT_RF_REFERENCE_FREQUENCY_OFFSET, "RF offset", "MHz"},
+    {VRT49_BIT_IF_BAND_OFFSET, "IF band offset", "MHz"},
+    {VRT49_BIT_BANDWIDTH, "bandwidth", "MHz"},
+    {VRT49_BIT_SAMPLE_RATE, "sample rate", "MHz"},
+    {VRT49_BIT_LEVEL, "level", "dBm"},
+    {VRT49_BIT_GAIN, "gain", "dB"},
+    {VRT49_BIT_TEMPERATURE, "temperature", "degrees C"},
+};
+enum { VALUES_N = sizeof VALUES / sizeof VALUES[0] };
+
+/* The other held fields, which are named where they change. */
+static const struct {
+    uint32_t bit;
+    const char *text;
+} OTHERS[] = {
+    {VRT49_BIT_REFERENCE_POINT, "reference point"},
+    {VRT49_BIT_OVER_RANGE_COUNT, "over-range count"},
+    {VRT49_BIT_TIMESTAMP_ADJUSTMENT, "timestamp adjustment"},
+    {VRT49_BIT_TIMESTAMP_CALIBRATION_TIME, "timestamp calibration time"},
+    {VRT49_BIT_DEVICE, "device"},
+    {VRT49_BIT_STATE, "state"},
+    {VRT49_BIT_FORMAT, "payload format"},
+    {VRT49_BIT_GPS_GEOLOCATION, "GPS geolocation"},
+    {VRT49_BIT_INS_GEOLOCATION, "INS geolocation"},
+    {VRT49_BIT_ECEF_EPHEMERIS, "ECEF ephemeris"},
+    {VRT49_BIT_RELATIVE_EPHEMERIS, "relative ephemeris"},
+    {VRT49_BIT_EPHEMERIS_REFERENCE, "ephemeris reference"},
+};
+enum { OTHERS_N = sizeof OTHERS / sizeof OTHERS[0] };
+
+static const char *const TYPES[] = {"data without identifier", "data",
+                                    "extension data without identifier", "extension data",
+                                    "Context", "extension Context"};
+static const uint32_t COUNTED[] = {VRT49_TYPE_DATA, VRT49_TYPE_EXTENSION_DATA, VRT49_TYPE_CONTEXT,
+                                   VRT49_TYPE_EXTENSION_CONTEXT};
+enum { COUNTED_N = sizeof COUNTED / sizeof COUNTED[0] };
+
+const char *reason(uint32_t number)
+{
+    switch (number) {
+    case VRT49_TYPE: return "its type is above 5";
+    case VRT49_BITS: return "a reserved header bit is set";
+    case VRT49_SHORT: return "its size is below the parts that its header announces";
+    case VRT49_CUT: return "its size exceeds what is left: the recording ends inside it";
+    case VRT49_CLASS: return "the top eight class bits are not zero";
+    case VRT49_TIME: return "its fraction is a second or more";
+    case VRT49_INDICATOR: return "indicator bits 7-0 are not zero";
+    case VRT49_LAYOUT: return "its fields need more or fewer words than its body has";
+    case VRT49_FIELD: return "a field breaks its rule";
+    case VRT49_STREAM: return "its stream is not declared";
+    case VRT49_LIST: return "it does not begin with 1 to 32 identifiers, each once";
+    default: return "";
+    }
+}
+
+/* Whether a packet that was read has an identifier. */
+static int has_identifier(const vrt49_packet *read)
+{
+    return read->type != VRT49_TYPE_DATA_NO_ID && read->type != VRT49_TYPE_EXTENSION_DATA_NO_ID;
+}
+
+/* ---- numbers as text */
+
+const char *grouped(uint64_t number)
+{
+    static char texts[8][32];
+    static int next;
+    char *text = texts[next++ & 7] + 31;
+    int digits = 0;
+    for (*text = 0; digits == 0 || number != 0; number /= 10, digits++) {
+        if (digits != 0 && digits % 3 == 0)
+            *--text = ',';
+        *--text = (char)('0' + number % 10);
+    }
+    return text;
+}
+
+/* So many digits behind a point, without the zeros at their end; nothing where all are zero. */
+static void put_decimals(FILE *out, uint64_t rest, int digits)
+{
+    if (rest == 0)
+        return;
+    for (; rest % 10 == 0; rest /= 10)
+        digits--;
+    fprintf(out, ".%0*" PRIu64, digits, rest);
+}
+
+void put_megahertz(FILE *out, const vrt49_shown *shown)
+{
+    uint64_t thousandths = shown->parts * UINT64_C(1000), size;
+    int64_t value = shown->hertz * 1000 + (int64_t)((thousandths + (1 << 19)) >> 20);
+    size = value < 0 ? (uint64_t)-value : (uint64_t)value;
+    fprintf(out, "%s%s%" PRIu64, thousandths & 0xFFFFF ? "~" : "", value < 0 ? "-" : "",
+            size / 1000000000);
+    put_decimals(out, size % 1000000000, 9);
+}
+
+/* A frequency in hertz, exactly: -1 and 786,432 parts are -0.25. */
+static void put_hertz(const vrt49_shown *shown)
+{
+    int below = shown->hertz < 0, up = below && shown->parts != 0;
+    uint64_t whole = below ? (uint64_t)-(shown->hertz + up) : (uint64_t)shown->hertz;
+    uint32_t rest = up ? (1u << 20) - shown->parts : shown->parts;
+    printf("%s%" PRIu64 "%s", below ? "-" : "", whole, rest != 0 ? "." : "");
+    for (; rest != 0; rest = rest * 10 & 0xFFFFF)
+        putchar('0' + (int)(rest * 10 >> 20));
+}
+
+/* What the panel shows of a field, without its unit. */
+static void put_value(const vrt49_shown *shown)
+{
+    if (shown->kind == VRT49_KIND_FREQUENCY)
+        put_megahertz(stdout, shown);
+    else if (shown->kind == VRT49_KIND_GAIN)
+        printf("%.10g and %.10g", (double)shown->levels[0], (double)shown->levels[1]);
+    else
+        printf("%.10g", (double)shown->levels[0]);
+}
+
+/* ---- lines */
+
+/* Where the line's packet stands, and when it says that it was made: seconds, and picoseconds. */
+static void put_front(const packet *at)
+{
+    vrt49_packet read;
+    printf("at %" PRIu64 " packet %" PRIu64, at->place, at->number);
+    if (vrt49_read(at->words, at->words_n, &read) != VRT49_OK || read.tsi == VRT49_TSI_NONE)
+        return;
+    printf(" time %" PRIu32, read.seconds);
+    if (read.tsf == VRT49_TSF_PICOSECONDS)
+        put_decimals(stdout, vrt49_fraction(&read), 12);
+}
+
+static void put_stream(const survey *all, const stream *of)
+{
+    printf(" stream %d (0x%08" PRIX32 ")", (int)(of - all->streams), of->identifier);
+}
+
+/* The values of the fields of the set bits, each behind its value before where it had one; then the
+   names of the others that changed. */
+static void put_fields(const vrt49_panel *now, const vrt49_panel *before, uint32_t bits)
+{
+    const char *between = "";
+    size_t i;
+    for (i = 0; i < VALUES_N; i++) {
+        vrt49_shown shown = vrt49_shown_of(now, VALUES[i].bit);
+        vrt49_shown old = vrt49_shown_of(before ? before : now, VALUES[i].bit);
+        if ((bits >> VALUES[i].bit & 1) == 0 || shown.kind == VRT49_KIND_ABSENT)
+            continue;
+        printf("%s%s ", between, VALUES[i].text);
+        if (before && old.kind != VRT49_KIND_ABSENT) {
+            put_value(&old);
+            printf(" -> ");
+        }
+        put_value(&shown);
+        printf(" %s", VALUES[i].unit);
+        between = ", ";
+    }
+    between = between[0] ? "; also " : "";
+    for (i = 0; i < OTHERS_N; i++)
+        if (bits >> OTHERS[i].bit & 1) {
+            printf("%s%s", between, OTHERS[i].text);
+            between = ", ";
+        }
+    puts("");
+}
+
+/* What was refused, and why. */
+static void line_refused(const packet *at, uint32_t number)
+{
+    vrt49_packet read;
+    if (at)
+        put_front(at);
+    else
+        printf("at 0");
+    printf(" refused %" PRIu32 " %s: ", number, vrt49_name(number));
+    if (number != VRT49_STREAM || vrt49_read(at->words, at->words_n, &read) != VRT49_OK)
+        printf("%s\n", reason(number));
+    else if (has_identifier(&read))
+        printf("identifier 0x%08" PRIX32 " is not declared\n", read.identifier);
+    else
+        printf("type %" PRIu32 " (%s)\n", read.type, TYPES[read.type]);
+}
+
+/* ---- rows of CSV */
+
+void tell_columns(void)
+{
+    puts("packet,word,event,stream,identifier,type,missing,unsure_since,refusal,name,changed,"
+         "tsi,seconds,tsf,fraction,rf_hz,if_hz,rf_offset_hz,if_band_offset_hz,bandwidth_hz,"
+         "sample_rate_hz,level_dbm,gain_1_db,gain_2_db,temperature_c");
+}
+
+/* A value of a row: nothing where the field is absent. */
+static void put_cell(const stream *of, uint32_t bit)
+{
+    vrt49_shown shown;
+    putchar(',');
+    if (bit == VRT49_BIT_GAIN && !of)
+        putchar(',');
+    if (!of)
+        return;
+    shown = shown_of(of, bit);
+    if (shown.kind == VRT49_KIND_FREQUENCY)
+        put_hertz(&shown);
+    else if (shown.kind != VRT49_KIND_ABSENT)
+        printf("%.10g", (double)shown.levels[0]);
+    if (bit == VRT49_BIT_GAIN)
+        putchar(',');
+    if (shown.kind == VRT49_KIND_GAIN)
+        printf("%.10g", (double)shown.levels[1]);
+}
+
+/* Where it stands and what it is: packet,word,event,stream,identifier,type. */
+static void put_who(const survey *all, const stream *of, const packet *at, const vrt49_packet *read,
+                    const char *event)
+{
+    if (at)
+        printf("%" PRIu64 ",%" PRIu64 ",%s,", at->number, at->place, event);
+    else
+        printf(",0,%s,", event);
+    if (of)
+        printf("%d", (int)(of - all->streams));
+    if (read && has_identifier(read))
+        printf(",0x%08" PRIX32, read->identifier);
+    else
+        printf(",");
+    if (read)
+        printf(",%" PRIu32, read->type);
+    else
+        printf(",");
+}
+
+/* When it says that it was made: tsi,seconds,tsf,fraction. */
+static void put_when(const vrt49_packet *read)
+{
+    if (!read) {
+        printf(",,,,");
+        return;
+    }
+    printf(",%" PRIu32 ",", read->tsi);
+    if (read->tsi != VRT49_TSI_NONE)
+        printf("%" PRIu32, read->seconds);
+    printf(",%" PRIu32 ",", read->tsf);
+    if (read->tsf != VRT49_TSF_NONE)
+        printf("%" PRIu64, vrt49_fraction(read));
+}
+
+/* A row; what: its cells missing,unsure_since,refusal,name,changed. */
+static void row(const survey *all, const stream *of, const packet *at, const char *event,
+                const char *what)
+{
+    vrt49_packet read;
+    int good = at && vrt49_read(at->words, at->words_n, &read) == VRT49_OK;
+    size_t i;
+    put_who(all, of, at, good ? &read : NULL, event);
+    printf(",%s", what);
+    put_when(good ? &read : NULL);
+    for (i = 0; i < VALUES_N; i++)
+        put_cell(of, VALUES[i].bit);
+    puts("");
+}
+
+/* ---- what happens, in the survey's manner */
+
+void tell_tuning(const survey *all, const stream *of, const packet *at, uint32_t changed,
+                 const vrt49_panel *before)
+{
+    int tuning = (changed & TUNING_FIELDS) != 0;
+    char what[80];
+    snprintf(what, sizeof what, ",,,,0x%08" PRIX32, changed);
+    if (all->manner == CSV)
+        row(all, of, at, tuning ? "tuning" : "other", what);
+    if (all->manner != LINES)
+        return;
+    put_front(at);
+    put_stream(all, of);
+    printf(tuning ? " tuned: " : " changed: ");
+    put_fields(&of->panel, before, changed);
+}
+
+void tell_missing(const survey *all, const stream *of, const packet *at)
+{
+    int context = at->said->type == VRT49_TYPE_CONTEXT;
+    char what[80];
+    if (all->manner == CSV && context)
+        snprintf(what, sizeof what, "%" PRIu32 ",%" PRIu64 ",,,", at->said->missing, of->context);
+    else if (all->manner == CSV)
+        snprintf(what, sizeof what, "%" PRIu32 ",,,,", at->said->missing);
+    if (all->manner == CSV)
+        row(all, of, at, "missing", what);
+    if (all->manner != LINES)
+        return;
+    put_front(at);
+    put_stream(all, of);
+    printf(" missing %" PRIu32 " of type %" PRIu32 " (%s)", at->said->missing, at->said->type,
+           TYPES[at->said->type]);
+    if (context)
+        printf(": tuning not to be trusted since packet %" PRIu64 ", for %" PRIu64 " data packets",
+               of->context, of->since);
+    puts("");
+}
+
+void tell_refused(const survey *all, const packet *at, uint32_t number)
+{
+    char what[80];
+    snprintf(what, sizeof what, ",,%" PRIu32 ",%s,", number, vrt49_name(number));
+    if (all->manner == CSV)
+        row(all, NULL, at, "refused", what);
+    if (all->manner == LINES)
+        line_refused(at, number);
+}
+
+/* ---- the summary */
+
+/* Packets that were seen and missing, of each type that is counted. */
+static void put_counts(const survey *all, const stream *of)
+{
+    size_t i;
+    for (i = 0; i < COUNTED_N; i++) {
+        vrt49_count count = counted(all, of, COUNTED[i]);
+        if (count.started)
+            printf("%14s %9s", grouped(count.seen), grouped(count.missing));
+        else
+            printf("%14s %9s", "-", "-");
+    }
+    puts("");
+}
+
+static void put_strangers(const survey *all)
+{
+    size_t i;
+    for (i = 0; i < STRANGERS && all->strangers[i].packets != 0; i++)
+        printf("not declared: 0x%08" PRIX32 ", packets %s\n", all->strangers[i].identifier,
+               grouped(all->strangers[i].packets));
+    if (all->others != 0)
+        printf("not declared: other identifiers, packets %s\n", grouped(all->others));
+    if (all->unnamed != 0)
+        printf("not declared: no identifier, packets %s\n", grouped(all->unnamed));
+}
+
+/* What a stream did: its packets by type, and its last tuning. */
+static void put_summary(const survey *all, const stream *of)
+{
+    uint32_t held = held_bits(all, of) & VALUE_FIELDS;
+    printf("%6d 0x%08" PRIX32, (int)(of - all->streams), of->identifier);
+    put_counts(all, of);
+    printf("       last tuning: ");
+    if (held != 0)
+        put_fields(&of->panel, NULL, held);
+    else
+        puts("none");
+    if (of->unsure != 0)
+        printf("       tuning not to be trusted for %s data packets\n", grouped(of->unsure));
+}
+
+void tell_summary(const survey *all, const recording *from)
+{
+    const stream *of;
+    if (all->streams_n != 0)
+        printf("\n%-17s%24s%24s%24s%24s\n%-17s%24s%24s%24s%24s\n", "", "data (1)",
+               "extension data (3)", "Context (4)", "extension Context (5)", "stream identifier",
+               "seen   missing", "seen   missing", "seen   missing", "seen   missing");
+    for (of = all->streams; of < all->streams + all->streams_n; of++)
+        put_summary(all, of);
+    printf("\npackets %s, missing %s", grouped(all->packets), grouped(all->missing));
+    if (all->contexts_missing != 0)
+        printf(" (Context %s)", grouped(all->contexts_missing));
+    printf(", refused %s\n", grouped(all->refused));
+    put_strangers(all);
+    if (all->stopped_by != VRT49_OK)
+        printf("stopped: refused %" PRIu32 " %s: %s\n", all->stopped_by,
+               vrt49_name(all->stopped_by), reason(all->stopped_by));
+    printf("end %" PRIu64 " tail %d\n", all->stopped_at, (int)(from->bytes % 4));
+}

@@ -1,0 +1,49 @@
+/* recording.c: the words of a recording, in a buffer that is refilled at a packet's edge. Bytes are
+   taken as they come, so that a recording that is being made is shown as it grows. */
+#define _POSIX_C_SOURCE 200809L
+#include <errno.h>
+#include <string.h>
+#include <unistd.h>
+
+#include "vrtshow.h"
+
+/* Puts the bytes of a word of the buffer into the host's order. */
+static uint32_t in_order(const uint32_t *word, int little)
+{
+    const unsigned char *b = (const unsigned char *)word;
+    return little ? (uint32_t)b[3] << 24 | (uint32_t)b[2] << 16 | (uint32_t)b[1] << 8 | b[0]
+                  : (uint32_t)b[0] << 24 | (uint32_t)b[1] << 16 | (uint32_t)b[2] << 8 | b[3];
+}
+
+/* Before more is waited for: how far it is, where it is shown, and what was printed so far. */
+static void tell_progress(const recording *from)
+{
+    if (from->expected != 0)
+        fprintf(stderr, "\rvrtshow: %3d %% ", (int)(100 * from->bytes / from->expected));
+    if (from->live)
+        fflush(stdout);
+}
+
+void refill(recording *from)
+{
+    size_t left = from->have - from->at, i, used;
+    unsigned char *bytes = (unsigned char *)from->words;
+    ssize_t got;
+    if (from->at != 0)
+        memmove(from->words, from->words + from->at, 4 * left + from->loose);
+    from->before += from->at;
+    from->at = 0;
+    used = 4 * left + from->loose;
+    tell_progress(from);
+    do
+        got = read(from->file, bytes + used, sizeof from->words - used);
+    while (got < 0 && errno == EINTR);
+    from->failed = got < 0 ? errno : 0;
+    from->ended = got <= 0;
+    used += got > 0 ? (size_t)got : 0;
+    from->bytes += got > 0 ? (uint64_t)got : 0;
+    from->have = used / 4;
+    from->loose = used % 4;
+    for (i = left; i < from->have; i++)
+        from->words[i] = in_order(&from->words[i], from->little);
+}

@@ -1,0 +1,231 @@
+/* survey.c: plays a recording and sees what happens in it. A run plays many packets at once on the
+   table of all streams: it says of each packet its stream and what is missing. Each Context packet
+   is played once more on a table of its stream alone: that has the tuning as it is at this packet,
+   at a cost that does not grow with the number of streams. */
+#include <stdlib.h>
+#include <string.h>
+
+#include "vrtshow.h"
+
+enum { RUN = 4096 }; /* packets that are played at once */
+
+/* The fields that the band follows from. */
+static const uint32_t BAND = 1u << VRT49_BIT_BANDWIDTH | 1u << VRT49_BIT_IF_REFERENCE_FREQUENCY |
+                             1u << VRT49_BIT_RF_REFERENCE_FREQUENCY |
+                             1u << VRT49_BIT_RF_REFERENCE_FREQUENCY_OFFSET |
+                             1u << VRT49_BIT_IF_BAND_OFFSET;
+
+/* A call that cannot be refused here: the tables are those that the library made. */
+static void accepted(uint32_t number, const char *call)
+{
+    if (number == VRT49_OK)
+        return;
+    fprintf(stderr, "vrtshow: %s refused %u %s\n", call, (unsigned)number, vrt49_name(number));
+    abort();
+}
+
+vrt49_shown shown_of(const stream *of, uint32_t bit)
+{
+    return vrt49_shown_of(&of->panel, bit);
+}
+
+uint32_t held_bits(const survey *all, const stream *of)
+{
+    uint32_t identifier, held;
+    accepted(vrt49_identity(all->table, all->layout, (size_t)(of - all->streams), &identifier,
+                            &held), "vrt49_identity");
+    return held;
+}
+
+vrt49_count counted(const survey *all, const stream *of, uint32_t type)
+{
+    vrt49_count count;
+    accepted(vrt49_counts(all->table, all->layout, (size_t)(of - all->streams), type, &count),
+             "vrt49_counts");
+    return count;
+}
+
+/* ---- the list */
+
+/* Starts the tables from the list at the front: 0 or LIST. */
+static uint32_t start(survey *all, recording *from)
+{
+    uint32_t number, held;
+    size_t s, length;
+    do
+        refill(from);
+    while (!from->ended && (from->have == 0 || (from->words[0] <= VRT49_STREAMS_MAX &&
+                                                from->have <= from->words[0])));
+    if (from->have == 0 || from->words[0] > VRT49_STREAMS_MAX || from->have <= from->words[0])
+        return VRT49_LIST;
+    number = vrt49_start(from->words + 1, from->words[0], all->table,
+                         VRT49_TABLE_WORDS(VRT49_STREAMS_MAX), &all->layout);
+    if (number != VRT49_OK)
+        return number;
+    all->streams_n = from->words[0];
+    for (s = 0; s < all->streams_n; s++) {
+        stream *of = &all->streams[s];
+        accepted(vrt49_identity(all->table, all->layout, s, &of->identifier, &held),
+                 "vrt49_identity");
+        accepted(vrt49_own_table(all->table, all->layout, s, of->table, VRT49_TABLE_WORDS(1),
+                                 &length), "vrt49_own_table");
+        accepted(vrt49_show_all(of->table, length, 0, &of->panel), "vrt49_show_all");
+    }
+    from->at = 1 + all->streams_n;
+    return VRT49_OK;
+}
+
+/* ---- packets that are accepted */
+
+/* The hertz of a field of the stream; none where it is absent. */
+static double hertz_of(const stream *of, uint32_t bit)
+{
+    vrt49_shown shown = shown_of(of, bit);
+    return shown.kind == VRT49_KIND_FREQUENCY ? vrt49_hertz(&shown) : 0;
+}
+
+/* The band has changed. Its centre is the RF Reference Frequency with its offset, or, where there
+   is none, the IF Reference Frequency; and the IF Band Offset (7.1.5.5 to 7.1.5.8 of 49.0). */
+static void band_changed(survey *all, stream *of)
+{
+    int rf = shown_of(of, VRT49_BIT_RF_REFERENCE_FREQUENCY).kind == VRT49_KIND_FREQUENCY;
+    int nf = shown_of(of, VRT49_BIT_IF_REFERENCE_FREQUENCY).kind == VRT49_KIND_FREQUENCY;
+    double half = hertz_of(of, VRT49_BIT_BANDWIDTH) / 2;
+    double centre = hertz_of(of, VRT49_BIT_IF_BAND_OFFSET);
+    band now;
+    if (!rf && !nf)
+        return;
+    centre += rf ? hertz_of(of, VRT49_BIT_RF_REFERENCE_FREQUENCY) +
+                   hertz_of(of, VRT49_BIT_RF_REFERENCE_FREQUENCY_OFFSET)
+                 : hertz_of(of, VRT49_BIT_IF_REFERENCE_FREQUENCY);
+    now.low = (centre - half) / 1e6;
+    now.centre = centre / 1e6;
+    now.high = (centre + half) / 1e6;
+    note_band(all, of, now);
+}
+
+/* A Context packet: which held fields it changed, and what the panel shows after it. */
+static void look(survey *all, stream *of, const packet *at)
+{
+    uint32_t table[VRT49_TABLE_WORDS(1)], changed;
+    vrt49_panel before = of->panel;
+    vrt49_heard heard;
+    memcpy(table, of->table, sizeof table);
+    accepted(vrt49_play(of->table, VRT49_TABLE_WORDS(1), at->words, at->words_n, &heard),
+             "vrt49_play");
+    accepted(vrt49_changed(table, VRT49_TABLE_WORDS(1), 0, of->table, VRT49_TABLE_WORDS(1), 0,
+                           &changed), "vrt49_changed");
+    of->context = at->number;
+    of->since = 0;
+    if (changed == 0)
+        return;
+    accepted(vrt49_show_all(of->table, VRT49_TABLE_WORDS(1), 0, &of->panel), "vrt49_show_all");
+    if (changed & BAND)
+        band_changed(all, of);
+    if (changed & TUNING_FIELDS || all->all)
+        tell_tuning(all, of, at, changed, &before);
+}
+
+/* Packets are missing before this one. */
+static void miss(survey *all, stream *of, column *now, const packet *at)
+{
+    all->missing += at->said->missing;
+    if (at->said->type == VRT49_TYPE_CONTEXT) {
+        now->contexts_missing += at->said->missing;
+        all->contexts_missing += at->said->missing;
+        note_unsure(all, of);
+    } else {
+        now->missing += at->said->missing;
+    }
+    tell_missing(all, of, at);
+}
+
+static void hear(survey *all, const packet *at)
+{
+    stream *of = &all->streams[at->said->stream];
+    column *now = &of->columns[column_now(all)];
+    now->seen++;
+    if (at->said->missing != 0)
+        miss(all, of, now, at);
+    if (at->said->type == VRT49_TYPE_CONTEXT)
+        look(all, of, at);
+    else if (at->said->type != VRT49_TYPE_EXTENSION_CONTEXT)
+        of->since++;
+}
+
+/* ---- packets that are refused */
+
+/* A packet of no declared stream: counts it, by its identifier where there is room. */
+static void count_stranger(survey *all, const packet *at)
+{
+    vrt49_packet read;
+    size_t i = 0;
+    accepted(vrt49_read(at->words, at->words_n, &read), "vrt49_read");
+    if (read.type == VRT49_TYPE_DATA_NO_ID || read.type == VRT49_TYPE_EXTENSION_DATA_NO_ID) {
+        all->unnamed++;
+        return;
+    }
+    while (i < STRANGERS && all->strangers[i].packets != 0 &&
+           all->strangers[i].identifier != read.identifier)
+        i++;
+    if (i == STRANGERS) {
+        all->others++;
+        return;
+    }
+    all->strangers[i].identifier = read.identifier;
+    all->strangers[i].packets++;
+}
+
+static void refuse(survey *all, const packet *at)
+{
+    all->refused_in[column_now(all)]++;
+    all->refused++;
+    if (at->said->number == VRT49_STREAM)
+        count_stranger(all, at);
+    else
+        all->stopped_by = at->said->number;
+    tell_refused(all, at, at->said->number);
+}
+
+/* ---- all of it */
+
+/* Looks at the packets of a run, one after the other, and gives how many it looked at: all but one
+   that is cut where more words may come. */
+static size_t look_at(survey *all, recording *from, const vrt49_entry *entries, size_t packets)
+{
+    packet at;
+    size_t i;
+    for (i = 0; i < packets; i++) {
+        if (entries[i].number == VRT49_CUT && !from->ended)
+            break;
+        at.number = all->packets;
+        at.place = from->before + from->at;
+        at.said = &entries[i];
+        at.words = from->words + from->at;
+        at.words_n = from->have - from->at;
+        if (entries[i].number == VRT49_OK)
+            hear(all, &at);
+        else
+            refuse(all, &at);
+        all->packets++;
+        from->at += entries[i].size;
+    }
+    return i;
+}
+
+void play(survey *all, recording *from)
+{
+    static vrt49_entry entries[RUN];
+    size_t packets, next, looked;
+    all->stopped_by = start(all, from);
+    if (all->stopped_by != VRT49_OK)
+        tell_refused(all, NULL, all->stopped_by);
+    while (all->stopped_by == VRT49_OK && !(from->ended && from->at == from->have)) {
+        accepted(vrt49_play_entries(all->table, all->layout, from->words, from->have, from->at,
+                                    entries, RUN, &packets, &next), "vrt49_play_run");
+        looked = look_at(all, from, entries, packets);
+        if (!from->ended && (looked < packets || from->at == from->have))
+            refill(from);
+    }
+    all->stopped_at = from->before + from->at;
+}

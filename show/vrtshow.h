@@ -1,0 +1,159 @@
+/* vrtshow.h: what the files of vrtshow share. recording.c hands over a recording's words, survey.c
+   plays them and sees what happens, columns.c gathers it for the picture, lines.c says it as lines,
+   as CSV and as a summary, picture.c draws it, and vrtshow.c is the program. Nothing is allocated:
+   all memory is fixed. */
+#ifndef VRTSHOW_H
+#define VRTSHOW_H
+#include <stdint.h>
+#include <stdio.h>
+
+#include "vrt49.h"
+
+/* ---- the recording: words, refilled at a packet's edge */
+
+enum { WORDS_ROOM = 1 << 18 }; /* more than a packet has */
+
+typedef struct {
+    int file;           /* its descriptor */
+    int little;         /* 1 where its words are little-endian */
+    int ended;          /* 1 where no byte comes any more */
+    int failed;         /* errno of a read that failed, or 0 */
+    int live;           /* 1 where its bytes may come slowly: it is no file */
+    uint64_t expected;  /* its bytes, where it is shown how far it is, else 0 */
+    uint64_t bytes;     /* that were read so far */
+    uint64_t before;    /* words that came before words[0] */
+    size_t have;        /* words that are there, */
+    size_t at;          /* those of them that were played, */
+    size_t loose;       /* and bytes behind them that make no word yet */
+    uint32_t words[WORDS_ROOM];
+} recording;
+
+/* Moves the words that were not played to the front, and reads what there is behind them. */
+void refill(recording *from);
+
+/* ---- the survey: what happened so far */
+
+/* The fields that are the tuning, 29 to 23 and 21; and those whose value the panel shows. */
+#define TUNING_FIELDS 0x3FA00000u
+#define VALUE_FIELDS (TUNING_FIELDS | 1u << VRT49_BIT_TEMPERATURE)
+
+enum { COLUMNS = 2048, STRANGERS = 8 };
+
+/* A band of frequencies and its centre, MHz. */
+typedef struct {
+    double low, centre, high;
+} band;
+
+/* What a stream did in the packets of one column of the picture. */
+typedef struct {
+    uint32_t seen;             /* its packets */
+    uint32_t missing;          /* packets missing before them, other than Context packets */
+    uint32_t contexts_missing; /* Context packets missing before them */
+    uint32_t unsure;           /* 1 where the tuning cannot be trusted at a packet of the column */
+    uint32_t tunings;          /* how often the band changed; the rest is of these alone */
+    band last;                 /* the band that it changed to last */
+    double low, high;          /* the edges of all these bands */
+    double least, greatest;    /* the centres of all these bands */
+} column;
+
+typedef struct {
+    uint32_t identifier;
+    uint32_t table[VRT49_TABLE_WORDS(1)]; /* its own: the tuning at its last Context packet */
+    vrt49_panel panel;                    /* what the panel shows of that */
+    uint64_t context;                     /* the number of its last Context packet */
+    uint64_t since;                       /* its data packets since then */
+    uint64_t unsure;                      /* its data packets whose tuning cannot be trusted */
+    uint64_t tunings;                     /* how often its band changed, the first time included */
+    band last;                            /* its band; it has one where tunings is not 0 */
+    double low, high, least, greatest;    /* the edges and centres of all its bands */
+    column columns[COLUMNS];
+} stream;
+
+enum manner { LINES, SUMMARY, CSV };
+
+typedef struct {
+    enum manner manner;              /* what is printed */
+    int all;                         /* 1: also where other held fields than the tuning change */
+    uint32_t streams_n;
+    stream streams[VRT49_STREAMS_MAX];
+    uint32_t table[VRT49_TABLE_WORDS(VRT49_STREAMS_MAX)];
+    size_t layout;                   /* the table's words */
+    uint64_t packets;                /* that were looked at so far, refused ones too */
+    uint64_t missing, contexts_missing;
+    uint64_t refused;                /* packets that were refused */
+    uint32_t stopped_by;             /* the number of the refusal that ended it, or 0 */
+    uint64_t stopped_at;             /* the word that it stopped at */
+    uint64_t unnamed;                /* packets without an identifier */
+    uint64_t others;                 /* packets of undeclared identifiers that are not listed: */
+    struct {
+        uint32_t identifier;
+        uint64_t packets;
+    } strangers[STRANGERS];
+    unsigned shift;                  /* a column is 2 to this power of packets */
+    uint32_t refused_in[COLUMNS];
+} survey;
+
+/* A packet that is looked at: its number and place, what the run said of it, and its words. */
+typedef struct {
+    uint64_t number, place;
+    const vrt49_entry *said;
+    const uint32_t *words;
+    size_t words_n;
+} packet;
+
+/* Plays the whole recording, and prints what happens in the survey's manner. */
+void play(survey *all, recording *from);
+
+/* What the panel shows of a field of the stream. */
+vrt49_shown shown_of(const stream *of, uint32_t bit);
+
+/* The fields that the stream holds. */
+uint32_t held_bits(const survey *all, const stream *of);
+
+/* What the stream counted of a type. */
+vrt49_count counted(const survey *all, const stream *of, uint32_t type);
+
+/* ---- columns of the picture */
+
+/* The column of the packet that is looked at. */
+size_t column_now(survey *all);
+
+/* Notes that the stream has another band from this packet on. */
+void note_band(survey *all, stream *of, band now);
+
+/* Notes that the stream's tuning cannot be trusted from its last Context packet to this packet. */
+void note_unsure(survey *all, stream *of);
+
+/* ---- what is printed */
+
+/* The first line of CSV: the names of the columns. */
+void tell_columns(void);
+
+/* That the fields of the set bits changed; before: what the panel showed until now. */
+void tell_tuning(const survey *all, const stream *of, const packet *at, uint32_t changed,
+                 const vrt49_panel *before);
+
+/* That packets are missing before this one. */
+void tell_missing(const survey *all, const stream *of, const packet *at);
+
+/* That the packet is refused; or the list, where there is no packet. */
+void tell_refused(const survey *all, const packet *at, uint32_t number);
+
+/* What each stream did, and where the recording ended. */
+void tell_summary(const survey *all, const recording *from);
+
+/* Why a number is given. */
+const char *reason(uint32_t number);
+
+/* A count with commas, in a buffer that is used again after eight. */
+const char *grouped(uint64_t number);
+
+/* A frequency in MHz, to a millihertz; ~ stands before one that is rounded. */
+void put_megahertz(FILE *out, const vrt49_shown *shown);
+
+/* ---- the picture */
+
+/* The survey as SVG; name: the recording's. */
+void draw(FILE *out, const survey *all, const char *name);
+
+#endif
