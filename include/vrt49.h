@@ -18,9 +18,10 @@
 
    What a call costs in S, the number of streams: vrt49_play, vrt49_well_made, vrt49_page_length,
    vrt49_save, vrt49_put_back, vrt49_reading and vrt49_held_words test a whole table each time, 500
-   to 750 instructions for each stream that holds six fields. vrt49_play_run is the fast one: it
-   tests the table once, and then takes 110 instructions for a sample packet and 6 for each stream
-   before its own (docs/SPEED.md).
+   to 750 instructions for each stream that holds six fields, and so do vrt49_identity, vrt49_counts
+   and vrt49_own_table; vrt49_changed tests two. vrt49_play_run is the fast one: it tests the table
+   once, and then takes 110 instructions for a sample packet and 6 for each stream before its own
+   (docs/SPEED.md).
 
    What a caller owes: a pointer to a number or to a struct is not null; what is written, be it
    number, struct or buffer, overlaps nothing else that is handed over; a pointer is aligned as its
@@ -261,6 +262,14 @@ typedef struct vrt49_entry {
     uint32_t missing; /* counts passed over before it, 0 to 15 */
 } vrt49_entry;
 
+/* What a stream counted of a type. */
+typedef struct vrt49_count {
+    uint32_t started; /* 1; or 0 where no packet of the type came, and then all are 0 */
+    uint32_t seen;    /* packets, modulo 2^32 */
+    uint32_t missing; /* counts passed over, modulo 2^32 */
+    uint32_t last;    /* the count of the last one, 0 to 15 */
+} vrt49_count;
+
 /* What the panel shows of a field, as vrt49_show gives it. */
 typedef struct vrt49_shown {
     uint32_t kind;   /* enum vrt49_kind */
@@ -282,6 +291,7 @@ VRT49_ASSERT(vrt49_trailer_is_4_words, sizeof(vrt49_trailer) == 4 * sizeof(uint3
 VRT49_ASSERT(vrt49_place_is_3_sizes, sizeof(vrt49_place) == 3 * sizeof(size_t));
 VRT49_ASSERT(vrt49_heard_is_4_words, sizeof(vrt49_heard) == 4 * sizeof(uint32_t));
 VRT49_ASSERT(vrt49_entry_is_5_words, sizeof(vrt49_entry) == 5 * sizeof(uint32_t));
+VRT49_ASSERT(vrt49_count_is_4_words, sizeof(vrt49_count) == 4 * sizeof(uint32_t));
 VRT49_ASSERT(vrt49_sizes_have_64_bits, sizeof(size_t) == 8);
 #undef VRT49_ASSERT
 
@@ -381,6 +391,29 @@ uint32_t vrt49_reading(const uint32_t *table, size_t table_n, size_t stream, uin
    many, 0 where the field is absent. */
 uint32_t vrt49_held_words(const uint32_t *table, size_t table_n, size_t stream, uint32_t bit,
                           uint32_t *out, size_t room, size_t *length);
+
+/* ---- what a table says of a stream */
+
+/* The stream's identifier, and its held indicator: bit b is set exactly where the field of bit b is
+   held. TABLE, STREAM. */
+uint32_t vrt49_identity(const uint32_t *table, size_t table_n, size_t stream, uint32_t *identifier,
+                        uint32_t *held);
+
+/* What the stream counted of a type, 1, 3, 4 or 5: TABLE, STREAM, VALUE for another type. */
+uint32_t vrt49_counts(const uint32_t *table, size_t table_n, size_t stream, uint32_t type,
+                      vrt49_count *answer);
+
+/* The stream's record as a table of its own, of one stream, at the front of out; the other words of
+   out stay: TABLE, STREAM, ROOM. length: its words, VRT49_TABLE_WORDS(1). */
+uint32_t vrt49_own_table(const uint32_t *table, size_t table_n, size_t stream, uint32_t *out,
+                         size_t room, size_t *length);
+
+/* The fields, bits 30 to 10, for which the one stream and the other do not hold the same words; an
+   absent field holds none. What a packet changed is asked of the stream's own table from before it
+   and of the table after it. TABLE, STREAM, of either. */
+uint32_t vrt49_changed(const uint32_t *before, size_t before_n, size_t before_stream,
+                       const uint32_t *after, size_t after_n, size_t after_stream,
+                       uint32_t *fields);
 
 /* ---- the same with names: each calls one of the above, or puts words together */
 

@@ -13,6 +13,7 @@ import making
 import page
 import panel
 import payload
+import streams
 import table
 import vrt49
 import vrt49_write
@@ -593,6 +594,69 @@ def held_words(r):
     return Case(args, 0, {3: array("I", after), 4: put(length, [what])})
 
 
+# What a table says of a stream.
+
+
+def identity(r):
+    lent = lent_table(r)
+    stream, _ = some_place(r, lent)
+    identifier, held = noisy(r, 1), noisy(r, 1)
+    args = [given(lent), stream, identifier, held]
+    said = streams.identity(lent, stream)
+    if said[0] == "refused":
+        return refused(args, said[1])
+    return Case(args, 0, {2: put(identifier, [said[1]]), 3: put(held, [said[2]])})
+
+
+def counts(r):
+    lent = lent_table(r)
+    stream, _ = some_place(r, lent)
+    kind = r.choice((1, 3, 4, 5)) if r.randrange(6) else r.choice((0, 2, 6, 7, 8, 257, ONES, making.word(r)))
+    answer = noisy(r, 4)
+    args = [given(lent), stream, kind, answer]
+    said = streams.counts(lent, stream, kind)
+    if said[0] == "refused":
+        return refused(args, said[1])
+    return Case(args, 0, {3: put(answer, [1, *said[1:]] if said[0] == "started" else [0, 0, 0, 0])})
+
+
+def own_table(r):
+    lent = lent_table(r)
+    stream, _ = some_place(r, lent)
+    out, length = noisy(r, r.choice((0, 88, 89, 89, 89, 90, 120))), length_place(r)
+    args = [given(lent), stream, out, length]
+    (said, what), after = streams.own_table(lent, stream, list(out.entries))
+    if said == "refused":
+        return refused(args, what)
+    return Case(args, 0, {2: array("I", after), 3: put(length, [what])})
+
+
+def played_on(r, lent):
+    """The table after some packets of its own streams; a table that is not well made stays."""
+    for _ in range(r.randrange(4)):
+        lent = table.play_lent(lent, making.packet(r, r.choice((1, 4, 4)), declared(r, lent)))[1]
+    return lent
+
+
+def changed(r):
+    """A table and itself after some packets, its own table among them; or two tables that have nothing to do with each other."""
+    before = panel_table(r)
+    stream, _ = some_place(r, before)
+    after, other = played_on(r, list(before)), stream
+    if r.randrange(3) == 0:
+        after = panel_table(r)
+        other, _ = some_place(r, after)
+    elif r.randrange(3) == 0:
+        said, own = streams.own_table(before, stream, [0] * 89)
+        before, stream = (own, 0) if said[0] == "table" else (before, stream)
+    fields = noisy(r, 1)
+    args = [given(before), stream, given(after), other, fields]
+    said, what = streams.changed(before, stream, after, other)
+    if said == "refused":
+        return refused(args, what)
+    return Case(args, 0, {4: put(fields, [what])})
+
+
 # The calls in drive.c's order: what each takes (its letters, as there), how many
 # cases, and the answers that must occur.  SIZE does not occur for a page: it has at
 # most 2,882 words.
@@ -620,4 +684,8 @@ CALLS = (
     Call("vrt49_put_back", "iIL", put_back, 20000, (0, 13, 19)),
     Call("vrt49_reading", "iqwIILI", reading, 30000, (0, 11, 14, 18)),
     Call("vrt49_held_words", "iqwIL", held_words, 15000, (0, 11, 13, 14, 18)),
+    Call("vrt49_identity", "iqII", identity, 8000, (0, 11, 18)),
+    Call("vrt49_counts", "iqwI", counts, 12000, (0, 11, 14, 18)),
+    Call("vrt49_own_table", "iqIL", own_table, 8000, (0, 11, 13, 18)),
+    Call("vrt49_changed", "iqiqI", changed, 15000, (0, 11, 18)),
 )

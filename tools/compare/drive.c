@@ -36,6 +36,10 @@ static const struct {
     {"vrt49_put_back", "iIL", {"page", "table", "length"}},
     {"vrt49_reading", "iqwIILI", {"table", "kind", "parts", "hertz", "levels"}},
     {"vrt49_held_words", "iqwIL", {"table", "out", "length"}},
+    {"vrt49_identity", "iqII", {"table", "identifier", "held"}},
+    {"vrt49_counts", "iqwI", {"table", "answer"}},
+    {"vrt49_own_table", "iqIL", {"table", "out", "length"}},
+    {"vrt49_changed", "iqiqI", {"before", "after", "fields"}},
 };
 enum { CALLS = sizeof calls / sizeof *calls };
 
@@ -76,7 +80,11 @@ static uint32_t call(uint32_t which) {
     case 16: return vrt49_save(B(0), B(1), P(2));
     case 17: return vrt49_put_back(B(0), B(1), P(2));
     case 18: return vrt49_reading(B(0), s[0], s[1], P(1), P(2), P(3), P(4));
-    default: return vrt49_held_words(B(0), s[0], s[1], B(1), P(2));
+    case 19: return vrt49_held_words(B(0), s[0], s[1], B(1), P(2));
+    case 20: return vrt49_identity(B(0), s[0], P(1), P(2));
+    case 21: return vrt49_counts(B(0), s[0], s[1], P(1));
+    case 22: return vrt49_own_table(B(0), s[0], B(1), P(2));
+    default: return vrt49_changed(B(0), s[0], B(1), s[1], P(2));
     }
 #undef B
 #undef P

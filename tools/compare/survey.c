@@ -136,6 +136,30 @@ static void show_readings(const uint32_t *table, size_t layout)
     expect("the kind", shown.kind, VRT49_KIND_ABSENT);
 }
 
+/* what the table says of stream 0, and what the data packet changes: the counts, and no field */
+static void ask_stream(uint32_t *table, size_t layout)
+{
+    uint32_t own[VRT49_TABLE_WORDS(1)], identifier, held, fields;
+    vrt49_count count;
+    vrt49_heard heard;
+    size_t length;
+    expect("vrt49_identity", vrt49_identity(table, layout, 0, &identifier, &held), VRT49_OK);
+    expect("the held rate", held >> VRT49_BIT_SAMPLE_RATE & 1, 1);
+    printf("stream 0: identifier %" PRIu32 ", held 0x%08" PRIX32 "\n", identifier, held);
+    expect("vrt49_own_table", vrt49_own_table(table, layout, 0, own, ENTRIES(own), &length), VRT49_OK);
+    expect("the own table", length == VRT49_TABLE_WORDS(1) && own[0] == 1 && memcmp(own + 1, table + 1, 88 * sizeof own[0]) == 0, 1);
+    expect("vrt49_play", vrt49_play(table, layout, context, ENTRIES(context), &heard), VRT49_OK);
+    expect("vrt49_changed", vrt49_changed(own, length, 0, table, layout, 0, &fields), VRT49_OK);
+    expect("no field changed", fields, 0);
+    expect("vrt49_changed", vrt49_changed(own, length, 0, table, layout, 1, &fields), VRT49_OK);
+    printf("against stream 1: fields 0x%08" PRIX32 "\n", fields);
+    expect("vrt49_counts", vrt49_counts(table, layout, 0, VRT49_TYPE_CONTEXT, &count), VRT49_OK);
+    printf("type 4: seen %" PRIu32 ", missing %" PRIu32 ", last %" PRIu32 "\n", count.seen, count.missing, count.last);
+    expect("vrt49_counts", vrt49_counts(table, layout, 1, VRT49_TYPE_CONTEXT, &count), VRT49_OK);
+    expect("a count that has not started", count.started == 0 && count.seen == 0, 1);
+    expect("vrt49_counts of type 0", vrt49_counts(table, layout, 0, 0, &count), VRT49_VALUE);
+}
+
 /* unpacks three samples of 12 bits, link-efficient, and packs them again */
 static void unpack_samples(void)
 {
@@ -164,6 +188,7 @@ int main(void)
     layout = play_packets(table, ENTRIES(table));
     save_table(table, layout);
     show_readings(table, layout);
+    ask_stream(table, layout);
     unpack_samples();
     return 0;
 }

@@ -7,7 +7,7 @@ use Rattle.panel_streams.specs.TypeCounts.{Count, started, notStarted}
 abbrev pub identityValues : Declared → ℕ × ℕ
 identityValues d = (d .identifier, d .held)
 
--- 1, seen, missing and last; four zeros where the type has not started
+-- four zeros where the type has not started; else 1, seen, missing and last
 abbrev pub countValues : Count → List ℕ
-countValues (started seen missing last) = 1 ∷ seen ∷ missing ∷ last ∷ []
 countValues notStarted = 0 ∷ 0 ∷ 0 ∷ 0 ∷ []
+countValues (started seen missing last) = 1 ∷ seen ∷ missing ∷ last ∷ []
