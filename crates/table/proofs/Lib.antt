@@ -8,5 +8,7 @@ pub mod RecordLaws
 pub mod ListLaws
 -- a well-made table
 pub mod WellLaws
+-- a stream's number
+pub mod StreamLaws
 -- a fresh table
 pub mod StartLaws

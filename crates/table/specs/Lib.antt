@@ -6,5 +6,9 @@ pub mod Layout
 pub mod Identifiers
 -- when a table is well made
 pub mod Well
+-- what is refused of a stream's number
+pub mod Stream
 -- what start answers, and the table that it leaves
 pub mod Start
+-- what only the contracts inside cite
+pub mod inner

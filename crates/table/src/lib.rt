@@ -2,6 +2,7 @@
 mod identifiers;
 pub mod inner;
 mod layout;
+mod numbered;
 mod records;
 
 ghost use mathlib.Core.Path.{_≡_};
