@@ -8,6 +8,8 @@ pub mod Quotient
 pub mod Pattern
 -- refusals, fields in a record, and the answers
 pub mod ReadingLaws
+-- all readings at once
+pub mod AllReadingLaws
 -- what the words of a field show
 pub mod ShowLaws
 -- two answers that meet a promise are equal
