@@ -20,9 +20,9 @@ row() { # CALL KIND SIZE WHAT
     c_says=$("$INSNCOUNT" "$work/c" "$1" "$2" "$3" $n 2>/dev/null) r_says=$("$INSNCOUNT" "$work/r" "$1" "$2" "$3" $n 2>/dev/null)
     [ "$c_says" = "$r_says" ] && same=equal || same=DIFFER
     case $r_says in '0 '*) ;; *) same=REFUSED ;; esac
-    awk -v k="$1" -v w="$4" -v c="$c" -v r="$r" -v n=$n -v s=$same 'BEGIN { printf "%-9s %-34s %10.1f %9.1f  %.3f  %s\n", k, w, c / n, r / n, r / c, s }'
+    awk -v k="$1" -v w="$4" -v c="$c" -v r="$r" -v n=$n -v s=$same 'BEGIN { printf "%-10s %-33s %10.1f %9.1f  %.3f  %s\n", k, w, c / n, r / n, r / c, s }'
 }
-echo 'call      of                                  C by hand    proved  ratio  results'
+echo 'call       of                                 C by hand    proved  ratio  results'
 for call in read write; do
     row $call data 1 'data packet, 1 body word'
     row $call data 64 'data packet, 64 body words'
@@ -38,4 +38,10 @@ for call in save put_back; do
     for s in 1 32; do
         row $call data $s "6 fields held, S $s"
     done
+done
+for s in 1 32; do
+    row reading data $s "sample rate, 6 fields held, S $s"
+    row readings data $s "6 fields held, S $s"
+    row readings all $s "21 fields held, S $s"
+    row held_words data $s "sample rate, 6 fields held, S $s"
 done

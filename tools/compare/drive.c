@@ -35,6 +35,7 @@ static const struct {
     {"vrt49_save", "iIL", {"table", "page", "length"}},
     {"vrt49_put_back", "iIL", {"page", "table", "length"}},
     {"vrt49_reading", "iqwIILI", {"table", "kind", "parts", "hertz", "levels"}},
+    {"vrt49_readings", "iqIILII", {"table", "kinds", "parts", "hertz", "first", "second"}},
     {"vrt49_held_words", "iqwIL", {"table", "out", "length"}},
 };
 enum { CALLS = sizeof calls / sizeof *calls };
@@ -76,6 +77,7 @@ static uint32_t call(uint32_t which) {
     case 16: return vrt49_save(B(0), B(1), P(2));
     case 17: return vrt49_put_back(B(0), B(1), P(2));
     case 18: return vrt49_reading(B(0), s[0], s[1], P(1), P(2), P(3), P(4));
+    case 19: return vrt49_readings(B(0), s[0], P(1), P(2), P(3), P(4), P(5));
     default: return vrt49_held_words(B(0), s[0], s[1], B(1), P(2));
     }
 #undef B

@@ -1,4 +1,4 @@
--- All readings at once. The idea: the loop fills the entries from the front, and what it has passed is what the record shows of bit 30 - k (`Front`); heldBits has
+-- All readings at once. The idea: the loop fills the entries from the front, and what it has passed is what the record shows of bit 30 - k (`Showing`); heldBits has
 -- that bit at place k, so the whole is the definition, entry by entry.
 use Rattle.words.proofs.Kit.{_≡_, refl, sym, ap, _∙_, List, [], _∷_, ℕ, zero, suc, _+_, _-_, _≤_, _<_, arith, le-ltb, length, take, drop, getD, set}
 use mathlib.Core.List.{map}
@@ -54,18 +54,18 @@ field-bit i h = tabled-at 21 heldBits (λ k. 30 - k) i refl h
 -- ---- a record, read from the front
 
 -- the entries below i are what the record shows
-pub record Front (r : List ℕ) (i : ℕ) (ds : List FieldReading) : Type 0 where
+pub record Showing (r : List ℕ) (i : ℕ) (ds : List FieldReading) : Type 0 where
   pub many : length ds ≡ 21
   pub bound : i ≤ 21
   pub each : (k : ℕ) → k < i → readingPaper (getD ds k dial.Absent) ≡ accepted (recordShows (30 - k) r)
 
 module _ (r : List ℕ) where
-  pub front-none : (ds : List FieldReading) → length ds ≡ 21 → Front r 0 ds
-  front-none ds l = record { many = l; bound = omega arith; each = below-none _ }
+  pub showing-none : (ds : List FieldReading) → length ds ≡ 21 → Showing r 0 ds
+  showing-none ds l = record { many = l; bound = omega arith; each = below-none _ }
 
-  pub front-more : (i : ℕ) (ds : List FieldReading) (d : FieldReading) → i < 21 → Front r i ds → readingPaper d ≡ accepted (recordShows (30 - i) r)
-      → Front r (i + 1) (set ds i d)
-  front-more i ds d h f e = record {
+  pub showing-more : (i : ℕ) (ds : List FieldReading) (d : FieldReading) → i < 21 → Showing r i ds → readingPaper d ≡ accepted (recordShows (30 - i) r)
+      → Showing r (i + 1) (set ds i d)
+  showing-more i ds d h f e = record {
     many = length-set ds i d ∙ f .many;
     bound = omega arith;
     each =
@@ -83,8 +83,8 @@ module _ (r : List ℕ) where
   readings-at i h =
       map-at (λ b. recordShows b r) heldBits i 0 absent (omega (arith, fields-many, h)) ∙ ap (λ (b : ℕ). recordShows b r) (field-bit i h)
 
-  pub front-all : (i : ℕ) (ds : List FieldReading) → 21 ≤ i → Front r i ds → map readingPaper ds ≡ map accepted (recordReadings r)
-  front-all i ds h f =
+  pub showing-all : (i : ℕ) (ds : List FieldReading) → 21 ≤ i → Showing r i ds → map readingPaper ds ≡ map accepted (recordReadings r)
+  showing-all i ds h f =
       map-both readingPaper accepted ds (recordReadings r) dial.Absent absent (f .many ∙ sym readings-many)
       (λ k l.
       let m : k < 21 = omega (arith, f .many, l) in
@@ -96,7 +96,7 @@ pub all-lent : (t : List ℕ) (s at : ℕ) (ds : List FieldReading) → at ≡ b
 all-lent t s at ds e h = h ∙ ap (λ (r : List ℕ). map accepted (recordReadings r)) (lent-record t s at e)
 
 -- the refusal in every entry, or the readings, one by one
-pub map-twice : {A B C : Type 0} (f : B → C) (g : A → B) (xs : List A) → map f (map g xs) ≡ map (λ x. f (g x)) xs
+map-twice : {A B C : Type 0} (f : B → C) (g : A → B) (xs : List A) → map f (map g xs) ≡ map (λ x. f (g x)) xs
 map-twice f g [] = refl
 map-twice f g (x ∷ xs) = ap (_∷_ (f (g x))) (map-twice f g xs)
 
@@ -111,15 +111,21 @@ module _ (t : List ℕ) (s : ℕ) where
   readings-asked = sym (after-first (streamNumberList t s) tt _)
 
   module _ (k : Check) (e : checked k ≡ streamChecks t s) where
+    pub readings-refused : (n : ℕ) → k ≡ checks.Refused n → readingsOf t s ≡ refused n
+    readings-refused n f = rw (readings-asked, checked-refused t s k e n f)
+
+    pub readings-accepted : k ≡ checks.Fine → readingsOf t s ≡ accepted (recordReadings (recordAt s t))
+    readings-accepted f = rw (readings-asked, checked-fine t s k e f)
+
     pub all-refused : (n : ℕ) → k ≡ checks.Refused n → map readingPaper (replicate 21 (dial.Refused n)) ≡ inEach (readingsOf t s)
     all-refused n f =
-        rw (readings-asked, checked-refused t s k e n f)
+        rw (readings-refused n f)
         (map-both readingPaper (λ b. refused n) (replicate 21 (dial.Refused n)) heldBits dial.Absent 0 (length-replicate 21 (dial.Refused n) ∙ sym fields-many)
         (λ i h. ap readingPaper (getD-replicate 21 i (dial.Refused n) dial.Absent (omega (arith, length-replicate 21 (dial.Refused n), h)))))
 
     pub all-shown : (ds : List FieldReading) → k ≡ checks.Fine → map readingPaper ds ≡ map accepted (recordReadings (recordAt s t))
         → map readingPaper ds ≡ inEach (readingsOf t s)
-    all-shown ds f h = rw (readings-asked, checked-fine t s k e f) h
+    all-shown ds f h = rw (readings-accepted f) h
 
   -- ---- entry by entry a reading
 

@@ -8,9 +8,11 @@ pub mod Quotient
 pub mod Pattern
 -- refusals, fields in a record, and the answers
 pub mod ReadingLaws
--- all readings at once
-pub mod AllReadingLaws
 -- what the words of a field show
 pub mod ShowLaws
+-- what a field shows, read where it stands in its record
+pub mod InRecordLaws
+-- all readings at once
+pub mod AllReadingLaws
 -- two answers that meet a promise are equal
 pub mod Uniqueness

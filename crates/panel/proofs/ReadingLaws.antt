@@ -102,7 +102,7 @@ module _ (r : List ℕ) (b at z : ℕ) (l : length r ≡ recordWords) (lo : 10 �
   held-here : holds b ≡ true
   held-here = held-all b lo (omega arith)
 
-  slot-is : slotOf b r ≡ part (headWords + at) (fieldSize b) r
+  pub slot-is : slotOf b r ≡ part (headWords + at) (fieldSize b) r
   unfolding slotOf slotIn slotsOf
   slot-is = rw ea (part-part (slotAt b) (fieldSize b) headWords slotWords r (slot-inside b held-here))
 

@@ -1,5 +1,6 @@
 // Readings for the panel: what a stream's held fields show, and the held words themselves.
 mod asked;
+pub mod inner;
 mod records;
 mod shows;
 mod values;

@@ -10,7 +10,7 @@ ghost use Rattle.panel.specs.HeldWords.{heldWordsIn};
 ghost use Rattle.panel.specs.inner.Copied.{copyOf};
 
 // Whether a record holds the field of a bit.
-fn is_held(rec: &[u32], bit: u32) -> bool
+pub fn is_held(rec: &[u32], bit: u32) -> bool
     requires { ⌜ (length (now rec) ≡ recordWords) × (bit < 32) ⌝ }
     ensures { λ r. ⌜ r ≡ isHeld bit (now (rec .entry)) ⌝ }
 {
@@ -38,7 +38,7 @@ fn read_all(rec: &[u32]) -> [crate::FieldReading; 21]
     let mut dials = [crate::FieldReading::Absent; 21];
     let mut i = 0;
     while i < 21 {
-        dials[i] = read_record(rec, 30 - i as u32);
+        dials[i] = crate::shows::show_in(rec, 30 - i as u32);
         i += 1;
     }
     dials
@@ -66,6 +66,16 @@ pub fn read_at(table: &[u32], stream: usize, bit: u32) -> crate::FieldReading
     let at = table::inner::record_at(stream);
     let end = at + record::inner::RECORD_WORDS;
     read_record(&table[at..end], bit)
+}
+
+// What the field of a bit shows in the record of a stream, for a loop over all fields.
+pub fn show_at(table: &[u32], stream: usize, bit: u32) -> crate::FieldReading
+    requires { ⌜ (stream < 32) × Has stream (now table) × (10 ≤ bit) × (bit ≤ 30) ⌝ }
+    ensures { λ r. ⌜ readingPaper r ≡ accepted (recordShows bit (recordAt stream (now (table .entry)))) ⌝ }
+{
+    let at = table::inner::record_at(stream);
+    let end = at + record::inner::RECORD_WORDS;
+    crate::shows::show_in(&table[at..end], bit)
 }
 
 // What each field shows in the record of a stream.

@@ -18,6 +18,7 @@ use Rattle.play.specs.Run.{runOf}
 use Rattle.page.specs.Save.{lengthOf, saveOf}
 use Rattle.page.specs.PutBack.{putBackOf}
 use Rattle.panel.specs.Readings.{readingOf}
+use Rattle.panel.specs.AllReadings.{readingsOf}
 use Rattle.panel.specs.HeldWords.{heldWordsOf}
 use Rattle.vrt49.specs.Answers.{Tells, placesOf}
 use Rattle.vrt49.specs.Packets.{writeWordsOf}
@@ -59,7 +60,7 @@ abbrev _and_ : {A B : Type 0} → A → B → A × B
 a and b = (a, b)
 
 listed : EachForC Listed callsForC
-unfolding readBy writeWordsOf trailerWordOf contextOf unpackOf packOf neededOf signedOf startOf playOf runOf lengthOf saveOf putBackOf readingOf heldWordsOf
+unfolding readBy writeWordsOf trailerWordOf contextOf unpackOf packOf neededOf signedOf startOf playOf runOf lengthOf saveOf putBackOf readingOf readingsOf heldWordsOf
 listed =
     (λ h. ((_, refl), refl, search needs))
     and (λ h. ((_, refl), refl, search needs))
@@ -74,6 +75,7 @@ listed =
     and (λ h. ((_, refl), refl, search needs))
     and (λ h. ((_, refl), refl, search needs))
     and tt
+    and (λ h. ((_, refl), refl, search needs))
     and (λ h. ((_, refl), refl, search needs))
     and (λ h. ((_, refl), refl, search needs))
     and (λ h. ((_, refl), refl, search needs))

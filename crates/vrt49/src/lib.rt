@@ -23,6 +23,7 @@ pub use payloads::vrt49_unpack;
 pub use payloads::vrt49_words_needed;
 pub use readings::vrt49_held_words;
 pub use readings::vrt49_reading;
+pub use readings::vrt49_readings;
 pub use tables::vrt49_play;
 pub use tables::vrt49_play_run;
 pub use tables::vrt49_start;
