@@ -61,6 +61,7 @@ vectors:
 	python3 -B tools/reference/play_vectors.py crates/play_vectors/stdin crates/play_vectors/stdout
 	python3 -B tools/reference/page_vectors.py crates/page_vectors/stdin crates/page_vectors/stdout
 	python3 -B tools/reference/panel_vectors.py crates/panel_vectors/stdin crates/panel_vectors/stdout
+	python3 -B tools/reference/streams_vectors.py crates/streams_vectors/stdin crates/streams_vectors/stdout
 	python3 -B tools/reference/sample_packets.py samples/packets
 	python3 -B tools/reference/recordings.py samples/recordings
 endif

@@ -114,6 +114,13 @@ def reading(lent, stream, bit):
     return held_reading(bit, field)
 
 
+def readings(lent, stream):
+    """The 21 readings of a stream, bit 30 first and bit 10 last, for the words of a
+    table.  Each is ('refused', number) where the table or the stream is refused."""
+    # "Reading: TABLE, STREAM, VALUE."  Of the bits 30 to 10, VALUE is given of none.
+    return [reading(lent, stream, bit) for bit in HELD_BITS]
+
+
 def held_words(lent, stream, bit, out):
     """('refused', number) or ('held', words of the field), and the buffer
     afterwards.  A field that is absent has no words."""

@@ -1,5 +1,5 @@
-"""Writes the cases for readings and held words and the reference's answers to
-them.
+"""Writes the cases for readings, held words and all the readings of a stream, and
+the reference's answers to them.
 
     python3 tools/reference/panel_vectors.py INPUT EXPECTED
 
@@ -9,6 +9,7 @@ which its words are made; where the reference says another, the program ends
 without writing.
 """
 
+import functools
 import sys
 from fractions import Fraction
 
@@ -22,13 +23,13 @@ from play_vectors import (
     FIELD_EDGES, MOST_ROOM, PATTERN, SIZES, at_places, count_place, indicator_place, other,
     random_ids, random_stores, record_place, slot_place,
 )
-from read_vectors import FIXED, ONES, Numbers, plain
+from read_vectors import FIXED, ONES, Numbers, plain, random_field
 from table import ROOM, STREAM, TABLE
 
 MOST_HELD = 20
 
 # What is asked.
-READING, HELD, SWEEP = 1, 2, 3
+READING, HELD, SWEEP, READINGS = 1, 2, 3, 4
 
 FREQUENCIES = (29, 28, 27, 26, 25, 21)
 NOT_NEGATIVE = (29, 21)
@@ -64,6 +65,16 @@ def ask(words, stream, bit, answer):
 def held(words, stream, bit, room, answer):
     """The words of a field, into a buffer of so many words."""
     cases.append(Case(words, stream, bit, answer, room))
+
+
+# The cases for all the readings of a stream, which come after the sweep: the words of
+# the table, the stream, and the 21 answers that they are built for.
+panels = []
+
+
+def show(words, stream, answers):
+    """All the readings of a stream."""
+    panels.append((list(words), stream, answers))
 
 
 def refused(number):
@@ -283,6 +294,7 @@ def wrong_bits():
             ask(full, stream, bit, refused(STREAM))
 
 
+@functools.cache
 def broken_tables():
     """For each rule of what is well made, a few tables that break it alone."""
     play_vectors.build()
@@ -374,6 +386,113 @@ def random_tables():
             held(lent, stream, bit, numbers.below(MOST_HELD + 1), None)
 
 
+# All the readings of a stream.
+
+
+def readings_of(fields):
+    """What a stream that holds these fields reads as, bit 30 first."""
+    return [reading_of(bit, fields[bit]) if bit in fields else ABSENT for bit in BITS]
+
+
+def show_every_stream(lent, fields, more=()):
+    """Every stream of a table, by the fields that each holds, then the number past
+    the last, and more that are not in the table."""
+    for stream, one in enumerate(fields):
+        show(lent, stream, readings_of(one))
+    for stream in (len(fields), *more):
+        show(lent, stream, [refused(STREAM)] * 21)
+
+
+def held_by_streams(n, fields_of, past=0):
+    """A table of n streams and the fields that each holds."""
+    fields = [fields_of(stream) for stream in range(n)]
+    lent = fresh([0x90 + 3 * stream for stream in range(n)], past)
+    for stream, one in enumerate(fields):
+        lent = stored(lent, of_fields(one, stream) if one else {})
+    return lent, fields
+
+
+def panels_of_streams():
+    every = {bit: plain(bit, n) for bit, n in FIXED}
+    others = {bit: other(bit) for bit, _ in FIXED}
+    far = (33, 256, 1 << 16, 1 << 31, ONES)
+
+    def in_turn(stream):
+        # Nothing, all, all with other words, every second field, the other ones.
+        which = stream % 5
+        if which < 3:
+            return ({}, every, others)[which]
+        return {bit: others[bit] for bit in BITS if bit % 2 == which % 2}
+
+    def scattered(stream):
+        # Fields whose words are of the stream, each bit held by some streams.
+        numbers = Numbers(6000 + stream)
+        return {
+            bit: random_field(numbers, bit, n)
+            for bit, n in FIXED
+            if (bit + 7 * stream) % 5 < 2
+        }
+
+    for n in (1, 2, 5):
+        show_every_stream(*held_by_streams(n, in_turn), (n + 1, 32))
+        show_every_stream(*held_by_streams(n, scattered, past=2), far if n < 5 else ())
+        show_every_stream(*held_by_streams(n, lambda stream: every, past=n))
+    show_every_stream(*held_by_streams(32, scattered))
+    lent, fields = held_by_streams(32, in_turn, past=83)
+    for stream in (16, 31):
+        show(lent, stream, readings_of(fields[stream]))
+    # The words of a record past the layout are no stream.
+    lent, fields = held_by_streams(2, in_turn)
+    show(stored(lent, {0: 1}), 0, readings_of(fields[0]))
+    show(stored(lent, {0: 1}), 1, [refused(STREAM)] * 21)
+
+
+def panels_of_fields():
+    for bit, n in FIXED:
+        # One field alone, with other words and with zeros; all the others.
+        rest = {one: other(one) for one in BITS if one != bit}
+        for fields in ({bit: other(bit)}, {bit: [0] * n}, rest):
+            show(stored(fresh(), of_fields(fields)), 0, readings_of(fields))
+    # Type 4 has started and nothing is held.
+    show(stored(fresh(), at_places(count_place(4), [5, 6, 7])), 0, [ABSENT] * 21)
+    # The ends of what each kind of reading has.
+    for hertz, parts in HERTZ[:5]:
+        words = two_words(hertz * 2**20 + parts)
+        fields = {bit: words for bit in FREQUENCIES if hertz >= 0 or bit not in NOT_NEGATIVE}
+        show(stored(fresh(), of_fields(fields)), 0, readings_of(fields))
+    for number in (1, -1, 0x7FFF, -0x8000):
+        both = half(number) + 2**16 * half(-number)
+        fields = {24: [half(number)], 23: [both], 18: [half(number)]}
+        show(stored(fresh(), of_fields(fields)), 0, readings_of(fields))
+
+
+def panels_at_random():
+    numbers = Numbers(2311)
+    for turn in range(30):
+        n = 1 + numbers.below(3)
+        lent = stored(fresh(random_ids(numbers, n), turn % 3), random_stores(numbers, n))
+        stream = numbers.below(n)
+        fields = {}
+        for bit, size in FIXED:
+            if lent[indicator_place(stream)] >> bit & 1:
+                place = slot_place(bit, stream)
+                fields[bit] = lent[place : place + size]
+        show(lent, stream, readings_of(fields))
+
+
+def panels_refused():
+    for rules, tables in broken_tables().items():
+        for words in tables[:3]:
+            # TABLE alone, and before STREAM.
+            for stream in (0, 40):
+                show(words, stream, [refused(TABLE)] * 21)
+    # A table of 32 streams that is cut by one word, and one with a word too many in it.
+    lent, _ = held_by_streams(32, lambda stream: {30: [stream]})
+    show(lent[:-1], 0, [refused(TABLE)] * 21)
+    show(stored(lent, {slot_place(10, 31): 1}), 0, [refused(TABLE)] * 21)
+    show(stored(lent, {0: 33}), 0, [refused(TABLE)] * 21)
+
+
 # The two files.
 
 
@@ -385,6 +504,12 @@ class Coverage:
         self.read = set()
         self.edges = set()
         self.faults = set()
+        # Of all the readings of a stream: kinds and bits, numbers of streams and
+        # stream, faults together, rules broken.
+        self.shown = set()
+        self.shown_streams = set()
+        self.shown_faults = set()
+        self.shown_broken = set()
 
     def add(self, label):
         self.tally[label] = self.tally.get(label, 0) + 1
@@ -468,6 +593,32 @@ def of_case(k, one, cover):
     return given, lines
 
 
+def of_panel(k, words, stream, answers, cover):
+    """The words of a case of all the readings in the input, and its line."""
+    if len(words) > MOST_ROOM:
+        sys.exit(f"case {k} has a table that is too large")
+    found = panel.readings(words, stream)
+    if found != answers or len(found) != 21:
+        sys.exit(f"case {k} is built for {answers}, the reference says {found}")
+    for place, one in enumerate(found):
+        if one != panel.reading(words, stream, 30 - place):
+            sys.exit(f"case {k} differs from the reading of bit {30 - place}")
+        cover.shown.add((one[0], 30 - place))
+    broken = tuple(table.broken_rules(words))
+    faults = [TABLE] if broken else []
+    if not words or stream >= words[0]:
+        faults.append(STREAM)
+    if {one[1] for one in found if one[0] == "refused"} != set(faults[:1]):
+        sys.exit(f"case {k} has the faults {faults}, the reference says {found}")
+    cover.shown_faults.add(tuple(faults))
+    cover.shown_broken.add(broken)
+    if not faults:
+        cover.shown_streams.add((words[0], stream))
+    cover.add(f"readings refused {faults[0]}" if faults else "readings")
+    text = " ".join(panel.line(one) for one in found)
+    return [READINGS, len(words), *words, stream], [f"{k} {text}"]
+
+
 def sweep(k):
     """Every half as level, as temperature and as stage 1 of a gain, and another
     one with it as stage 2."""
@@ -498,6 +649,10 @@ def build():
     held_fields()
     held_orders()
     random_tables()
+    panels_of_streams()
+    panels_of_fields()
+    panels_at_random()
+    panels_refused()
 
 
 # Each answer, and the least number of its cases.
@@ -516,6 +671,9 @@ LEAST = {
     f"held words refused {VALUE}": 30,
     f"held words refused {ROOM}": 21,
     "held words held": 150,
+    f"readings refused {TABLE}": 50,
+    f"readings refused {STREAM}": 25,
+    "readings": 150,
 }
 
 # The readings of each bit that there have to be.
@@ -564,6 +722,22 @@ def check(cover):
             fail((what, *faults) not in cover.faults, f"{what}: no case with the faults {faults}")
     rules = {(name,) for name, _ in table.RULES_OF_WORDS + table.RULES_OF_RECORDS}
     fail(tables_broken != rules, "a rule of what is well made is not broken alone")
+    check_panels(cover, rules)
+
+
+def check_panels(cover, rules):
+    """The cases of all the readings that there have to be."""
+    for bit, kind in KINDS.items():
+        found = {what for what, one in cover.shown if one == bit}
+        fail(found != {kind, "absent", "refused"}, f"bit {bit} is shown as {found}")
+    for n in (1, 2, 5, 32):
+        for stream in range(n):
+            seen = (n, stream) in cover.shown_streams
+            fail(not seen, f"stream {stream} of {n} is not shown")
+    for faults in ((TABLE,), (STREAM,), (TABLE, STREAM)):
+        fail(faults not in cover.shown_faults, f"no stream is shown with the faults {faults}")
+    for rule in rules:
+        fail(rule not in cover.shown_broken, f"no stream is shown with {rule} broken alone")
 
 
 def main():
@@ -578,11 +752,16 @@ def main():
         for word in words:
             given += word.to_bytes(4, "big")
         expected += lines
-    check(cover)
     given += SWEEP.to_bytes(4, "big")
     expected += sweep(len(cases))
+    for place, one in enumerate(panels):
+        words, lines = of_panel(len(cases) + 1 + place, *one, cover)
+        for word in words:
+            given += word.to_bytes(4, "big")
+        expected += lines
+    check(cover)
     text = "".join(line + "\n" for line in expected)
-    fail(len(given) > 1_000_000, f"the input has {len(given)} bytes, more than 1,000,000")
+    fail(len(given) > 1_500_000, f"the input has {len(given)} bytes, more than 1,500,000")
     fail(len(text) > 5_200_000, f"the output has {len(text)} bytes, more than 5,200,000")
     with open(sys.argv[1], "wb") as file:
         file.write(given)
@@ -590,7 +769,7 @@ def main():
         file.write(text)
     for label in LEAST:
         print(f"{label}: {cover.tally[label]}")
-    print(f"cases {len(cases) + 1}")
+    print(f"cases {len(cases) + 1 + len(panels)}")
 
 
 if __name__ == "__main__":

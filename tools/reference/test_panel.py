@@ -84,6 +84,58 @@ class OtherAndAbsent(unittest.TestCase):
         self.assertEqual(panel.reading(holding(24, 5), 0, 23), ("absent",))
 
 
+class Readings(unittest.TestCase):
+    # "Bits 30 to 10 are 21 fields": entry i is of bit 30 - i.
+
+    def test_none_held(self):
+        fresh = table.layout(table.start([7, 8], 177)[1])
+        for stream in (0, 1):
+            self.assertEqual(panel.readings(fresh, stream), [("absent",)] * 21)
+
+    def test_places(self):
+        # Bits 30, 29, 24, 23, 18 and 10 are the entries 0, 1, 6, 7, 12 and 20.
+        found = table.start([7, 8], 177)[1]
+        indicator = 1 << 30 | 1 << 29 | 1 << 24 | 1 << 23 | 1 << 18 | 1 << 10
+        words = [5, 0, 0x00180001, 0xFF80, 0x0080FF80, 0xFFE0, 6]
+        self.assertEqual(table.play(found, [0x4000000A, 8, indicator, *words])[0], "played")
+        expected = [("absent",)] * 21
+        expected[0] = ("other",)
+        expected[1] = ("frequency", 1, 0x80001)
+        expected[6] = ("level", -1)
+        expected[7] = ("gain", -1, 1)
+        expected[12] = ("temperature", Fraction(-1, 2))
+        expected[20] = ("other",)
+        lent = table.layout(found)
+        self.assertEqual(panel.readings(lent, 1), expected)
+        self.assertEqual(panel.readings(lent, 0), [("absent",)] * 21)
+
+    def test_every_bit_alone(self):
+        for place in range(21):
+            bit = 30 - place
+            words = [0] * (13 if bit in (12, 11) else 11 if bit in (14, 13) else 1)
+            if bit in (29, 28, 27, 26, 25, 21, 20, 17, 15):
+                words = [0, 0]
+            expected = [("absent",)] * 21
+            expected[place] = ("other",)
+            if bit in (29, 28, 27, 26, 25, 21):
+                expected[place] = ("frequency", 0, 0)
+            elif bit in (24, 18):
+                expected[place] = ("level" if bit == 24 else "temperature", 0)
+            elif bit == 23:
+                expected[place] = ("gain", 0, 0)
+            self.assertEqual(panel.readings(holding(bit, *words), 0), expected)
+
+    def test_refused(self):
+        # Each entry is the refusal; TABLE before STREAM.
+        lent = holding(24, 5)
+        for stream in (1, 32, ONES):
+            self.assertEqual(panel.readings(lent, stream), [("refused", table.STREAM)] * 21)
+        lent[5] = 17
+        for stream in (0, 1, ONES):
+            self.assertEqual(panel.readings(lent, stream), [("refused", table.TABLE)] * 21)
+        self.assertEqual(panel.readings([], 0), [("refused", table.TABLE)] * 21)
+
+
 class Refusals(unittest.TestCase):
     # "Reading: TABLE, STREAM, VALUE."
 
