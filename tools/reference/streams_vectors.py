@@ -265,9 +265,19 @@ def own_tables():
 # Changed fields.
 
 
+def ruled_zero(bit, place, one):
+    """Whether the rule of a field asks for zero in a bit of the upper half of a word."""
+    if bit in (24, 18):
+        return True
+    if bit == 17:
+        return one >= (16 if place else 24)
+    if bit == 16:
+        return 20 <= one <= 23
+    return bit in (29, 21) and place == 0 and one == 31
+
+
 def changed_words():
     full = holding(EVERY)
-    numbers = Numbers(1776)
     for bit, n in FIXED:
         # Among all the others, and alone: other words; held against absent; zero
         # words against absent; the same.
@@ -279,14 +289,14 @@ def changed_words():
         differ(holding({bit: [0] * n}), fresh(), bit)
         compare(holding(without(EVERY, bit)), 0, holding({**EVERY, bit: [0] * n}), 0, answer)
         compare(alone, 0, alone, 0, ("changed", 0))
-        # One word, by one bit: each word of the field, by its lowest bit and by another
-        # one.
+        # One word, by one bit: each word of the field, by its lowest bit and by the
+        # highest one of its upper half that the field's rule leaves free.
         for place in range(n):
-            for flipped in (0, numbers.below(16)):
+            free = [one for one in range(31, 15, -1) if not ruled_zero(bit, place, one)]
+            for flipped in (0, *free[:1]):
                 words = list(OTHERS[bit])
                 words[place] ^= 1 << flipped
-                after = holding({**OTHERS, bit: words})
-                compare(holding(OTHERS), 0, after, 0, answer if table.well_made(after) else None)
+                compare(holding(OTHERS), 0, holding({**OTHERS, bit: words}), 0, answer)
         # The words that one field has, the next one has on the other side.
         for near in (bit - 1, bit - 2):
             if near in SIZES and SIZES[near] == n:
@@ -626,9 +636,11 @@ def note(one, found, faults, places, cover):
             if before != after:
                 cover.changed.add((bit, *kinds))
             if before is not None and after is not None:
-                other_words = [i for i in range(SIZES[bit]) if before[i] != after[i]]
-                if len(other_words) == 1:
-                    cover.words.add((bit, other_words[0]))
+                flips = [one ^ two for one, two in zip(before, after)]
+                if len(flips) - flips.count(0) == 1:
+                    word = max(flips)
+                    upper = "upper" if word % 2**16 == 0 else "lower" if word < 2**16 else "both"
+                    cover.words.add((bit, flips.index(word), upper))
 
 
 def of_case(k, one, cover):
@@ -742,7 +754,10 @@ def check_values(cover):
         ):
             fail((bit, *kinds) not in cover.changed, f"bit {bit} does not change as {kinds}")
         for place in range(n):
-            fail((bit, place) not in cover.words, f"bit {bit}: word {place} does not change alone")
+            free = [one for one in range(16, 32) if not ruled_zero(bit, place, one)]
+            for half in ("lower", "upper") if free else ("lower",):
+                seen = (bit, place, half) in cover.words
+                fail(not seen, f"bit {bit}: the {half} half of word {place} does not change alone")
 
 
 def main():
