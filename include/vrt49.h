@@ -17,11 +17,11 @@
    other (`make stack`). memcpy, memmove and memset are all that is asked of the C library.
 
    What a call costs in S, the number of streams: vrt49_play, vrt49_well_made, vrt49_page_length,
-   vrt49_save, vrt49_put_back, vrt49_reading and vrt49_held_words test a whole table each time, 500
-   to 750 instructions for each stream that holds six fields, and so do vrt49_identity, vrt49_counts
-   and vrt49_own_table; vrt49_changed tests two. vrt49_play_run is the fast one: it tests the table
-   once, and then takes 110 instructions for a sample packet and 6 for each stream before its own
-   (docs/SPEED.md).
+   vrt49_save, vrt49_put_back, vrt49_reading, vrt49_readings, vrt49_held_words, vrt49_identity,
+   vrt49_counts and vrt49_own_table test a whole table each time, 500 to 750 instructions for each
+   stream that holds six fields, and vrt49_changed tests two; of a stream's fields vrt49_readings
+   gives all for one test. vrt49_play_run is the fast one: it tests the table once, and then takes
+   110 instructions for a sample packet and 6 for each stream before its own (docs/SPEED.md).
 
    What a caller owes: a pointer to a number or to a struct is not null; what is written, be it
    number, struct or buffer, overlaps nothing else that is handed over; a pointer is aligned as its
@@ -278,6 +278,16 @@ typedef struct vrt49_shown {
     float levels[2]; /* the level or temperature and 0, or stages 1 and 2 of a gain; else zeros */
 } vrt49_shown;
 
+/* What the panel shows of every field of a stream, as vrt49_show_all gives it: entry i is of bit
+   30 - i. vrt49_shown_of gives that of one field. */
+typedef struct vrt49_panel {
+    uint32_t kinds[21]; /* enum vrt49_kind */
+    uint32_t parts[21]; /* as in vrt49_shown */
+    int64_t hertz[21];  /* as in vrt49_shown */
+    float first[21];    /* levels[0] of vrt49_shown */
+    float second[21];   /* levels[1] of vrt49_shown */
+} vrt49_panel;
+
 #if defined(__cplusplus) && __cplusplus >= 201103L
 #define VRT49_ASSERT(name, test) static_assert(test, #name)
 #elif defined(__STDC_VERSION__) && __STDC_VERSION__ >= 201112L
@@ -387,6 +397,12 @@ uint32_t vrt49_put_back(const uint32_t *page, size_t page_n, uint32_t *table, si
 uint32_t vrt49_reading(const uint32_t *table, size_t table_n, size_t stream, uint32_t bit,
                        uint32_t *kind, uint32_t *parts, int64_t *hertz, float levels[2]);
 
+/* What the panel shows of every field of a stream, with one test of the table: TABLE, STREAM. Entry
+   i of each array is of bit 30 - i, and has what vrt49_reading gives of it; first and second are
+   its levels. vrt49_show_all gives them in one. */
+uint32_t vrt49_readings(const uint32_t *table, size_t table_n, size_t stream, uint32_t kinds[21],
+                        uint32_t parts[21], int64_t hertz[21], float first[21], float second[21]);
+
 /* The held words of a stream's field, at the front of out: TABLE, STREAM, VALUE, ROOM. length: how
    many, 0 where the field is absent. */
 uint32_t vrt49_held_words(const uint32_t *table, size_t table_n, size_t stream, uint32_t bit,
@@ -461,6 +477,29 @@ static inline uint32_t vrt49_show(const uint32_t *table, size_t table_n, size_t 
 {
     return vrt49_reading(table, table_n, stream, bit, &shown->kind, &shown->parts, &shown->hertz,
                          shown->levels);
+}
+
+/* vrt49_readings into a struct: TABLE, STREAM. */
+static inline uint32_t vrt49_show_all(const uint32_t *table, size_t table_n, size_t stream,
+                                      vrt49_panel *panel)
+{
+    return vrt49_readings(table, table_n, stream, panel->kinds, panel->parts, panel->hertz,
+                          panel->first, panel->second);
+}
+
+/* What the panel shows of the field of a bit, 30 to 10; of another bit all is 0, and 0 is no kind.
+   */
+static inline vrt49_shown vrt49_shown_of(const vrt49_panel *panel, uint32_t bit)
+{
+    vrt49_shown shown = {0, 0, 0, {0, 0}};
+    if (bit < 10 || bit > 30)
+        return shown;
+    shown.kind = panel->kinds[30 - bit];
+    shown.parts = panel->parts[30 - bit];
+    shown.hertz = panel->hertz[30 - bit];
+    shown.levels[0] = panel->first[30 - bit];
+    shown.levels[1] = panel->second[30 - bit];
+    return shown;
 }
 
 /* The hertz of a frequency with its parts, rounded once, to a double. */

@@ -1,5 +1,5 @@
-// What the calls of libvrt49.a are measured against: read, write, play, save and put back in C by hand, with the same checks in the
-// same order and the same entries written. The tests of bodies, records and tables are those of the play bench.
+// What the calls of libvrt49.a are measured against: read, write, play, save, put back, readings and held words in C by hand, with the
+// same checks in the same order and the same entries written. The tests of bodies, records and tables are those of the play bench.
 #include "../play/by_hand.c"
 enum { ROOM = 13, VALUE = 14, SIZE = 15, PAGE = 19, MOST = 65535 };
 // where the parts that a header announces begin, and how many words are required
@@ -209,5 +209,91 @@ u32 c_put_back(const u32 *p, size_t n, u32 *t, size_t tn, size_t *written) {
     for (size_t s = 0; s < streams; s++)
         fill_record(t + 1 + RECORD * s, p + p[2 + 2 * s]);
     *written = 1 + RECORD * streams;
+    return 0;
+}
+// What a field shows, as numbers.
+struct shown {
+    u32 kind, parts;
+    int64_t hertz;
+    float first, second;
+};
+static inline struct shown show(const u32 *r, u32 bit) {
+    const u32 *f = r + slots[bit];
+    struct shown a = {6, 0, 0, 0, 0};
+    if (!(r[1] >> bit & 1))
+        return a;
+    switch (bit) {
+    case 29:
+    case 28:
+    case 27:
+    case 26:
+    case 25:
+    case 21:
+        a.kind = 1;
+        a.parts = f[1] & 0xfffff;
+        a.hertz = (int64_t)((u64)f[0] << 32 | f[1]) >> 20;
+        return a;
+    case 24:
+        a.kind = 2;
+        a.first = (int16_t)f[0] / 128.0f;
+        return a;
+    case 23:
+        a.kind = 3;
+        a.first = (int16_t)f[0] / 128.0f;
+        a.second = (int16_t)(f[0] >> 16) / 128.0f;
+        return a;
+    case 18:
+        a.kind = 4;
+        a.first = (int16_t)f[0] / 64.0f;
+        return a;
+    default:
+        a.kind = 5;
+        return a;
+    }
+}
+u32 c_reading(const u32 *t, size_t tn, size_t s, u32 bit, u32 *kind, u32 *parts, int64_t *hertz, float *levels) {
+    if (!table_good(t, tn))
+        return TABLE;
+    if (s >= t[0])
+        return STREAM;
+    if (bit < 10 || bit > 30)
+        return VALUE;
+    struct shown a = show(t + 1 + RECORD * s, bit);
+    *kind = a.kind;
+    *parts = a.parts;
+    *hertz = a.hertz;
+    levels[0] = a.first;
+    levels[1] = a.second;
+    return 0;
+}
+u32 c_readings(const u32 *t, size_t tn, size_t s, u32 *kinds, u32 *parts, int64_t *hertz, float *first, float *second) {
+    if (!table_good(t, tn))
+        return TABLE;
+    if (s >= t[0])
+        return STREAM;
+    for (u32 i = 0; i < 21; i++) {
+        struct shown a = show(t + 1 + RECORD * s, 30 - i);
+        kinds[i] = a.kind;
+        parts[i] = a.parts;
+        hertz[i] = a.hertz;
+        first[i] = a.first;
+        second[i] = a.second;
+    }
+    return 0;
+}
+u32 c_held_words(const u32 *t, size_t tn, size_t s, u32 bit, u32 *out, size_t room, size_t *written) {
+    if (!table_good(t, tn))
+        return TABLE;
+    if (s >= t[0])
+        return STREAM;
+    if (bit < 10 || bit > 30)
+        return VALUE;
+    const u32 *r = t + 1 + RECORD * s;
+    size_t n = r[1] >> bit & 1 ? sizes[bit] : 0;
+    if (room < n)
+        return ROOM;
+    for (size_t i = 0; i < n; i++)
+        out[i] = r[slots[bit] + i];
+    *written = n;
     return 0;
 }

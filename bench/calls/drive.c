@@ -14,6 +14,9 @@ u32 CALL(write)(const u32 *, const u32 *, size_t, u32 *, size_t, size_t, size_t 
 u32 CALL(play)(u32 *, size_t, const u32 *, size_t, u32 *);
 u32 CALL(save)(const u32 *, size_t, u32 *, size_t, size_t *);
 u32 CALL(put_back)(const u32 *, size_t, u32 *, size_t, size_t *);
+u32 CALL(reading)(const u32 *, size_t, size_t, u32, u32 *, u32 *, int64_t *, float *);
+u32 CALL(readings)(const u32 *, size_t, size_t, u32 *, u32 *, int64_t *, float *, float *);
+u32 CALL(held_words)(const u32 *, size_t, size_t, u32, u32 *, size_t, size_t *);
 enum { RECORD = 88, LONGEST = 2882 };
 static u32 state = 12345;
 static u32 word(void) {
@@ -47,27 +50,38 @@ static size_t context(u32 *w, u32 identifier, size_t size, const u32 *body) {
 static const u32 small[] = {1u << 29 | 1 << 27 | 1 << 24 | 1 << 23 | 1 << 21 | 1 << 18, 1, 2, 3, 4, 0xff80, 6, 7, 8, 0xffe0};
 // Fields 29, 27, 23, 21, 20 and 19, whose first words are all 2^16 or more.
 static const u32 large[] = {1u << 29 | 1 << 27 | 1 << 23 | 1 << 21 | 1 << 20 | 1 << 19, 0x10001, 2, 0xfff20003, 4, 0x7fff0001, 0x01000007, 8, 0x00010009, 10, 0xff80ff80};
+// All 21 fields of bits 30 to 10, whose words are their own places, but for the format's: 16 bits in fields of 16.
+static size_t all_fields(u32 *w, u32 identifier) {
+    u32 body[75] = {0x7ffffc00};
+    for (u32 i = 1; i < 75; i++)
+        body[i] = i;
+    body[24] = 0x3cf;
+    return context(w, identifier, 5 + 75, body);
+}
 static u64 sum(u64 x, const u32 *w, size_t n) {
     for (size_t i = 0; i < n; i++)
         x = x * 31 + w[i];
     return x;
 }
 int main(int argc, char **argv) {
-    // CALL(read write play save put_back) KIND(data context large) SIZE TIMES: SIZE is body words of a data packet, or streams of a table
+    // CALL(read write play save put_back reading readings held_words) KIND(data context large all) SIZE TIMES: SIZE is body words of a data
+    // packet, or streams of a table; all holds 21 fields of each stream, else six are held
     if (argc != 5)
         return 2;
     const char *kind = argv[2];
     size_t size = atol(argv[3]), times = atol(argv[4]);
     int packet_alone = !strcmp(argv[1], "read") || !strcmp(argv[1], "write");
     size_t streams = packet_alone ? 1 : size, words = packet_alone ? size : 64;
-    static u32 w[70000], out[70000], t[2900], page[LONGEST], a[18], parts[15];
+    static u32 w[70000], out[70000], t[2900], page[LONGEST], a[18], parts[15], kinds[21], fractions[21];
+    static int64_t hertz[21];
+    static float first[21], second[21];
     size_t n = 0, tn = 1 + RECORD * streams, pn = 0, written = 0;
     u32 r = 0;
     t[0] = streams;
     for (size_t s = 0; s < streams; s++)
         t[1 + RECORD * s] = 0x1000 + s;
     for (size_t s = 0; s < streams; s++) {
-        n = context(w, 0x1000 + s, 15, small);
+        n = !strcmp(kind, "all") ? all_fields(w, 0x1000 + s) : context(w, 0x1000 + s, 15, small);
         r |= CALL(play)(t, tn, w, n, a);
     }
     r |= CALL(save)(t, tn, page, LONGEST, &pn);
@@ -91,6 +105,14 @@ int main(int argc, char **argv) {
         REPEAT(CALL(save)(t, tn, page, LONGEST, &written));
     if (!strcmp(call, "put_back"))
         REPEAT(CALL(put_back)(page, pn, t, tn, &written));
+    if (!strcmp(call, "reading"))
+        REPEAT(CALL(reading)(t, tn, streams - 1, 21, kinds, fractions, hertz, first));
+    if (!strcmp(call, "readings"))
+        REPEAT(CALL(readings)(t, tn, streams - 1, kinds, fractions, hertz, first, second));
+    if (!strcmp(call, "held_words"))
+        REPEAT(CALL(held_words)(t, tn, streams - 1, 21, out, 2, &written));
+    written = sum(sum(written, kinds, 21), fractions, 21);
+    written = sum(sum(sum(written, (u32 *)hertz, 42), (u32 *)first, 21), (u32 *)second, 21);
     printf("%u %016llx\n", r, (unsigned long long)sum(sum(sum(sum(written, t, tn), page, pn), out, 70000), a, 18));
     return 0;
 }

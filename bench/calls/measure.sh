@@ -21,3 +21,9 @@ for call in save put_back; do
         row $call data $s "6 fields held, S $s"
     done
 done
+for s in 1 32; do
+    row reading data $s "sample rate, 6 fields held, S $s"
+    row readings data $s "6 fields held, S $s"
+    row readings all $s "21 fields held, S $s"
+    row held_words data $s "sample rate, 6 fields held, S $s"
+done

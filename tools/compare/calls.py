@@ -564,6 +564,14 @@ def float_word(value):
     return sign << 31 | exponent << 23 | fraction
 
 
+def reading_numbers(said):
+    """A reading as numbers: its kind, parts, whole hertz and two levels."""
+    if said[0] == "frequency":
+        return KINDS[said[0]], said[2], said[1] % 2**64, 0, 0
+    levels = [float_word(value) for value in said[1:]]
+    return KINDS[said[0]], 0, 0, *levels, *[0] * (2 - len(levels))
+
+
 def reading(r):
     lent = panel_table(r)
     stream, bit = some_place(r, lent)
@@ -572,15 +580,22 @@ def reading(r):
     said = panel.reading(lent, stream, bit)
     if said[0] == "refused":
         return refused(args, said[1])
-    whole, parts, shown = 0, 0, [0, 0]
-    if said[0] == "frequency":
-        whole, parts = said[1:]
-    else:
-        shown[: len(said) - 1] = [float_word(value) for value in said[1:]]
-    after = {
-        3: put(kind, [KINDS[said[0]]]), 4: put(parts_place, [parts]), 5: put(hertz, [whole % 2**64]), 6: put(levels, shown),
-    }
+    number, parts, whole, *shown = reading_numbers(said)
+    after = {3: put(kind, [number]), 4: put(parts_place, [parts]), 5: put(hertz, [whole]), 6: put(levels, shown)}
     return Case(args, 0, after)
+
+
+def readings(r):
+    """Entry i of each column is what a reading of bit 30 - i gives."""
+    lent = panel_table(r)
+    stream, _ = some_place(r, lent)
+    columns = [noisy(r, 21, code) for code in "IIQII"]
+    args = [given(lent), stream, *columns]
+    said = [panel.reading(lent, stream, bit) for bit in range(30, 9, -1)]
+    if said[0][0] == "refused":
+        return refused(args, said[0][1])
+    rows = map(reading_numbers, said)
+    return Case(args, 0, {2 + i: put(*both) for i, both in enumerate(zip(columns, zip(*rows)))})
 
 
 def held_words(r):
@@ -683,6 +698,7 @@ CALLS = (
     Call("vrt49_save", "iIL", save, 10000, (0, 13, 18)),
     Call("vrt49_put_back", "iIL", put_back, 20000, (0, 13, 19)),
     Call("vrt49_reading", "iqwIILI", reading, 30000, (0, 11, 14, 18)),
+    Call("vrt49_readings", "iqIILII", readings, 20000, (0, 11, 18)),
     Call("vrt49_held_words", "iqwIL", held_words, 15000, (0, 11, 13, 14, 18)),
     Call("vrt49_identity", "iqII", identity, 8000, (0, 11, 18)),
     Call("vrt49_counts", "iqwI", counts, 12000, (0, 11, 14, 18)),

@@ -35,6 +35,7 @@ static const struct {
     {"vrt49_save", "iIL", {"table", "page", "length"}},
     {"vrt49_put_back", "iIL", {"page", "table", "length"}},
     {"vrt49_reading", "iqwIILI", {"table", "kind", "parts", "hertz", "levels"}},
+    {"vrt49_readings", "iqIILII", {"table", "kinds", "parts", "hertz", "first", "second"}},
     {"vrt49_held_words", "iqwIL", {"table", "out", "length"}},
     {"vrt49_identity", "iqII", {"table", "identifier", "held"}},
     {"vrt49_counts", "iqwI", {"table", "answer"}},
@@ -80,10 +81,11 @@ static uint32_t call(uint32_t which) {
     case 16: return vrt49_save(B(0), B(1), P(2));
     case 17: return vrt49_put_back(B(0), B(1), P(2));
     case 18: return vrt49_reading(B(0), s[0], s[1], P(1), P(2), P(3), P(4));
-    case 19: return vrt49_held_words(B(0), s[0], s[1], B(1), P(2));
-    case 20: return vrt49_identity(B(0), s[0], P(1), P(2));
-    case 21: return vrt49_counts(B(0), s[0], s[1], P(1));
-    case 22: return vrt49_own_table(B(0), s[0], B(1), P(2));
+    case 19: return vrt49_readings(B(0), s[0], P(1), P(2), P(3), P(4), P(5));
+    case 20: return vrt49_held_words(B(0), s[0], s[1], B(1), P(2));
+    case 21: return vrt49_identity(B(0), s[0], P(1), P(2));
+    case 22: return vrt49_counts(B(0), s[0], s[1], P(1));
+    case 23: return vrt49_own_table(B(0), s[0], B(1), P(2));
     default: return vrt49_changed(B(0), s[0], B(1), s[1], P(2));
     }
 #undef B

@@ -117,6 +117,26 @@ static void save_table(const uint32_t *table, size_t layout)
     printf("saved: a page of %zu words; put back: the same table\n", length);
 }
 
+/* all fields at once: each as vrt49_show gives it */
+static void show_all(const uint32_t *table, size_t layout)
+{
+    vrt49_panel panel;
+    vrt49_shown shown, one;
+    uint32_t bit, held = 0;
+    expect("vrt49_show_all", vrt49_show_all(table, layout, 0, &panel), VRT49_OK);
+    for (bit = 10; bit <= 30; bit++) {
+        shown = vrt49_shown_of(&panel, bit);
+        expect("vrt49_show", vrt49_show(table, layout, 0, bit, &one), VRT49_OK);
+        expect("a field of all", shown.kind == one.kind && shown.parts == one.parts && shown.hertz == one.hertz, 1);
+        expect("its levels", shown.levels[0] == one.levels[0] && shown.levels[1] == one.levels[1], 1);
+        held += shown.kind != VRT49_KIND_ABSENT;
+    }
+    printf("all fields: %" PRIu32 " held\n", held);
+    expect("vrt49_shown_of no field", vrt49_shown_of(&panel, 9).kind + vrt49_shown_of(&panel, 31).kind, 0);
+    expect("vrt49_show_all of a stream that is not there", vrt49_show_all(table, layout, 2, &panel), VRT49_STREAM);
+    expect("the panel after a refusal", panel.kinds[30 - VRT49_BIT_LEVEL], VRT49_KIND_LEVEL);
+}
+
 static void show_readings(const uint32_t *table, size_t layout)
 {
     uint32_t held[VRT49_FIELD_WORDS];
@@ -188,6 +208,7 @@ int main(void)
     layout = play_packets(table, ENTRIES(table));
     save_table(table, layout);
     show_readings(table, layout);
+    show_all(table, layout);
     ask_stream(table, layout);
     unpack_samples();
     return 0;

@@ -10,5 +10,9 @@ pub mod Pattern
 pub mod ReadingLaws
 -- what the words of a field show
 pub mod ShowLaws
+-- what a field shows, read where it stands in its record
+pub mod InRecordLaws
+-- all readings at once
+pub mod AllReadingLaws
 -- two answers that meet a promise are equal
 pub mod Uniqueness

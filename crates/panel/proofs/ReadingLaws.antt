@@ -1,9 +1,9 @@
 -- The answers. The idea: where nothing is refused the record is there and the bit has a slot; the slot is a part of the record, and so are the held words,
 -- also those of an absent field, which are none.
 use Rattle.words.proofs.Kit.{_≡_, refl, sym, ap, subst, _∙_, Bool, true, false, not, List, _++_, ℕ, _+_, _-_, _≤_, _<_, arith, lt-ltb, le-ltb}
-use Rattle.words.proofs.Kit.{le-leb, lt-leb, ltb-false, not-true, not-false, ltb, length, take, drop}
+use Rattle.words.proofs.Kit.{ltb-false, not-true, not-false, ltb, length, take, drop}
 use borrow.Author.Tests.{leb-false}
-use Rattle.words.specs.Numbers.{TABLE, STREAM, VALUE, ROOM}
+use Rattle.words.specs.Numbers.{ROOM}
 use Rattle.words.specs.Tests.{when}
 use Rattle.words.specs.Part.{part, put}
 use Rattle.words.specs.Outcome.{refused, accepted, after, checked, measured, Meets}
@@ -16,9 +16,12 @@ use Rattle.record.specs.Layout.{headWords, recordWords, isHeld, heldWordsIn}
 use Rattle.record.proofs.HeldWordsLaws.{slot-is, held-part, held-length}
 use Rattle.table.specs.Layout.{streamsOf, base, Has, recordAt}
 use Rattle.table.specs.Well.{wellMade}
+use Rattle.table.specs.Stream.{streamNumberList}
+use Rattle.table.specs.inner.Checked.{streamChecks}
 use Rattle.table.proofs.WellLaws.{layout-has, well-whole, well-few}
+use Rattle.table.proofs.StreamLaws.{checked-fine, checked-refused}
 use Rattle.panel.specs.Readings.{absent, shownOf, recordShows, readingList, readingOf, readingPaper}
-use Rattle.panel.specs.inner.Asked.{askedOf}
+use Rattle.panel.specs.inner.Asked.{bitChecks, askedOf}
 use Rattle.panel.specs.HeldWords.{heldWordsOf}
 use Rattle.panel.specs.inner.Copied.{copyOf}
 use Rattle.panel.specs.declared.FieldReading.{FieldReading}
@@ -27,28 +30,17 @@ use Rattle.words.specs.declared.Check.the-variants as checks
 use Rattle.words.specs.declared.Length.{Length}
 use Rattle.words.specs.declared.Length.the-variants as lengths
 
--- ---- whether a field may be asked for, as a program asks: w is the answer of `well_made`, and n is S
-module _ (t : List ℕ) (s b : ℕ) (w : Bool) (e : w ≡ wellMade t) where
-  pub asked-ill : not w ≡ true → refused TABLE ≡ askedOf t s b
-  unfolding askedOf
-  asked-ill i = rw (← e, not-true w i)
+-- ---- whether a field may be asked for: k is what the stream's number was found to be
+asked-after : (t : List ℕ) (s b : ℕ) → askedOf t s b ≡ after (streamChecks t s) (bitChecks b)
+unfolding askedOf streamChecks bitChecks
+asked-after t s b = sym (after-first (streamNumberList t s) tt _)
 
-  module _ (n : ℕ) (i : not w ≡ false) (f : n ≡ streamsOf t) where
-    pub asked-undeclared : n ≤ s → refused STREAM ≡ askedOf t s b
-    unfolding askedOf
-    asked-undeclared h = rw (← e, not-false w i, ← f, le-leb n s h)
+module _ (t : List ℕ) (s b : ℕ) (k : Check) (e : checked k ≡ streamChecks t s) where
+  pub asked-refused : (n : ℕ) → k ≡ checks.Refused n → refused n ≡ askedOf t s b
+  asked-refused n f = rw (asked-after t s b, checked-refused t s k e n f)
 
-    pub asked-below : s < n → b < 10 → refused VALUE ≡ askedOf t s b
-    unfolding askedOf
-    asked-below h l = rw (← e, not-false w i, ← f, lt-leb n s h, lt-ltb b 10 l)
-
-    pub asked-above : s < n → 10 ≤ b → 30 < b → refused VALUE ≡ askedOf t s b
-    unfolding askedOf
-    asked-above h l m = rw (← e, not-false w i, ← f, lt-leb n s h, le-ltb b 10 l, lt-ltb 30 b m)
-
-    pub asked-fine : s < n → 10 ≤ b → b ≤ 30 → accepted tt ≡ askedOf t s b
-    unfolding askedOf
-    asked-fine h l m = rw (← e, not-false w i, ← f, lt-leb n s h, le-ltb b 10 l, le-ltb 30 b m)
+  pub asked-bit : (r : Check) → k ≡ checks.Fine → checked r ≡ bitChecks b → checked r ≡ askedOf t s b
+  asked-bit r f h = rw (asked-after t s b, checked-fine t s k e f) h
 
 -- ---- what may be asked for, in facts
 asked-facts : (t : List ℕ) (s b : ℕ) → askedOf t s b ≡ accepted tt → (s < 32) × Has s t × (10 ≤ b) × (b ≤ 30)
@@ -129,15 +121,15 @@ copy-room r out b z n h l lo hi ez eh en o =
     meets-refused (rw (k, lt-ltb (length out) n o))
 
 -- ---- a record that is lent from its place on
-module _ (t : List ℕ) (s b at : ℕ) (e : at ≡ base s) where
-  lent-record : take (at + recordWords - at) (drop at t) ≡ recordAt s t
-  unfolding recordAt
-  lent-record = seen at (at + recordWords) recordWords t refl ∙ ap (λ (a : ℕ). part a recordWords t) e
+pub lent-record : (t : List ℕ) (s at : ℕ) → at ≡ base s → take (at + recordWords - at) (drop at t) ≡ recordAt s t
+unfolding recordAt
+lent-record t s at e = seen at (at + recordWords) recordWords t refl ∙ ap (λ (a : ℕ). part a recordWords t) e
 
+module _ (t : List ℕ) (s b at : ℕ) (e : at ≡ base s) where
   pub read-lent : (d : FieldReading) → readingPaper d ≡ accepted (recordShows b (take (at + recordWords - at) (drop at t)))
       → readingPaper d ≡ accepted (recordShows b (recordAt s t))
-  read-lent d h = h ∙ ap (λ (r : List ℕ). accepted (recordShows b r)) lent-record
+  read-lent d h = h ∙ ap (λ (r : List ℕ). accepted (recordShows b r)) (lent-record t s at e)
 
   pub copy-lent : (out last : List ℕ) (r : Length) → Meets measured (copyOf (heldWordsIn b (take (at + recordWords - at) (drop at t))) out) out r last
       → Meets measured (copyOf (heldWordsIn b (recordAt s t)) out) out r last
-  copy-lent out last r h = subst (λ (l : List ℕ). Meets measured (copyOf (heldWordsIn b l) out) out r last) lent-record h
+  copy-lent out last r h = subst (λ (l : List ℕ). Meets measured (copyOf (heldWordsIn b l) out) out r last) (lent-record t s at e) h

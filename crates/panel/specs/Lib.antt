@@ -6,6 +6,8 @@ pub mod Values
 pub mod Pattern
 -- what a reading shows, and its refusals
 pub mod Readings
+-- all readings of a stream at once
+pub mod AllReadings
 -- the held words themselves
 pub mod HeldWords
 -- what only the contracts inside cite

@@ -1,15 +1,15 @@
 -- Document 01, 'Readings for the panel': "A reading is a frequency, a level, a gain pair, a temperature, other (held, nothing more said), or absent"; and
 -- "Reading: TABLE, STREAM, VALUE".
-use Rattle.words.specs.Kit.{ℕ, Bool, true, not, List, [], _∷_, eqb, ltb, leb, getD}
+use Rattle.words.specs.Kit.{ℕ, Bool, true, List, [], _∷_, _++_, eqb, ltb, leb, getD}
 use lib.IntN.{ℤ}
 use lib.Ieee.{Float}
-use Rattle.words.specs.Numbers.{TABLE, STREAM, VALUE}
+use Rattle.words.specs.Numbers.{VALUE}
 use Rattle.words.specs.Tests.{pick, both, either}
 use Rattle.words.specs.Outcome.{Outcome, refused, accepted}
 use Rattle.words.specs.Refusals.{Refusals, firstGiven}
 use Rattle.record.specs.Layout.{slotOf, isHeld}
-use Rattle.table.specs.Layout.{streamsOf, recordAt}
-use Rattle.table.specs.Well.{wellMade}
+use Rattle.table.specs.Layout.{recordAt}
+use Rattle.table.specs.Stream.{streamNumberList}
 use Rattle.panel.specs.Values.{unitsOf, floorDiv, floorRem, over, lowerHalf, upperHalf}
 use Rattle.panel.specs.declared.FieldReading.{FieldReading}
 use Rattle.panel.specs.declared.FieldReading.the-variants as dial
@@ -41,9 +41,13 @@ shownOf bit ws =
 unfoldable pub recordShows : ℕ → List ℕ → Reading
 recordShows bit r = pick (isHeld bit r) (shownOf bit (slotOf bit r)) absent
 
--- "table not well made"; "a stream number not in the table"; "a field bit is not 30 to 10"
+-- "a field bit is not 30 to 10"
+abbrev pub bitList : ℕ → Refusals
+bitList bit = (VALUE, either (ltb bit 10) (ltb 30 bit)) ∷ []
+
+-- "Reading: TABLE, STREAM, VALUE": the first two as of every stream's number
 abbrev pub readingList : List ℕ → ℕ → ℕ → Refusals
-readingList t stream bit = (TABLE, not (wellMade t)) ∷ (STREAM, leb (streamsOf t) stream) ∷ (VALUE, either (ltb bit 10) (ltb 30 bit)) ∷ []
+readingList t stream bit = streamNumberList t stream ++ bitList bit
 
 -- what `reading` answers
 unfoldable pub readingOf : List ℕ → ℕ → ℕ → Outcome Reading

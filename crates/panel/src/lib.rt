@@ -1,12 +1,15 @@
 // Readings for the panel: what a stream's held fields show, and the held words themselves.
 mod asked;
+pub mod inner;
 mod records;
 mod shows;
 mod values;
 
 ghost use mathlib.Core.Path.{_≡_};
+ghost use mathlib.Core.List.{map};
 ghost use Rattle.words.specs.Outcome.{measured, Meets};
 ghost use Rattle.panel.specs.Readings.{readingOf, readingPaper};
+ghost use Rattle.panel.specs.AllReadings.{readingsOf, inEach};
 ghost use Rattle.panel.specs.HeldWords.{heldWordsOf};
 
 // The two stages of a gain.
@@ -35,6 +38,16 @@ pub fn reading(table: &[u32], stream: usize, bit: u32) -> FieldReading
     match asked::check(table, stream, bit) {
         words::Check::Refused(n) => FieldReading::Refused(n),
         words::Check::Fine => records::read_at(table, stream, bit),
+    }
+}
+
+// What each field of a stream shows: entry i is the reading of bit 30 - i. TABLE and STREAM as for a reading, and then every entry is the refusal.
+pub fn readings(table: &[u32], stream: usize) -> [FieldReading; 21]
+    ensures { λ r. ⌜ map readingPaper r ≡ inEach (readingsOf (now (table .entry)) stream) ⌝ }
+{
+    match table::inner::check_stream(table, stream) {
+        words::Check::Refused(n) => [FieldReading::Refused(n); 21],
+        words::Check::Fine => records::read_all_at(table, stream),
     }
 }
 

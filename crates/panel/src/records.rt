@@ -1,9 +1,11 @@
 // A field in the record of a stream: what it shows, and its words.
+ghost use mathlib.Core.List.{map};
 ghost use Rattle.words.specs.Kit.{_≡_, _≤_, _<_, length};
 ghost use Rattle.words.specs.Outcome.{accepted, measured, Meets};
 ghost use Rattle.record.specs.Layout.{recordWords, heldWordsIn};
 ghost use Rattle.table.specs.Layout.{Has, recordAt};
 ghost use Rattle.panel.specs.Readings.{recordShows, readingPaper};
+ghost use Rattle.panel.specs.AllReadings.{recordReadings};
 ghost use Rattle.panel.specs.inner.Copied.{copyOf};
 
 // What the field of a bit shows in a record.
@@ -17,6 +19,20 @@ fn read_record(rec: &[u32], bit: u32) -> crate::FieldReading
     let at = record::inner::HEAD_WORDS + record::inner::slot_at(bit);
     let end = at + fields::inner::field_size(bit);
     crate::shows::show(bit, &rec[at..end])
+}
+
+// What each field shows in a record: entry i is that of bit 30 - i.
+fn read_all(rec: &[u32]) -> [crate::FieldReading; 21]
+    requires { ⌜ length (now rec) ≡ recordWords ⌝ }
+    ensures { λ r. ⌜ map readingPaper r ≡ map accepted (recordReadings (now (rec .entry))) ⌝ }
+{
+    let mut dials = [crate::FieldReading::Absent; 21];
+    let mut i = 0;
+    while i < 21 {
+        dials[i] = crate::shows::show_in(rec, 30 - i as u32);
+        i += 1;
+    }
+    dials
 }
 
 // The words of a field that a record holds, copied to the front of out.
@@ -42,6 +58,26 @@ pub fn read_at(table: &[u32], stream: usize, bit: u32) -> crate::FieldReading
     let at = table::inner::record_at(stream);
     let end = at + record::inner::RECORD_WORDS;
     read_record(&table[at..end], bit)
+}
+
+// What the field of a bit shows in the record of a stream, for a loop over all fields.
+pub fn show_at(table: &[u32], stream: usize, bit: u32) -> crate::FieldReading
+    requires { ⌜ (stream < 32) × Has stream (now table) × (10 ≤ bit) × (bit ≤ 30) ⌝ }
+    ensures { λ r. ⌜ readingPaper r ≡ accepted (recordShows bit (recordAt stream (now (table .entry)))) ⌝ }
+{
+    let at = table::inner::record_at(stream);
+    let end = at + record::inner::RECORD_WORDS;
+    crate::shows::show_in(&table[at..end], bit)
+}
+
+// What each field shows in the record of a stream.
+pub fn read_all_at(table: &[u32], stream: usize) -> [crate::FieldReading; 21]
+    requires { ⌜ (stream < 32) × Has stream (now table) ⌝ }
+    ensures { λ r. ⌜ map readingPaper r ≡ map accepted (recordReadings (recordAt stream (now (table .entry)))) ⌝ }
+{
+    let at = table::inner::record_at(stream);
+    let end = at + record::inner::RECORD_WORDS;
+    read_all(&table[at..end])
 }
 
 // The words of a field that a stream holds, copied to the front of out.

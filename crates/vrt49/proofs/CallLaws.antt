@@ -18,6 +18,7 @@ use Rattle.play.specs.Run.{runOf}
 use Rattle.page.specs.Save.{lengthOf, saveOf}
 use Rattle.page.specs.PutBack.{putBackOf}
 use Rattle.panel.specs.Readings.{readingOf}
+use Rattle.panel.specs.AllReadings.{readingsOf}
 use Rattle.panel.specs.HeldWords.{heldWordsOf}
 use Rattle.panel_streams.specs.Identity.{identityOf}
 use Rattle.panel_streams.specs.TypeCounts.{typeCountsOf}
@@ -63,8 +64,8 @@ abbrev _and_ : {A B : Type 0} → A → B → A × B
 a and b = (a, b)
 
 listed : EachForC Listed callsForC
-unfolding readBy writeWordsOf trailerWordOf contextOf unpackOf packOf neededOf signedOf startOf playOf runOf lengthOf saveOf putBackOf readingOf heldWordsOf
-    identityOf typeCountsOf ownTableOf changedOf
+unfolding readBy writeWordsOf trailerWordOf contextOf unpackOf packOf neededOf signedOf startOf playOf runOf lengthOf saveOf putBackOf readingOf readingsOf
+    heldWordsOf identityOf typeCountsOf ownTableOf changedOf
 listed =
     (λ h. ((_, refl), refl, search needs))
     and (λ h. ((_, refl), refl, search needs))
@@ -79,6 +80,7 @@ listed =
     and (λ h. ((_, refl), refl, search needs))
     and (λ h. ((_, refl), refl, search needs))
     and tt
+    and (λ h. ((_, refl), refl, search needs))
     and (λ h. ((_, refl), refl, search needs))
     and (λ h. ((_, refl), refl, search needs))
     and (λ h. ((_, refl), refl, search needs))

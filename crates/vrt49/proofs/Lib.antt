@@ -8,5 +8,7 @@ pub mod PartsLaws
 pub mod SmallLaws
 -- what a reading tells
 pub mod ReadingLaws
+-- what all readings of a stream tell
+pub mod ColumnLaws
 -- what holds of every call
 pub mod CallLaws

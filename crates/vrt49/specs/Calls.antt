@@ -24,6 +24,7 @@ use Rattle.play.specs.Run.{runOf}
 use Rattle.page.specs.Save.{lengthList, saveList, lengthOf, saveOf}
 use Rattle.page.specs.PutBack.{putBackList, putBackOf}
 use Rattle.panel.specs.Readings.{readingList, readingOf}
+use Rattle.panel.specs.AllReadings.{readingsOf}
 use Rattle.panel.specs.HeldWords.{heldWordsList, heldWordsOf}
 use Rattle.panel_streams.specs.Identity.{identityOf}
 use Rattle.panel_streams.specs.TypeCounts.{typeCountsList, typeCountsOf}
@@ -32,7 +33,7 @@ use Rattle.panel_streams.specs.Changed.{changedList, changedOf}
 use Rattle.vrt49.specs.Answers.{Tells, plain, left, beside}
 use Rattle.vrt49.specs.Packets.{packetValues, trailerValues, foundValues, writeWordsList, writeWordsOf}
 use Rattle.vrt49.specs.Tables.{heardValues, reachedValues}
-use Rattle.vrt49.specs.Readings.{readingValues}
+use Rattle.vrt49.specs.Readings.{readingValues, readingsValues}
 use Rattle.vrt49.specs.Streams.{identityValues, countValues}
 
 -- a call that answers its value; and one that answers a number, by what is wanted of it, the values of an accepted answer, the lent places, the list of its
@@ -167,6 +168,11 @@ forReading =
     tells (λ (h : List ℕ × ℕ × ℕ × ℕ × ℕ × ℤ × List Float). readingOf (h .0) (h .1) (h .2)) readingValues (λ h. (h .3, h .4, h .5, h .6))
     (λ h. readingList (h .0) (h .1) (h .2)) (TABLE ∷ STREAM ∷ VALUE ∷ [])
 
+abbrev pub forReadings : CallForC
+forReadings =
+    tells (λ (h : List ℕ × ℕ × List ℕ × List ℕ × List ℤ × List Float × List Float). readingsOf (h .0) (h .1)) readingsValues
+    (λ h. (h .2, h .3, h .4, h .5, h .6)) (λ h. streamNumberList (h .0) (h .1)) (TABLE ∷ STREAM ∷ [])
+
 abbrev pub forHeldWords : CallForC
 forHeldWords =
     tells (λ (h : List ℕ × ℕ × ℕ × List ℕ × ℕ). heldWordsOf (h .0) (h .1) (h .2) (h .3)) (beside plain) (λ h. (h .3, h .4))
@@ -202,6 +208,6 @@ callsForC =
     ∷ forUnpack ∷ forPack ∷ forWordsNeeded ∷ forSigned
     ∷ forStart ∷ forWellMade ∷ forPlay ∷ forPlayRun
     ∷ forPageLength ∷ forSave ∷ forPutBack
-    ∷ forReading ∷ forHeldWords
+    ∷ forReading ∷ forReadings ∷ forHeldWords
     ∷ forIdentity ∷ forCounts ∷ forOwnTable ∷ forChanged
     ∷ []

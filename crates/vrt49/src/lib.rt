@@ -24,6 +24,7 @@ pub use payloads::vrt49_unpack;
 pub use payloads::vrt49_words_needed;
 pub use readings::vrt49_held_words;
 pub use readings::vrt49_reading;
+pub use readings::vrt49_readings;
 pub use streams::vrt49_changed;
 pub use streams::vrt49_counts;
 pub use streams::vrt49_identity;

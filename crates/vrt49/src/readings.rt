@@ -1,9 +1,11 @@
-// What the panel shows of a stream's fields, and their held words.
-ghost use Rattle.words.specs.Kit.{_≡_};
+// What the panel shows of a stream's fields, one by one and all at once, and their held words.
+ghost use Rattle.words.specs.Kit.{_≡_, _<_};
+ghost use Rattle.table.specs.Layout.{Has, recordAt};
 ghost use Rattle.panel.specs.Readings.{readingOf, readingPaper};
+ghost use Rattle.panel.specs.AllReadings.{recordReadings, readingsOf};
 ghost use Rattle.panel.specs.HeldWords.{heldWordsOf};
 ghost use Rattle.vrt49.specs.Answers.{Tells, plain, beside};
-ghost use Rattle.vrt49.specs.Readings.{levelledOf, numbersShown, readingValues};
+ghost use Rattle.vrt49.specs.Readings.{levelledOf, numbersShown, readingValues, columnPlaces, readingsValues};
 
 // A reading as numbers. A frequency has its parts and its whole hertz; a level and a temperature have `first`; a gain has its two stages, `first` and `second`. The
 // numbers that a kind of reading has not are zero.
@@ -49,6 +51,45 @@ fn numbers_of(dial: panel::FieldReading) -> Values
     }
 }
 
+// The numbers of all readings of a stream, a column for each: entry i is that of bit 30 - i.
+pub struct Columns {
+    pub kinds: [u32; 21],
+    pub parts: [u32; 21],
+    pub hertz: [i64; 21],
+    pub first: [f32; 21],
+    pub second: [f32; 21],
+}
+
+// The columns of a stream's record. Each field is read and its numbers are stored, since an array of all readings would be copied twice on its way.
+fn columns_of(table: &[u32], stream: usize) -> Columns
+    requires { ⌜ (stream < 32) × Has stream (now table) ⌝ }
+    ensures { λ r. ⌜ columnPlaces r ≡ readingsValues (recordReadings (recordAt stream (now (table .entry)))) ⌝ }
+{
+    let mut kinds = [0; 21];
+    let mut parts = [0; 21];
+    let mut hertz = [0; 21];
+    let mut first = [0.0; 21];
+    let mut second = [0.0; 21];
+    let mut i = 0;
+    while i < 21 {
+        let v = numbers_of(panel::inner::show_at(table, stream, 30 - i as u32));
+        kinds[i] = v.kind;
+        parts[i] = v.parts;
+        let whole = v.hertz;
+        hertz[i] = whole;
+        first[i] = v.first;
+        second[i] = v.second;
+        i += 1;
+    }
+    Columns {
+        kinds,
+        parts,
+        hertz,
+        first,
+        second,
+    }
+}
+
 // What the panel shows of a stream's field; answers TABLE, STREAM or VALUE. The kind, the parts, the whole hertz, and two levels.
 #[no_mangle]
 pub extern "C" fn vrt49_reading(
@@ -73,6 +114,38 @@ pub extern "C" fn vrt49_reading(
     *hertz = whole;
     *levels = [v.first, v.second];
     0
+}
+
+// What the panel shows of every field of a stream; answers TABLE or STREAM. Each number of a reading has a column, whose entry i is of bit 30 - i.
+#[no_mangle]
+pub extern "C" fn vrt49_readings(
+    table: &[u32],
+    stream: usize,
+    kinds: &mut [u32; 21],
+    parts: &mut [u32; 21],
+    hertz: &mut [i64; 21],
+    first: &mut [f32; 21],
+    second: &mut [f32; 21],
+) -> u32
+    ensures { λ r. ⌜ Tells readingsValues (readingsOf (now (table .entry)) stream) (now (kinds .entry), now (parts .entry), now (hertz .entry), now (first .entry), now (second .entry)) r (now (kinds .exit), now (parts .exit), now (hertz .exit), now (first .exit), now (second .exit)) ⌝ }
+{
+    match table::inner::check_stream(table, stream) {
+        words::Check::Refused(n) => n,
+        words::Check::Fine => {
+            let c = columns_of(table, stream);
+            let kinds_all = c.kinds;
+            let parts_all = c.parts;
+            let hertz_all = c.hertz;
+            let first_all = c.first;
+            let second_all = c.second;
+            *kinds = kinds_all;
+            *parts = parts_all;
+            *hertz = hertz_all;
+            *first = first_all;
+            *second = second_all;
+            0
+        }
+    }
 }
 
 // The held words of a stream's field, at the front of a buffer; answers TABLE, STREAM, VALUE or ROOM. `length` takes how many.

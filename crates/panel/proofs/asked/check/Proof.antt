@@ -1,5 +1,5 @@
--- `check` meets its promise: each test is a line of the definition.
-use Rattle.panel.proofs.ReadingLaws.{asked-ill, asked-undeclared, asked-below, asked-above, asked-fine}
+-- `check` meets its promise: what is refused of the stream's number is given on, and else the bit is tested.
+use Rattle.panel.proofs.ReadingLaws.{asked-refused, asked-bit}
 use borrow.Author.Needs.{needs}
 use Rattle.panel.proofs.asked.check.Statement.{statement}
 use Rattle.panel.proofs.asked.check.Tie as tie
@@ -8,5 +8,4 @@ pub check-spec : {M : Type 1} → statement M
 check-spec =
     tie.close
     (tie.spec
-    (λ c κs. search needs) (λ c. search asked-ill) (λ c κs. search needs) (λ c. search asked-undeclared) (λ c. search asked-below)
-    (λ c. search asked-above) (λ c. search asked-fine))
+    (λ c κs. search needs) (λ c. search needs) (λ c. search needs) (λ c κs. search needs) (λ c. search asked-refused) (λ c. search asked-bit))

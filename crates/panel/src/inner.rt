@@ -1,0 +1,2 @@
+// What the crates above use of readings.
+pub use crate::records::show_at;
