@@ -42,7 +42,7 @@ FAULTS = {
         ("columns.c", "    of->unsure += of->since;\n", ""),
         ("columns.c", "c <= past; c++", "c < past; c++"),
         ("columns.c", "(size_t)(of->context >> all->shift); c", "past; c"),
-        ("picture.c", "    draw_unsure(on, of);\n", ""),
+        ("picture.c", "    if (of->tunings <= DENSE)\n        draw_unsure(on, of);\n", ""),
         ("picture.c", "V%.1fH%.1fz\", x, y_of(on, now->last.high)", "V%.1fH%.1fz\", x, y_of(on, now->last.centre)"),
         ("picture.c", "of->columns[i].contexts_missing, \"missing", "of->columns[i].missing, \"missing"),
         ("lines.c", "count.started", "count.seen > 1"),
@@ -63,7 +63,7 @@ FAULTS = {
         ("survey.c", "else if (at->said->type != VRT49_TYPE_EXTENSION_CONTEXT)", "else"),
         ("survey.c", "        note_unsure(all, of);\n", ""),
         ("lines.c", "at->said->missing, of->context);", "at->said->missing, at->number);"),
-        ("picture.c", "l5 7l-5 7l-5 -7z", "v11"),
+        ("picture.c", '"context", "l5 7l-5 7l-5 -7z"', '"context", "v11"'),
     ],
     "pieces": [
         ("recording.c", "    from->before += from->at;\n", ""),
