@@ -69,7 +69,7 @@ FAULTS = {
         ("recording.c", "    from->before += from->at;\n", ""),
         ("recording.c", "4 * left + from->loose);\n    from->before", "4 * left);\n    from->before"),
         ("recording.c", "from->ended = got <= 0;", "from->ended = got <= 0 || used + (size_t)got < sizeof from->words;"),
-        ("recording.c", "    for (i = left; i < from->have; i++)", "    for (i = 0; i < from->have; i++)"),
+        ("recording.c", "(from->words + left, from->have - left)", "(from->words, from->have)"),
         ("survey.c", "entries[i].number == VRT49_CUT && !from->ended", "0"),
     ],
     "cut": [
