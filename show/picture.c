@@ -44,6 +44,19 @@ static void text(const sheet *on, double x, double y, const char *kind, const ch
     va_end(values);
 }
 
+/* A frequency to a hertz, in a buffer that is used again after two. */
+static const char *mhz_text(double mhz)
+{
+    static char texts[2][32];
+    static int next;
+    char *text_of = texts[next++ & 1], *end;
+    snprintf(text_of, sizeof texts[0], "%.6f", mhz > -5e-7 && mhz < 0 ? 0 : mhz);
+    for (end = text_of + strlen(text_of); end[-1] == '0'; end--)
+        ;
+    end[end[-1] == '.' ? -1 : 0] = 0;
+    return text_of;
+}
+
 /* The title of what is drawn for the columns from one to another: of which packets it is. */
 static void title(const sheet *on, size_t from, size_t to)
 {
@@ -86,7 +99,7 @@ static void draw_scale(const sheet *on, const stream *of)
             continue;
         fprintf(on->out, "<path class='grid' d='M%d %.1fh%d'/>", LEFT, y_of(on, mhz), WIDE);
         if (low_row)
-            text(on, LEFT - 5, y_of(on, mhz) + 4, "small end", "%.10g", mhz);
+            text(on, LEFT - 5, y_of(on, mhz) + 4, "small end", "%s", mhz_text(mhz));
         else
             text(on, LEFT - 5, y_of(on, mhz) + 4, "small end", "%.*f", digits, mhz);
     }
@@ -199,9 +212,10 @@ static void draw_labels(const sheet *on, const stream *of, uint64_t seen, uint64
     if (of->tunings == 0)
         text(on, RIGHT + 10, on->top + 12, "small", "no tuning");
     else if (wide > 0)
-        text(on, RIGHT + 10, on->top + 12, "small", "%.10g MHz, %.10g wide", of->last.centre, wide);
+        text(on, RIGHT + 10, on->top + 12, "small", "%s MHz, %s wide", mhz_text(of->last.centre),
+             mhz_text(wide));
     else
-        text(on, RIGHT + 10, on->top + 12, "small", "%.10g MHz", of->last.centre);
+        text(on, RIGHT + 10, on->top + 12, "small", "%s MHz", mhz_text(of->last.centre));
     text(on, RIGHT + 10, on->top + 25, "small", "packets %s, retunings %s", grouped(seen),
          grouped(of->tunings ? of->tunings - 1 : 0));
     if (contexts != 0)
@@ -241,13 +255,16 @@ static void draw_stream(sheet *on, const stream *of)
     fprintf(on->out, "<g id='stream%d'>\n", (int)(of - on->all->streams));
     draw_back(on, on->height);
     draw_labels(on, of, seen, missing, counted(on->all, of, VRT49_TYPE_CONTEXT).missing);
+    if (of->tunings <= DENSE)
+        draw_unsure(on, of);
     if (of->tunings != 0) {
         fit(on, of);
         draw_scale(on, of);
         draw_bands(on, of);
         draw_centre(on, of);
     }
-    draw_unsure(on, of);
+    if (of->tunings > DENSE) /* above what covers the row */
+        draw_unsure(on, of);
     draw_sends(on, of, seen);
     for (i = 0; i < on->columns; i++)
         draw_mark(on, i, floor_of(on) + 2, "missing", "v11", of->columns[i].missing, "missing");

@@ -7,12 +7,21 @@
 
 #include "vrtshow.h"
 
-/* Puts the bytes of a word of the buffer into the host's order. */
-static uint32_t in_order(const uint32_t *word, int little)
+/* Puts the bytes of words into the host's order. */
+static void from_little(uint32_t *words, size_t n)
 {
-    const unsigned char *b = (const unsigned char *)word;
-    return little ? (uint32_t)b[3] << 24 | (uint32_t)b[2] << 16 | (uint32_t)b[1] << 8 | b[0]
-                  : (uint32_t)b[0] << 24 | (uint32_t)b[1] << 16 | (uint32_t)b[2] << 8 | b[3];
+    const unsigned char *b = (const unsigned char *)words;
+    size_t i;
+    for (i = 0; i < n; i++, b += 4)
+        words[i] = (uint32_t)b[3] << 24 | (uint32_t)b[2] << 16 | (uint32_t)b[1] << 8 | b[0];
+}
+
+static void from_big(uint32_t *words, size_t n)
+{
+    const unsigned char *b = (const unsigned char *)words;
+    size_t i;
+    for (i = 0; i < n; i++, b += 4)
+        words[i] = (uint32_t)b[0] << 24 | (uint32_t)b[1] << 16 | (uint32_t)b[2] << 8 | b[3];
 }
 
 /* Before more is waited for: how far it is, where it is shown, and what was printed so far. */
@@ -26,7 +35,7 @@ static void tell_progress(const recording *from)
 
 void refill(recording *from)
 {
-    size_t left = from->have - from->at, i, used;
+    size_t left = from->have - from->at, used;
     unsigned char *bytes = (unsigned char *)from->words;
     ssize_t got;
     if (from->at != 0)
@@ -44,6 +53,5 @@ void refill(recording *from)
     from->bytes += got > 0 ? (uint64_t)got : 0;
     from->have = used / 4;
     from->loose = used % 4;
-    for (i = left; i < from->have; i++)
-        from->words[i] = in_order(&from->words[i], from->little);
+    (from->little ? from_little : from_big)(from->words + left, from->have - left);
 }

@@ -110,6 +110,11 @@ def megahertz(hertz):
     return f"{'' if milli == scaled else '~'}{'-' if milli < 0 else ''}{whole}{tail}"
 
 
+def to_a_hertz(mhz):
+    text = f"{mhz:.6f}".rstrip("0").rstrip(".")
+    return "0" if text == "-0" else text
+
+
 def values_of(held, bit):
     """The values of a held field: hertz, or one or two levels."""
     reading = panel.held_reading(bit, held[bit])
@@ -310,8 +315,8 @@ def summary(story):
             line += f"{pair[0]:>14} {pair[1]:>9}"
         said.append(line)
         held = stream["held"]
-        tuning = ", ".join(f"{VALUES[b][0]} {shown(held, b)} {VALUES[b][1]}" for b in VALUES if b in held)
-        said.append(f"       last tuning: {tuning or 'none'}")
+        tuning = [f"{VALUES[b][0]} {shown(held, b)} {VALUES[b][1]}" for b in VALUES if b in held]
+        said.append(f"       last tuning: {', '.join(tuning) or 'none'}")
         if story.unsure[place]:
             said.append(f"       tuning not to be trusted for {story.unsure[place]:,} data packets")
     contexts = story.missing((4,))
@@ -483,7 +488,8 @@ def check_labels(what, story, stream, group):
     wanted = [f"stream {stream}", identifier(story, stream), "no tuning"]
     if bands:
         _, low, centre, high = bands[-1]
-        wanted[2] = f"{centre:.10g} MHz" + (f", {high - low:.10g} wide" if high > low else "")
+        wanted[2] = f"{to_a_hertz(centre)} MHz"
+        wanted[2] += f", {to_a_hertz(high - low)} wide" if high > low else ""
     wanted.append(f"packets {seen:,}, retunings {retuned:,}")
     wanted.append(f"missing {lost:,}" + (f" (Context {contexts:,})" if contexts else ""))
     if texts[:5] != wanted:
