@@ -26,17 +26,19 @@ static const u32 small[] = {1u << 29 | 1 << 27 | 1 << 24 | 1 << 23 | 1 << 21 | 1
 static const u32 large[] = {1u << 29 | 1 << 27 | 1 << 23 | 1 << 21 | 1 << 20 | 1 << 19, 0x10001, 2, 0xfff20003, 4, 0x7fff0001, 0x01000007, 8, 0x00010009, 10, 0xff80ff80};
 // Formats of 12-bit items: link-efficient, and processing-efficient in fields of 16 bits.
 static const u32 link = 1u << 31 | 11 << 6 | 11, processing = 15 << 6 | 11;
-static u32 t[1 + RECORD * 32], ids[32], a[4];
+static _Alignas(64) u32 t[1 + RECORD * 32]; // the count of memset hangs on the place
+static u32 ids[32], a[4];
 static size_t place[3], length;
 static int64_t value;
+static u32 refused, answer;
 static u64 sum(u64 x, const u32 *w, size_t n) {
     for (size_t i = 0; i < n; i++)
         x = x * 31 + w[i];
     return x;
 }
-// A table of so many streams, of which each holds the six fields; 0, or what refused.
-static u32 table(size_t streams) {
-    u32 w[2 + sizeof small / sizeof *small], refused = 0;
+// A table of so many streams, of which each holds the six fields.
+static void table(size_t streams) {
+    u32 w[2 + sizeof small / sizeof *small];
     for (size_t s = 0; s < streams; s++)
         ids[s] = 0x1000 + s;
     refused |= CALL(start)(ids, streams, t, 1 + RECORD * streams, &length);
@@ -46,39 +48,47 @@ static u32 table(size_t streams) {
         w[1] = ids[s];
         refused |= CALL(play)(t, 1 + RECORD * streams, w, sizeof w / sizeof *w, a);
     }
-    return refused;
+}
+// The calls over words and numbers; size is items, or the bits of one.
+static void of_words(const char *call, const char *kind, size_t size, size_t times) {
+    int of_large = !strcmp(kind, "large");
+    const u32 *body = of_large ? large : small;
+    size_t n = of_large ? sizeof large / sizeof *large : sizeof small / sizeof *small;
+    u32 format = strcmp(kind, "link") ? processing : link;
+    if (!strcmp(call, "trailer_parts"))
+        REPEAT(refused, CALL(trailer_parts)(0x12345678 + i, a));
+    if (!strcmp(call, "trailer_word"))
+        REPEAT(refused, CALL(trailer_word)(0x123, 0x456, 1, i % 128, a));
+    if (!strcmp(call, "field_count"))
+        REPEAT(answer, CALL(field_count)(body[0]));
+    if (!strcmp(call, "check_body"))
+        REPEAT(refused, CALL(check_body)(body, n));
+    if (!strcmp(call, "find"))
+        REPEAT(refused, CALL(find)(body, n, of_large ? 19 : 18, place));
+    if (!strcmp(call, "words_needed"))
+        REPEAT(refused, CALL(words_needed)(format, 0, size, &length));
+    if (!strcmp(call, "signed"))
+        REPEAT(refused, CALL(signed)(size, (u64)1 << (size - 1), &value));
+}
+// The calls over a table.
+static void of_table(const char *call, size_t streams, size_t times) {
+    size_t tn = 1 + RECORD * streams;
+    if (!strcmp(call, "start"))
+        REPEAT(refused, CALL(start)(ids, streams, t, tn, &length));
+    if (!strcmp(call, "well_made"))
+        REPEAT(answer, CALL(well_made)(t, tn));
+    if (!strcmp(call, "page_length"))
+        REPEAT(refused, CALL(page_length)(t, tn, &length));
 }
 int main(int argc, char **argv) {
     // CALL KIND(small large, link processing) SIZE TIMES: SIZE is streams of a table, items, or bits of one
     if (argc != 5)
         return 2;
-    const char *call = argv[1];
-    int of_large = !strcmp(argv[2], "large");
-    const u32 *body = of_large ? large : small;
-    size_t n = of_large ? sizeof large / sizeof *large : sizeof small / sizeof *small, size = atol(argv[3]), times = atol(argv[4]);
-    u32 format = strcmp(argv[2], "link") ? processing : link, answer = 0, r = 0;
-    size_t streams = size >= 1 && size <= 32 ? size : 1, tn = 1 + RECORD * streams;
-    r |= table(streams);
-    if (!strcmp(call, "trailer_parts"))
-        REPEAT(r, CALL(trailer_parts)(0x12345678 + i, a));
-    if (!strcmp(call, "trailer_word"))
-        REPEAT(r, CALL(trailer_word)(0x123, 0x456, 1, i % 128, a));
-    if (!strcmp(call, "field_count"))
-        REPEAT(answer, CALL(field_count)(body[0]));
-    if (!strcmp(call, "check_body"))
-        REPEAT(r, CALL(check_body)(body, n));
-    if (!strcmp(call, "find"))
-        REPEAT(r, CALL(find)(body, n, of_large ? 19 : 18, place));
-    if (!strcmp(call, "words_needed"))
-        REPEAT(r, CALL(words_needed)(format, 0, size, &length));
-    if (!strcmp(call, "signed"))
-        REPEAT(r, CALL(signed)(size, (u64)1 << (size - 1), &value));
-    if (!strcmp(call, "start"))
-        REPEAT(r, CALL(start)(ids, streams, t, tn, &length));
-    if (!strcmp(call, "well_made"))
-        REPEAT(answer, CALL(well_made)(t, tn));
-    if (!strcmp(call, "page_length"))
-        REPEAT(r, CALL(page_length)(t, tn, &length));
-    printf("%u %u %016llx %zu %zu %zu %zu %lld\n", r, answer, (unsigned long long)sum(sum(0, t, tn), a, 4), place[0], place[1], place[2], length, (long long)value);
+    size_t size = atol(argv[3]), times = atol(argv[4]), streams = size <= 32 ? size : 1;
+    table(streams);
+    of_words(argv[1], argv[2], size, times);
+    of_table(argv[1], streams, times);
+    printf("%u %u %016llx %zu %zu %zu %zu %lld\n", refused, answer, (unsigned long long)sum(sum(0, t, 1 + RECORD * streams), a, 4), place[0], place[1],
+           place[2], length, (long long)value);
     return 0;
 }
