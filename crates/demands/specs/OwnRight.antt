@@ -1,4 +1,5 @@
--- A stream's own table: it is right for the list of the stream's identifier alone and the same packets, so that all that demand 3 says of a right table holds of it.
+-- A stream's own table: it is right for the list of the stream's identifier alone and the same packets, so that all that demand 3 says of a right table holds
+-- of it.
 use Rattle.words.specs.Kit.{_≡_, ℕ, List, [], _∷_}
 use Rattle.words.specs.Outcome.{accepted, Done}
 use Rattle.table.specs.Identifiers.{listed}
