@@ -398,7 +398,7 @@ def put_back(r):
 
 
 def edges(name):
-    """The edges of a call, the same each time; trailer_word, reading, readings and
-    held_words have theirs among the others."""
+    """The edges of a call, the same each time; trailer_word, reading, readings, held_words
+    and what a table says of a stream have theirs among the others."""
     make = globals().get(name.removeprefix("vrt49_"))
     return list(make(random.Random(f"edges {name}"))) if make else []

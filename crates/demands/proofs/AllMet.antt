@@ -20,6 +20,7 @@ use Rattle.demands.proofs.ShownAs.{shown-as}
 use Rattle.demands.proofs.RightLaws.{start-accepts, right-start, right-on, answers-on, past-on}
 use Rattle.demands.proofs.Resumed.{saves, resumes, no-room, days}
 use Rattle.demands.proofs.PanelShows.{shows}
+use Rattle.demands.proofs.OwnRight.{own-right}
 use Rattle.demands.proofs.RunLaws.{runs}
 use Rattle.demands.proofs.PastUnread.{past-unread}
 use Rattle.demands.proofs.Separate.{apart, refused-apart}
@@ -66,6 +67,7 @@ demand-3 = record {
   answers = λ ids t d e packets. answers-on ids [] packets (d .leaves) (right-start ids t d e);
   past = λ ids t d e packets. past-on ids packets (d .leaves) (right-start ids t d e .streams) ∙ start-well-made ids t d e .past;
   shows = shows;
+  own = own-right;
   runs = runs;
   unread = past-unread;
   saves = saves;

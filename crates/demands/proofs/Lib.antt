@@ -31,6 +31,8 @@ pub mod RightLaws
 pub mod Determined
 -- what is seen is what is held
 pub mod PanelShows
+-- a stream's own table is right
+pub mod OwnRight
 -- stopping and resuming, any number of times
 pub mod Resumed
 -- words past a table's layout

@@ -118,7 +118,8 @@ module _ (ids : List ℕ) (packets : List (List ℕ)) (t : List ℕ) (r : Right 
   pub counts-said : (kind : ℕ) → among kind countedTypes ≡ true → typeCountsOf t s kind ≡ accepted (countBy (countsOf kind (own s (traceOf ids packets))))
   unfolding typeCountsOf typeCountIn
   counts-said kind o =
-      none-given (streamNumberList t s) _ known ∙ rw o (ap accepted (ap countIn (r .counts s h kind o) ∙ count-by (countsOf kind (own s (traceOf ids packets)))))
+      none-given (streamNumberList t s) _ known
+      ∙ rw o (ap accepted (ap countIn (r .counts s h kind o) ∙ count-by (countsOf kind (own s (traceOf ids packets)))))
 
   pub identified : (d : Declared) × (identityOf t s ≡ accepted d) × (d .identifier ≡ listed ids s)
       × ((b : ℕ) → has (d .held) b ≡ someCarried b (own s (traceOf ids packets)))

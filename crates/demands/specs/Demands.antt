@@ -28,6 +28,7 @@ use Rattle.demands.specs.Program.{Program, Accepts, AreWords, playAll, s
 use Rattle.demands.specs.FieldFound.{FieldFound}
 use Rattle.demands.specs.Right.{Right, pastOf}
 use Rattle.demands.specs.PanelShows.{PanelShows}
+use Rattle.demands.specs.OwnRight.{OwnRight}
 use Rattle.demands.specs.Resumed.{Saves, Resumes, Stop, Day, DayRight}
 use Rattle.demands.specs.Recording.{Runs}
 use Rattle.demands.specs.PastUnread.{IsLayout, PastUnread}
@@ -109,6 +110,9 @@ pub record Demand3 (P : Program) : Type 0 where
       → pastOf ids (playAll P (d .leaves) packets) ≡ pastOf ids t
   -- what the panel and the caller see of a stream is that value, and these counts
   pub shows : (ids : List ℕ) (packets : List (List ℕ)) (t : List ℕ) → Right ids packets t → (s : ℕ) → s < length ids → PanelShows P ids packets t s
+  -- a stream's own table is right for its identifier alone and the same packets
+  pub own : (ids : List ℕ) (packets : List (List ℕ)) (t : List ℕ) → Right ids packets t → (s : ℕ) → s < length ids → (out : List ℕ) → base 1 ≤ length out
+      → OwnRight P ids packets t s out
   -- many packets in one slice of words are played as one by one
   pub runs : Runs P
   -- "A lent table may be longer than its layout: words past it are neither read nor changed": two tables with one layout get the same answers and layouts

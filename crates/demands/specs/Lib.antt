@@ -10,6 +10,8 @@ pub mod Trace
 pub mod Right
 -- what the panel and the caller see
 pub mod PanelShows
+-- a stream's own table
+pub mod OwnRight
 -- stopping and resuming, any number of times
 pub mod Resumed
 -- words past a table's layout

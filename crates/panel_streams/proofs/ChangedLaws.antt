@@ -1,6 +1,6 @@
--- Fields that are not the same in two records. The idea: a word marked bit by bit has the bits whose tests hold (`marked-has`), so a loop that marks one bit more
--- goes from `marked k` to `marked (k + 1)`; and the held words of a field are parts of the two records at one place, of the same words where they are as many
--- and none of them differs.
+-- Fields that are not the same in two records. The idea: a word marked bit by bit has the bits whose tests hold (`marked-has`), so a loop that marks one bit
+-- more goes from `marked k` to `marked (k + 1)`; and the held words of a field are parts of the two records at one place, of the same words where they are as
+-- many and none of them differs.
 use Rattle.words.proofs.Kit.{_≡_, refl, sym, ap, ap₂, _∙_, Bool, true, false, not, ⊎-elim, List, ℕ, zero, suc, _+_, _-_, _*_, _/_, _%_, _^_, _≤_, _<_, arith}
 use Rattle.words.proofs.Kit.{eq-eqb, ne-eqb, eqb-true, le-leb, lt-leb, not-true, not-false, eqb, leb, length, take, drop, getD}
 use borrow.Author.Tests.{leb-false}
@@ -97,7 +97,9 @@ module _ (r q : List ℕ) where
   changed-set b h e =
       let d : differs r q b ≡ true = sym (changed-bit b h) ∙ e in (
         both-left (holds b) _ d,
-        λ f. true-is-false (sym (both-right (holds b) _ d) ∙ ap (λ (ws : List ℕ). not (sameWords ws (heldWordsIn b q))) f ∙ ap not (words-same (heldWordsIn b q))),
+        λ f.
+            true-is-false
+            (sym (both-right (holds b) _ d) ∙ ap (λ (ws : List ℕ). not (sameWords ws (heldWordsIn b q))) f ∙ ap not (words-same (heldWordsIn b q))),
       )
 
   pub changed-not : (b : ℕ) → b < 31 → holds b ≡ true → has (changedIn r q) b ≡ false → heldWordsIn b r ≡ heldWordsIn b q

@@ -42,7 +42,8 @@ module _ (r x : List ℕ) (l : length r ≡ recordWords) where
       })
 
 -- ---- of a stream of a well-made table
-stream-known : {A : Type 0} (t : List ℕ) (s : ℕ) → wellMade t ≡ true → s < streamsOf t → (answer : Outcome A) → firstGiven (streamNumberList t s) answer ≡ answer
+stream-known : {A : Type 0} (t : List ℕ) (s : ℕ) → wellMade t ≡ true → s < streamsOf t → (answer : Outcome A)
+    → firstGiven (streamNumberList t s) answer ≡ answer
 stream-known t s w h answer = rw (w, lt-leb (streamsOf t) s h)
 
 module _ (t x : List ℕ) (s : ℕ) (w : wellMade t ≡ true) (h : s < streamsOf t) where
@@ -54,7 +55,8 @@ module _ (t x : List ℕ) (s : ℕ) (w : wellMade t ≡ true) (h : s < streamsOf
 
   -- whatever is asked of a stream's record is answered alike
   pub own-says : {A : Type 0} (f : List ℕ → Outcome A)
-      → let own = ownLayout (recordAt s t) ++ x in firstGiven (streamNumberList own 0) (f (recordAt 0 own)) ≡ firstGiven (streamNumberList t s) (f (recordAt s t))
+      → let own = ownLayout (recordAt s t) ++ x in
+      firstGiven (streamNumberList own 0) (f (recordAt 0 own)) ≡ firstGiven (streamNumberList t s) (f (recordAt s t))
   own-says f =
       stream-known (ownLayout (recordAt s t) ++ x) 0 own-well (omega (arith, own-streams (recordAt s t) x long)) _
       ∙ ap f (own-record (recordAt s t) x long) ∙ sym (stream-known t s w h _)

@@ -1,5 +1,5 @@
--- Which held fields are not the same in two records, such as those of a stream before a packet and after it: TABLE where either table is not well made, STREAM where
--- either number is not in its table.
+-- Which held fields are not the same in two records, such as those of a stream before a packet and after it: TABLE where either table is not well made, STREAM
+-- where either number is not in its table.
 use Rattle.words.specs.Kit.{ℕ, zero, suc, _+_, _^_, Bool, not, List, [], _∷_, leb}
 use Rattle.words.specs.Numbers.{TABLE, STREAM}
 use Rattle.words.specs.Tests.{when, both, either, sameWords}

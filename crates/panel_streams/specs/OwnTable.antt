@@ -1,5 +1,5 @@
--- The record of a stream as a table of its own: TABLE, STREAM, ROOM. Document 01: "A refusal returns its number alone and writes nothing"; "Only words needed by
--- an accepted answer change."
+-- The record of a stream as a table of its own: TABLE, STREAM, ROOM. Document 01: "A refusal returns its number alone and writes nothing"; "Only words
+-- needed by an accepted answer change."
 use Rattle.words.specs.Kit.{ℕ, List, [], _∷_, _++_, ltb, length, drop}
 use Rattle.words.specs.Numbers.{ROOM}
 use Rattle.words.specs.Outcome.{Outcome, accepted, Done}

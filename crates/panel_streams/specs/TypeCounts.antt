@@ -1,5 +1,5 @@
--- What a stream counted of a type: TABLE, STREAM, and VALUE for a type that is not counted. Document 01: "Types 1, 3, 4 and 5 are counted apart within a stream.
--- Each has seen and missing, both kept modulo 2^32, and the last count."
+-- What a stream counted of a type: TABLE, STREAM, and VALUE for a type that is not counted. Document 01: "Types 1, 3, 4 and 5 are counted apart within a
+-- stream. Each has seen and missing, both kept modulo 2^32, and the last count."
 use Rattle.words.specs.Kit.{ℕ, _-_, List, not, eqb, [], _∷_, _++_}
 use Rattle.words.specs.Numbers.{VALUE}
 use Rattle.words.specs.Tests.{pick, among}

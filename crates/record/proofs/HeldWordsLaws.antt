@@ -1,5 +1,5 @@
--- The words that a record holds for a field. The idea: they are a part of the record, its slot, and also those of an absent field are, which are none. Here b is
--- the field's bit, at where its slot begins among the slots, z its size, h whether it is held, and n how many words are.
+-- The words that a record holds for a field. The idea: they are a part of the record, its slot, and also those of an absent field are, which are none. Here b
+-- is the field's bit, at where its slot begins among the slots, z its size, h whether it is held, and n how many words are.
 use Rattle.words.proofs.Kit.{_≡_, refl, sym, ap, _∙_, Bool, true, false, List, [], ℕ, _+_, _≤_, arith, length}
 use Rattle.words.specs.Tests.{pick, when}
 use Rattle.words.specs.Part.{part}
