@@ -1,11 +1,13 @@
--- What the panel and the caller see is what is held: `reading` and `held_words` answer by the value in the last accepted Context packet of the stream that
--- carried the field, "and nothing if none did"; and the counts stand in the table's words.
+-- What the panel and the caller see is what is held: `reading`, `readings` and `held_words` answer by the value in the last accepted Context packet of the
+-- stream that carried the field, "and nothing if none did"; and the counts stand in the table's words.
 use Rattle.words.specs.Kit.{_≡_, ℕ, _+_, _≤_, _<_, true, List, [], _++_, length, drop}
+use mathlib.Core.List.{map}
 use mathlib.Core.Option.{Option, none, some}
 use Rattle.words.specs.Numbers.{ROOM}
 use Rattle.words.specs.Tests.{among}
 use Rattle.words.specs.Part.{part}
 use Rattle.words.specs.Outcome.{refused, accepted}
+use Rattle.record.specs.Held.{heldBits}
 use Rattle.record.specs.Layout.{orderOf, countAt}
 use Rattle.table.specs.Layout.{base}
 use Rattle.panel.specs.Readings.{Reading, absent, shownOf}
@@ -25,6 +27,8 @@ wordsBy (some v) = v
 -- of stream s, in a table t that is right for the packets
 pub record PanelShows (P : Program) (ids : List ℕ) (packets : List (List ℕ)) (t : List ℕ) (s : ℕ) : Type 0 where
   pub reading : (b : ℕ) → kept b ≡ true → P .reading t s b ≡ accepted (shownBy b (lastCarried b (own s (traceOf ids packets))))
+  -- all of them, from bit 30 down to bit 10
+  pub readings : P .readings t s ≡ accepted (map (λ b. shownBy b (lastCarried b (own s (traceOf ids packets)))) heldBits)
   -- the words, where they fit; and ROOM
   pub heldWords : (b : ℕ) → kept b ≡ true → (out : List ℕ)
       → let ws = wordsBy (lastCarried b (own s (traceOf ids packets))) in

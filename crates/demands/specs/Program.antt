@@ -17,6 +17,7 @@ use Rattle.play.specs.Play.{playOf}
 use Rattle.play.specs.Run.{runOf}
 use Rattle.page.specs.Save.{lengthOf, saveOf}
 use Rattle.page.specs.PutBack.{putBackOf}
+use Rattle.panel.specs.AllReadings.{readingsOf}
 use Rattle.panel.specs.HeldWords.{heldWordsOf}
 use Rattle.panel.specs.Readings.{Reading, readingOf}
 
@@ -36,6 +37,7 @@ pub record Program : Type 0 where
   pub save : (table page : List ℕ) → Outcome (Done ℕ (List ℕ))
   pub putBack : (page table : List ℕ) → Outcome (Done ℕ (List ℕ))
   pub reading : (table : List ℕ) (stream bit : ℕ) → Outcome Reading
+  pub readings : (table : List ℕ) (stream : ℕ) → Outcome (List Reading)
   pub heldWords : (table : List ℕ) (stream bit : ℕ) (out : List ℕ) → Outcome (Done ℕ (List ℕ))
 
 -- this project's, by the definitions that the promises cite
@@ -54,6 +56,7 @@ ours = record {
   save = saveOf;
   putBack = putBackOf;
   reading = readingOf;
+  readings = readingsOf;
   heldWords = heldWordsOf;
 }
 

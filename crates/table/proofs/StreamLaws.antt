@@ -1,5 +1,5 @@
--- A stream's number: what is refused of it, and what is known where nothing is. The idea: each test of the program is a line of the list; where none applies the
--- table is well made and has the stream's record.
+-- A stream's number: what is refused of it, and what is known where nothing is. The idea: each test of the program is a line of the list; where none applies
+-- the table is well made and has the stream's record.
 use Rattle.words.proofs.Kit.{_≡_, sym, ap, _∙_, Bool, true, false, not, List, ℕ, _≤_, _<_, arith, le-leb, lt-leb, not-true, not-false}
 use borrow.Author.Tests.{leb-false}
 use Rattle.words.specs.Numbers.{TABLE, STREAM}

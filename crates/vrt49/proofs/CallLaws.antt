@@ -60,7 +60,8 @@ abbrev _and_ : {A B : Type 0} → A → B → A × B
 a and b = (a, b)
 
 listed : EachForC Listed callsForC
-unfolding readBy writeWordsOf trailerWordOf contextOf unpackOf packOf neededOf signedOf startOf playOf runOf lengthOf saveOf putBackOf readingOf readingsOf heldWordsOf
+unfolding readBy writeWordsOf trailerWordOf contextOf unpackOf packOf neededOf signedOf startOf playOf runOf lengthOf saveOf putBackOf readingOf readingsOf
+    heldWordsOf
 listed =
     (λ h. ((_, refl), refl, search needs))
     and (λ h. ((_, refl), refl, search needs))
