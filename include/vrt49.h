@@ -13,7 +13,7 @@
    entries. Values come back through pointers: to one number, such as `length`, or to a struct.
 
    Calls are reentrant: nothing is kept between them, nothing is shared, and nothing is allocated.
-   The stack that a call takes is fixed: 552 bytes for vrt49_put_back, and less than 400 for every
+   The stack that a call takes is fixed: 1240 bytes for vrt49_readings, and less than 600 for every
    other (`make stack`). memcpy, memmove and memset are all that is asked of the C library.
 
    What a call costs in S, the number of streams: vrt49_play, vrt49_well_made, vrt49_page_length,

@@ -591,7 +591,7 @@ def readings(r):
     stream, _ = some_place(r, lent)
     columns = [noisy(r, 21, code) for code in "IIQII"]
     args = [given(lent), stream, *columns]
-    said = [panel.reading(lent, stream, bit) for bit in range(30, 9, -1)]
+    said = panel.readings(lent, stream)
     if said[0][0] == "refused":
         return refused(args, said[0][1])
     rows = map(reading_numbers, said)

@@ -1,6 +1,7 @@
 -- For every input some outcome meets each promise. The idea: whatever is wanted of a call, its answers can say (`Says`), since every number of a refusal and
 -- every value has an answer that reads so on paper; the lent words are then those that the promise gives.
-use Rattle.words.proofs.Kit.{_≡_, refl, Bool, true, false, List, [], _∷_, ℕ, _+_, ltb, leb, length, drop}
+use Rattle.words.proofs.Kit.{_≡_, refl, ap₂, Bool, true, false, List, [], _∷_, ℕ, _+_, ltb, leb, length, drop}
+use mathlib.Core.List.{map}
 use lib.IntN.{ℤ}
 use Rattle.words.specs.declared.Check.the-variants as check
 use Rattle.words.specs.declared.Length.the-variants as lengths
@@ -79,6 +80,13 @@ says-reading (accepted (temperature x)) = (dial.Temperature x, refl)
 says-reading (accepted other) = (dial.Other, refl)
 says-reading (accepted absent) = (dial.Absent, refl)
 
+says-readings : (os : List (Outcome Reading)) → Says (map readingPaper) os
+says-readings [] = ([], refl)
+says-readings (o ∷ os) =
+    let a = says-reading o in
+    let rest = says-readings os in
+    (a .0 ∷ rest .0, ap₂ _∷_ (a .1) (rest .1))
+
 says-identity : (o : Outcome Declared) → Says identityPaper o
 says-identity (refused n) = (named.Refused n, refl)
 says-identity (accepted d) = (named.Declared (d .identifier) (d .held), refl)
@@ -134,6 +142,7 @@ some-outcome =
     and lent-says _ _ _ says-measured
     and lent-says _ _ _ says-measured
     and (λ h. says-reading _)
+    and (λ h. says-readings _)
     and lent-says _ _ _ says-measured
     and (λ h. says-identity _)
     and (λ h. says-counts _)

@@ -13,6 +13,7 @@ use Rattle.play.specs.Play.{playOf}
 use Rattle.play.specs.Run.{runOf}
 use Rattle.page.specs.Save.{lengthOf, saveOf}
 use Rattle.page.specs.PutBack.{putBackOf}
+use Rattle.panel.specs.AllReadings.{readingsOf}
 use Rattle.panel.specs.HeldWords.{heldWordsOf}
 use Rattle.panel.specs.Readings.{readingOf}
 use Rattle.panel_streams.specs.Identity.{identityOf}
@@ -22,8 +23,8 @@ use Rattle.panel_streams.specs.Changed.{changedOf}
 use Rattle.demands.specs.Refusals.{InOrder}
 
 pub in-order : InOrder
-unfolding readBy writeOf startOf playOf saveOf putBackOf readingOf packOf unpackOf signedOf contextOf neededOf trailerWordOf runOf lengthOf heldWordsOf
-    identityOf typeCountsOf ownTableOf changedOf
+unfolding readBy writeOf startOf playOf saveOf putBackOf readingOf packOf unpackOf signedOf contextOf neededOf trailerWordOf runOf lengthOf readingsOf
+    heldWordsOf identityOf typeCountsOf ownTableOf changedOf
 in-order = record {
   read = λ ws. record { order = refl; first = refl };
   write = λ p body out at. record { order = refl; first = refl };
@@ -40,6 +41,7 @@ in-order = record {
   trailerWord = λ enables indicators e associated. record { order = refl; first = refl };
   playRun = λ t ws from out. record { order = refl; first = refl };
   pageLengthOf = λ t. record { order = refl; first = refl };
+  readings = λ t stream. record { order = refl; first = refl };
   heldWords = λ t stream bit out. record { order = refl; first = refl };
   identity = λ t stream. record { order = refl; first = refl };
   counts = λ t stream kind. record { order = refl; first = refl };

@@ -8,7 +8,7 @@ use Rattle.packet_trailer.proofs.Uniqueness.{trailer-parts-once, trailer-word-o
 use Rattle.packet.proofs.Uniqueness.{read-once}
 use Rattle.payload_format.proofs.Uniqueness.{signed-once}
 use Rattle.play.proofs.Uniqueness.{play-once, play-run-once}
-use Rattle.panel.proofs.Uniqueness.{reading-once}
+use Rattle.panel.proofs.Uniqueness.{reading-once, readings-once}
 use Rattle.panel_streams.proofs.Uniqueness.{identity-once, counts-once, changed-once}
 use Rattle.demands.specs.Calls.{Call, answers, lends, OneOutcome, RefusalLeaves, Each, calls}
 use Rattle.demands.proofs.Listing.{_and_}
@@ -37,6 +37,7 @@ one-outcome =
     and (λ h r s after after′. lent-once)
     and (λ h r s after after′. lent-once)
     and (λ h. reading-once (h .0) (h .1) (h .2))
+    and (λ h. readings-once (h .0) (h .1))
     and (λ h r s after after′. lent-once)
     and (λ h. identity-once (h .0) (h .1))
     and (λ h. counts-once (h .0) (h .1) (h .2))

@@ -2,6 +2,7 @@
 -- as words, is by what it holds (`shows-held`, `words-held`), which the rules fix; so are its held indicator (`some-carried`) and its counts (`count-by`).
 use Rattle.words.proofs.Kit.{_≡_, refl, sym, ap, _∙_, Bool, true, false, List, [], _∷_, _++_, ℕ, _+_, _-_, _≤_, _<_, arith, ne-eqb, lt-ltb}
 use Rattle.words.proofs.Kit.{le-ltb, lt-leb, leb, length, drop}
+use mathlib.Core.List.{map}
 use mathlib.Core.Option.{Option, some, none}
 use borrow.Author.Tests.{leb-true}
 use Rattle.words.specs.Numbers.{ROOM}
@@ -13,14 +14,17 @@ use Rattle.words.proofs.Cases.{both-left, both-right}
 use Rattle.words.proofs.RefusalLaws.{None, none-given}
 use Rattle.words.proofs.PartLaws.{part-part}
 use Rattle.fields.specs.Layout.{fieldOf}
+use Rattle.record.specs.Held.{heldBits}
 use Rattle.record.specs.Layout.{recordWords, heldOf, countedTypes, orderOf, countAt, countWords, slotOf, isHeld, heldWordsIn}
 use Rattle.record.proofs.PacketLaws.{order-small}
 use Rattle.table.specs.Layout.{base, recordAt}
 use Rattle.table.specs.Identifiers.{listed}
 use Rattle.table.specs.Stream.{streamNumberList}
 use Rattle.table.proofs.RecordLaws.{record-identifier}
+use Rattle.panel.specs.AllReadings.{recordReadings, readingsOf}
 use Rattle.panel.specs.HeldWords.{heldWordsOf}
 use Rattle.panel.specs.Readings.{absent, shownOf, recordShows, readingList, readingOf}
+use Rattle.panel.proofs.AllReadingLaws.{map-both}
 use Rattle.panel_streams.specs.Identity.{Declared, declaredIn, identityOf}
 use Rattle.panel_streams.specs.TypeCounts.{countIn, typeCountIn, typeCountsOf}
 use Rattle.demands.specs.Trace.{Arrival, traceOf, own, kept, carries, valueCarried, orElse, lastCarried, countsOf, lastCount, countRule}
@@ -82,16 +86,26 @@ count-by (c ∷ later) =
 -- ---- a right table
 
 module _ (ids : List ℕ) (packets : List (List ℕ)) (t : List ℕ) (r : Right ids packets t) (s : ℕ) (h : s < length ids) where
+  numbered : None (streamNumberList t s)
+  numbered = (rw (r .made)) and (rw (r .streams, lt-leb (length ids) s h)) and tt
+
   asked : (b : ℕ) → kept b ≡ true → None (readingList t s b)
   asked b k =
       let low : 10 ≤ b = leb-true 10 b (both-left (leb 10 b) (leb b 30) k) in
       let high : b ≤ 30 = leb-true b 30 (both-right (leb 10 b) (leb b 30) k) in
-      (rw (r .made)) and (rw (r .streams, lt-leb (length ids) s h)) and (rw (le-ltb b 10 low, le-ltb 30 b high)) and tt
+      numbered .0 and numbered .1 .0 and (rw (le-ltb b 10 low, le-ltb 30 b high)) and tt
+
+  shows-last : (b : ℕ) → recordShows b (recordAt s t) ≡ shownBy b (lastCarried b (own s (traceOf ids packets)))
+  shows-last b = shows-held b (recordAt s t) ∙ ap (shownBy b) (r .held s h b)
 
   pub shown : (b : ℕ) → kept b ≡ true → readingOf t s b ≡ accepted (shownBy b (lastCarried b (own s (traceOf ids packets))))
   unfolding readingOf
   shown b k =
-      none-given (readingList t s b) _ (asked b k) ∙ ap accepted (shows-held b (recordAt s t) ∙ ap (shownBy b) (r .held s h b))
+      none-given (readingList t s b) _ (asked b k) ∙ ap accepted (shows-last b)
+
+  pub all-shown : readingsOf t s ≡ accepted (map (λ b. shownBy b (lastCarried b (own s (traceOf ids packets)))) heldBits)
+  unfolding readingsOf recordReadings
+  all-shown = none-given (streamNumberList t s) _ numbered ∙ ap accepted (map-both _ _ heldBits heldBits 0 0 refl (λ i l. shows-last _))
 
   module _ (b : ℕ) (k : kept b ≡ true) (out : List ℕ) where
     words-are : heldWordsIn b (recordAt s t) ≡ wordsBy (lastCarried b (own s (traceOf ids packets)))
@@ -136,6 +150,7 @@ module _ (ids : List ℕ) (packets : List (List ℕ)) (t : List ℕ) (r : Right 
   pub shows : PanelShows ours ids packets t s
   shows = record {
     reading = shown;
+    readings = all-shown;
     heldWords = held-words-last;
     no-room = held-words-room;
     counts = counts-stand;

@@ -35,6 +35,7 @@ use Rattle.play.proofs.KeepLaws.{play-keeps}
 use Rattle.page.specs.Layout.{savedBody, pageOf, pageLength}
 use Rattle.page.specs.Save.{lengthOf, saveOf}
 use Rattle.page.proofs.LayoutLaws.{page-same, page-length}
+use Rattle.panel.specs.AllReadings.{recordReadings, readingsOf}
 use Rattle.panel.specs.HeldWords.{copyList, heldWordsOf}
 use Rattle.panel.specs.Readings.{recordShows, readingList, readingOf}
 use Rattle.panel_streams.specs.Identity.{declaredIn, identityOf}
@@ -146,6 +147,12 @@ module _ (l x : List ℕ) (e : IsLayout l) where
   reading-alone stream bit =
       rw (well-alone, streams-alone)
       (first-same (readingList l stream bit) _ _ (λ k. ap (λ (r : List ℕ). accepted (recordShows bit r)) (shows-alone stream (k .1 .0))))
+
+  readings-alone : (stream : ℕ) → readingsOf (l ++ x) stream ≡ readingsOf l stream
+  unfolding readingsOf
+  readings-alone stream =
+      rw (well-alone, streams-alone)
+      (first-same (streamNumberList l stream) _ _ (λ k. ap (λ (r : List ℕ). accepted (recordReadings r)) (shows-alone stream (k .1 .0))))
 
   held-alone : (stream bit : ℕ) (out : List ℕ) → heldWordsOf (l ++ x) stream bit out ≡ heldWordsOf l stream bit out
   unfolding heldWordsOf
@@ -266,6 +273,7 @@ past-unread l x e = record {
   pageLength = rw (well-alone l x e, length-alone l x e);
   save = λ page. rw (well-alone l x e, length-alone l x e, page-alone l x e);
   reading = reading-alone l x e;
+  readings = readings-alone l x e;
   heldWords = held-alone l x e;
   identity = identity-alone l x e;
   counts = counts-alone l x e;

@@ -39,6 +39,8 @@ use Rattle.page.proofs.put_back.Statement as put_back
 use Rattle.page.proofs.put_back.Met as put_back-met
 use Rattle.panel.proofs.reading.Statement as reading
 use Rattle.panel.proofs.reading.Met as reading-met
+use Rattle.panel.proofs.readings.Statement as readings
+use Rattle.panel.proofs.readings.Met as readings-met
 use Rattle.panel.proofs.held_words.Statement as held_words
 use Rattle.panel.proofs.held_words.Met as held_words-met
 use Rattle.panel_streams.proofs.identity.Statement as identity
@@ -72,6 +74,7 @@ sources = record {
   save = (λ κs a. tt, λ κs a z ws. refl);
   putBack = (λ κs a. tt, λ κs a z ws. refl);
   reading = (λ κs a. tt, λ κs a z ws. refl);
+  readings = (λ κs a. tt, λ κs a z ws. refl);
   heldWords = (λ κs a. tt, λ κs a z ws. refl);
   identity = (λ κs a. tt, λ κs a z ws. refl);
   counts = (λ κs a. tt, λ κs a z ws. refl);
@@ -137,6 +140,9 @@ put-back-kept = put_back-met.met
 
 pub reading-kept : {M : Type 1} → reading.statement M
 reading-kept = reading-met.met
+
+pub readings-kept : {M : Type 1} → readings.statement M
+readings-kept = readings-met.met
 
 pub held-words-kept : {M : Type 1} → held_words.statement M
 held-words-kept = held_words-met.met

@@ -39,6 +39,8 @@ use Rattle.vrt49.proofs.vrt49_put_back.Statement as put_back
 use Rattle.vrt49.proofs.vrt49_put_back.Met as put_back-met
 use Rattle.vrt49.proofs.vrt49_reading.Statement as reading
 use Rattle.vrt49.proofs.vrt49_reading.Met as reading-met
+use Rattle.vrt49.proofs.vrt49_readings.Statement as readings
+use Rattle.vrt49.proofs.vrt49_readings.Met as readings-met
 use Rattle.vrt49.proofs.vrt49_held_words.Statement as held_words
 use Rattle.vrt49.proofs.vrt49_held_words.Met as held_words-met
 use Rattle.vrt49.proofs.vrt49_identity.Statement as identity
@@ -72,6 +74,7 @@ sources-for-c = record {
   save = (λ κs a. tt, λ κs a z ws. refl);
   putBack = (λ κs a. tt, λ κs a z ws. refl);
   reading = (λ κs a. tt, λ κs a z ws. refl);
+  readings = (λ κs a. tt, λ κs a z ws. refl);
   heldWords = (λ κs a. tt, λ κs a z ws. refl);
   identity = (λ κs a. tt, λ κs a z ws. refl);
   counts = (λ κs a. tt, λ κs a z ws. refl);
@@ -137,6 +140,9 @@ for-c-put-back-kept = put_back-met.met
 
 pub for-c-reading-kept : {M : Type 1} → reading.statement M
 for-c-reading-kept = reading-met.met
+
+pub for-c-readings-kept : {M : Type 1} → readings.statement M
+for-c-readings-kept = readings-met.met
 
 pub for-c-held-words-kept : {M : Type 1} → held_words.statement M
 for-c-held-words-kept = held_words-met.met

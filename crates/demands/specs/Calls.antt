@@ -2,6 +2,7 @@
 -- and that of a call that is lent words is `Meets paper (want h) (lent h) r after`, of what it is handed, h, its answer r, and the lent words afterwards; these
 -- are the `ensures` of the calls, word for word.
 use Rattle.words.specs.Kit.{_≡_, ℕ, List, [], _∷_}
+use mathlib.Core.List.{map}
 use Rattle.words.specs.Outcome.{Outcome, refused, checked, measured, Done, Meets}
 use Rattle.fields.specs.Answers.{foundPaper}
 use Rattle.fields.specs.Layout.{fieldCount, foundOf, contextOf}
@@ -20,6 +21,7 @@ use Rattle.play.specs.Play as Play
 use Rattle.play.specs.Run.{runOf, runPaper}
 use Rattle.page.specs.PutBack.{putBackOf}
 use Rattle.page.specs.Save.{lengthOf, saveOf}
+use Rattle.panel.specs.AllReadings.{readingsOf, inEach}
 use Rattle.panel.specs.HeldWords.{heldWordsOf}
 use Rattle.panel.specs.Readings.{readingOf, readingPaper}
 use Rattle.panel_streams.specs.Identity.{identityOf, identityPaper}
@@ -117,9 +119,12 @@ saveCall = lends measured (λ (h : List ℕ × List ℕ). saveOf (h .0) (h .1)) 
 abbrev pub putBackCall : Call
 putBackCall = lends measured (λ (h : List ℕ × List ℕ). putBackOf (h .0) (h .1)) (λ h. h .1)
 
--- panel::reading, held_words
+-- panel::reading, readings, held_words
 abbrev pub readingCall : Call
 readingCall = answers readingPaper (λ (h : List ℕ × ℕ × ℕ). readingOf (h .0) (h .1) (h .2))
+
+abbrev pub readingsCall : Call
+readingsCall = answers (map readingPaper) (λ (h : List ℕ × ℕ). inEach (readingsOf (h .0) (h .1)))
 
 abbrev pub heldWordsCall : Call
 heldWordsCall = lends measured (λ (h : List ℕ × ℕ × ℕ × List ℕ). heldWordsOf (h .0) (h .1) (h .2) (h .3)) (λ h. h .3)
@@ -143,5 +148,5 @@ calls =
     ∷ readCall ∷ writeCall ∷ trailerPartsCall ∷ trailerWordCall
     ∷ wordsNeededCall ∷ unpackCall ∷ packCall ∷ signedCall
     ∷ startCall ∷ wellMadeCall ∷ playCall ∷ playRunCall
-    ∷ pageLengthCall ∷ saveCall ∷ putBackCall ∷ readingCall ∷ heldWordsCall
+    ∷ pageLengthCall ∷ saveCall ∷ putBackCall ∷ readingCall ∷ readingsCall ∷ heldWordsCall
     ∷ identityCall ∷ countsCall ∷ ownTableCall ∷ changedCall ∷ []

@@ -1,12 +1,14 @@
--- What the panel and the caller see is what is held: `reading` and `held_words` answer by the value in the last accepted Context packet of the stream that
--- carried the field, "and nothing if none did"; `counts` by its own accepted packets; `identity` by the list and by which fields were carried.
+-- What the panel and the caller see is what is held: `reading`, `readings` and `held_words` answer by the value in the last accepted Context packet of the
+-- stream that carried the field, "and nothing if none did"; `counts` by its own accepted packets; `identity` by the list and by which fields were carried.
 use Rattle.words.specs.Kit.{_≡_, ℕ, _+_, _%_, _^_, _≤_, _<_, Bool, true, false, List, [], _∷_, _++_, length, drop}
+use mathlib.Core.List.{map}
 use mathlib.Core.Option.{Option, none, some}
 use Rattle.words.specs.Numbers.{ROOM}
 use Rattle.words.specs.Tests.{among, either}
 use Rattle.words.specs.Word.{has}
 use Rattle.words.specs.Part.{part}
 use Rattle.words.specs.Outcome.{refused, accepted}
+use Rattle.record.specs.Held.{heldBits}
 use Rattle.record.specs.Layout.{countedTypes, orderOf, countAt}
 use Rattle.table.specs.Layout.{base}
 use Rattle.table.specs.Identifiers.{listed}
@@ -39,6 +41,8 @@ countBy (c ∷ later) = started (length (c ∷ later) % 2 ^ 32) (missed (c ∷ l
 -- of stream s, in a table t that is right for the packets
 pub record PanelShows (P : Program) (ids : List ℕ) (packets : List (List ℕ)) (t : List ℕ) (s : ℕ) : Type 0 where
   pub reading : (b : ℕ) → kept b ≡ true → P .reading t s b ≡ accepted (shownBy b (lastCarried b (own s (traceOf ids packets))))
+  -- all of them, from bit 30 down to bit 10
+  pub readings : P .readings t s ≡ accepted (map (λ b. shownBy b (lastCarried b (own s (traceOf ids packets)))) heldBits)
   -- the words, where they fit; and ROOM
   pub heldWords : (b : ℕ) → kept b ≡ true → (out : List ℕ)
       → let ws = wordsBy (lastCarried b (own s (traceOf ids packets))) in

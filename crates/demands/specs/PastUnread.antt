@@ -26,6 +26,7 @@ pub record PastUnread (P : Program) (l x : List ℕ) : Type 0 where
   pub pageLength : P .pageLength (l ++ x) ≡ P .pageLength l
   pub save : (page : List ℕ) → P .save (l ++ x) page ≡ P .save l page
   pub reading : (stream bit : ℕ) → P .reading (l ++ x) stream bit ≡ P .reading l stream bit
+  pub readings : (stream : ℕ) → P .readings (l ++ x) stream ≡ P .readings l stream
   pub heldWords : (stream bit : ℕ) (out : List ℕ) → P .heldWords (l ++ x) stream bit out ≡ P .heldWords l stream bit out
   pub identity : (stream : ℕ) → P .identity (l ++ x) stream ≡ P .identity l stream
   pub counts : (stream kind : ℕ) → P .counts (l ++ x) stream kind ≡ P .counts l stream kind

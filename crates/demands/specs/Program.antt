@@ -17,6 +17,7 @@ use Rattle.play.specs.Play.{playOf}
 use Rattle.play.specs.Run.{runOf}
 use Rattle.page.specs.Save.{lengthOf, saveOf}
 use Rattle.page.specs.PutBack.{putBackOf}
+use Rattle.panel.specs.AllReadings.{readingsOf}
 use Rattle.panel.specs.HeldWords.{heldWordsOf}
 use Rattle.panel.specs.Readings.{Reading, readingOf}
 use Rattle.panel_streams.specs.Identity.{Declared, identityOf}
@@ -40,6 +41,7 @@ pub record Program : Type 0 where
   pub save : (table page : List ℕ) → Outcome (Done ℕ (List ℕ))
   pub putBack : (page table : List ℕ) → Outcome (Done ℕ (List ℕ))
   pub reading : (table : List ℕ) (stream bit : ℕ) → Outcome Reading
+  pub readings : (table : List ℕ) (stream : ℕ) → Outcome (List Reading)
   pub heldWords : (table : List ℕ) (stream bit : ℕ) (out : List ℕ) → Outcome (Done ℕ (List ℕ))
   pub identity : (table : List ℕ) (stream : ℕ) → Outcome Declared
   pub counts : (table : List ℕ) (stream kind : ℕ) → Outcome Count
@@ -62,6 +64,7 @@ ours = record {
   save = saveOf;
   putBack = putBackOf;
   reading = readingOf;
+  readings = readingsOf;
   heldWords = heldWordsOf;
   identity = identityOf;
   counts = typeCountsOf;

@@ -28,6 +28,7 @@ use Rattle.play.specs.Run.{wholeWalk, reachedOf, answersOf, runOf}
 use Rattle.page.specs.Layout.{pageOf, pageLength, bodiesIn, tableOf}
 use Rattle.page.specs.Save.{lengthList, saveList, lengthOf, saveOf}
 use Rattle.page.specs.PutBack.{putBackList, putBackOf}
+use Rattle.panel.specs.AllReadings.{recordReadings, readingsOf}
 use Rattle.panel.specs.HeldWords.{heldWordsList, heldWordsOf}
 use Rattle.panel.specs.Readings.{recordShows, readingList, readingOf}
 use Rattle.panel_streams.specs.Identity.{declaredIn, identityOf}
@@ -73,7 +74,7 @@ pub record InOrder : Type 0 where
       (unpackList first second n (length ws) (length (b .items)) (length (b .events)) (length (b .channels)))
       (record { says = n; leaves = unpacked (packingOf first) n ws b })
   pub signed : (w x : ℕ) → Ordered (signedOf w x) (FORMAT ∷ VALUE ∷ []) (signedList w x) (twosComplement w x)
-  -- those of a type 4 body alone, the words needed, a trailer word, a run, a page's length and held words: each as the call that it belongs to
+  -- those of a type 4 body alone, the words needed, a trailer word, a run, a page's length, all readings and held words: each as the call that it belongs to
   pub checkBody : (body : List ℕ) → Ordered (contextOf body) (INDICATOR ∷ LAYOUT ∷ FIELD ∷ []) (contextList body) tt
   pub wordsNeeded : (first second n : ℕ) → Ordered (neededOf first second n) (FORMAT ∷ COUNT ∷ []) (neededList first second n) (wordsFor first n)
   pub trailerWord : (enables indicators e associated : ℕ)
@@ -82,6 +83,8 @@ pub record InOrder : Type 0 where
   pub playRun : (t ws : List ℕ) (from : ℕ) (out : List ℕ) → let w = wholeWalk t ws from out in
       Ordered (runOf t ws from out) (TABLE ∷ []) (tableList t) (record { says = reachedOf w; leaves = (w .table, answersOf w out) })
   pub pageLengthOf : (t : List ℕ) → Ordered (lengthOf t) (TABLE ∷ SIZE ∷ []) (lengthList t) (pageLength t)
+  pub readings : (t : List ℕ) (stream : ℕ)
+      → Ordered (readingsOf t stream) (TABLE ∷ STREAM ∷ []) (streamNumberList t stream) (recordReadings (recordAt stream t))
   pub heldWords : (t : List ℕ) (stream bit : ℕ) (out : List ℕ) → let ws = heldWordsIn bit (recordAt stream t) in
       Ordered (heldWordsOf t stream bit out) (TABLE ∷ STREAM ∷ VALUE ∷ ROOM ∷ []) (heldWordsList t stream bit out)
       (record { says = length ws; leaves = ws ++ drop (length ws) out })

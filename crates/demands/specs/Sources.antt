@@ -45,6 +45,8 @@ use Rattle.page.proofs.put_back.Kinds as put_back-kinds
 use Rattle.page.proofs.put_back.Reads as put_back
 use Rattle.panel.proofs.reading.Kinds as reading-kinds
 use Rattle.panel.proofs.reading.Reads as reading
+use Rattle.panel.proofs.readings.Kinds as readings-kinds
+use Rattle.panel.proofs.readings.Reads as readings
 use Rattle.panel.proofs.held_words.Kinds as held_words-kinds
 use Rattle.panel.proofs.held_words.Reads as held_words
 use Rattle.panel_streams.proofs.identity.Kinds as identity-kinds
@@ -58,7 +60,7 @@ use Rattle.panel_streams.proofs.changed.Reads as changed
 use Rattle.demands.specs.Calls.{Call, answers, lends}
 use Rattle.demands.specs.Calls.{fieldCountCall, checkBodyCall, findCall, readCall, writeCall, trailerPartsCall, trailerWordCall}
 use Rattle.demands.specs.Calls.{wordsNeededCall, unpackCall, packCall, signedCall, startCall, wellMadeCall, playCall}
-use Rattle.demands.specs.Calls.{playRunCall, pageLengthCall, saveCall, putBackCall, readingCall, heldWordsCall}
+use Rattle.demands.specs.Calls.{playRunCall, pageLengthCall, saveCall, putBackCall, readingCall, readingsCall, heldWordsCall}
 use Rattle.demands.specs.Calls.{identityCall, countsCall, ownTableCall, changedCall}
 
 -- what a call is handed, what it answers, and the lent words
@@ -154,6 +156,9 @@ pub record Sources : Type 1 where
   -- panel::reading
   pub reading : Source readingCall reading-kinds.ps reading-kinds.r reading.Asked reading.Learnt
       (λ κs a. (a .0 .now, a .1 .0, a .1 .1 .0)) (λ κs z. z) (λ κs a ws. tt)
+  -- panel::readings
+  pub readings : Source readingsCall readings-kinds.ps readings-kinds.r readings.Asked readings.Learnt
+      (λ κs a. (a .0 .now, a .1 .0)) (λ κs z. z) (λ κs a ws. tt)
   -- panel::held_words
   pub heldWords : Source heldWordsCall held_words-kinds.ps held_words-kinds.r held_words.Asked held_words.Learnt
       (λ κs a. (a .0 .now, a .1 .0, a .1 .1 .0, a .1 .1 .1 .0 .now)) (λ κs z. z) (λ κs a ws. ws .1 .1 .1 .0)

@@ -8,7 +8,7 @@ use Rattle.vrt49.specs.Answers.{Tells}
 use Rattle.vrt49.specs.Calls.{CallForC, answers, tells}
 use Rattle.vrt49.specs.Calls.{forRead, forWrite, forTrailerParts, forTrailerWord, forFieldCount, forCheckBody, forFind}
 use Rattle.vrt49.specs.Calls.{forUnpack, forPack, forWordsNeeded, forSigned, forStart, forWellMade, forPlay}
-use Rattle.vrt49.specs.Calls.{forPlayRun, forPageLength, forSave, forPutBack, forReading, forHeldWords}
+use Rattle.vrt49.specs.Calls.{forPlayRun, forPageLength, forSave, forPutBack, forReading, forReadings, forHeldWords}
 use Rattle.vrt49.specs.Calls.{forIdentity, forCounts, forOwnTable, forChanged}
 use Rattle.vrt49.proofs.vrt49_read.Kinds as read-kinds
 use Rattle.vrt49.proofs.vrt49_read.Reads as read
@@ -48,6 +48,8 @@ use Rattle.vrt49.proofs.vrt49_put_back.Kinds as put_back-kinds
 use Rattle.vrt49.proofs.vrt49_put_back.Reads as put_back
 use Rattle.vrt49.proofs.vrt49_reading.Kinds as reading-kinds
 use Rattle.vrt49.proofs.vrt49_reading.Reads as reading
+use Rattle.vrt49.proofs.vrt49_readings.Kinds as readings-kinds
+use Rattle.vrt49.proofs.vrt49_readings.Reads as readings
 use Rattle.vrt49.proofs.vrt49_held_words.Kinds as held_words-kinds
 use Rattle.vrt49.proofs.vrt49_held_words.Reads as held_words
 use Rattle.vrt49.proofs.vrt49_identity.Kinds as identity-kinds
@@ -126,6 +128,9 @@ pub record SourcesForC : Type 1 where
   pub reading : SourceForC forReading reading-kinds.ps reading-kinds.r reading.Asked reading.Learnt
       (λ κs a. (a .0 .now, a .1 .0, a .1 .1 .0, a .1 .1 .1 .0 .now, a .1 .1 .1 .1 .0 .now, a .1 .1 .1 .1 .1 .0 .now, a .1 .1 .1 .1 .1 .1 .0 .now))
       (λ κs z. z) (λ κs a ws. (ws .1 .1 .1 .0, ws .1 .1 .1 .1 .0, ws .1 .1 .1 .1 .1 .0, ws .1 .1 .1 .1 .1 .1 .0))
+  pub readings : SourceForC forReadings readings-kinds.ps readings-kinds.r readings.Asked readings.Learnt
+      (λ κs a. (a .0 .now, a .1 .0, a .1 .1 .0 .now, a .1 .1 .1 .0 .now, a .1 .1 .1 .1 .0 .now, a .1 .1 .1 .1 .1 .0 .now, a .1 .1 .1 .1 .1 .1 .0 .now))
+      (λ κs z. z) (λ κs a ws. (ws .1 .1 .0, ws .1 .1 .1 .0, ws .1 .1 .1 .1 .0, ws .1 .1 .1 .1 .1 .0, ws .1 .1 .1 .1 .1 .1 .0))
   pub heldWords : SourceForC forHeldWords held_words-kinds.ps held_words-kinds.r held_words.Asked held_words.Learnt
       (λ κs a. (a .0 .now, a .1 .0, a .1 .1 .0, a .1 .1 .1 .0 .now, a .1 .1 .1 .1 .0 .now))
       (λ κs z. z) (λ κs a ws. (ws .1 .1 .1 .0, ws .1 .1 .1 .1 .0))

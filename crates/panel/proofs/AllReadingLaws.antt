@@ -1,5 +1,5 @@
--- All readings at once. The idea: the loop fills the entries from the front, and what it has passed is what the record shows of bit 30 - k (`Showing`); heldBits has
--- that bit at place k, so the whole is the definition, entry by entry.
+-- All readings at once. The idea: the loop fills the entries from the front, and what it has passed is what the record shows of bit 30 - k (`Showing`);
+-- `heldBits` has that bit at place k, so the whole is the definition, entry by entry.
 use Rattle.words.proofs.Kit.{_≡_, refl, sym, ap, _∙_, List, [], _∷_, ℕ, zero, suc, _+_, _-_, _≤_, _<_, arith, le-ltb, length, take, drop, getD, set}
 use mathlib.Core.List.{map}
 use lib.ListN.{replicate, length-set, length-map, length-replicate, getD-replicate}

@@ -43,8 +43,8 @@ pub fn show(bit: u32, ws: &[u32]) -> crate::FieldReading
     crate::FieldReading::Other
 }
 
-// What the field of a bit shows in a record, for a loop over all fields. It is `show` with the words read where they stand: of two callers of `show` neither has it
-// in line, and where the loop is unrolled each bit is known, so that no test of it is left.
+// What the field of a bit shows in a record, for a loop over all fields. It is `show` with the words read where they stand: were `show` called for one field and
+// for all, the compiler would put it in line in neither (docs/DECISIONS.md, 72).
 pub fn show_in(rec: &[u32], bit: u32) -> crate::FieldReading
     requires { ⌜ (length (now rec) ≡ recordWords) × (10 ≤ bit) × (bit ≤ 30) ⌝ }
     ensures { λ r. ⌜ readingPaper r ≡ accepted (recordShows bit (now (rec .entry))) ⌝ }

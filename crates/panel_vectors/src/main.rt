@@ -1,6 +1,6 @@
-// Asks what standard input says with `panel::reading` and `panel::held_words`, and writes what they answer and leave.
+// Asks what standard input says with `panel::reading`, `panel::readings` and `panel::held_words`, and writes what they answer and leave.
 // A case begins with what is asked: 1, a reading, by the table (n, and n words), stream and bit; 2, held words, by the same and the room of the buffer;
-// 3, a sweep over every half of a word.
+// 3, a sweep over every half of a word; 4, all readings, by the table and the stream.
 mod decimal;
 
 use panel::FieldReading;
@@ -52,6 +52,23 @@ fn ask_reading(k: u64, table: &[u32]) {
     let bit = lines::inner::word();
     lines::inner::number(k);
     show(panel::reading(table, stream, bit));
+    lines::inner::text(b"\n");
+}
+
+// What all readings answer, one after the other.
+fn show_all(answers: [FieldReading; 21]) {
+    let mut i = 0;
+    while i < 21 {
+        show(answers[i]);
+        i += 1;
+    }
+}
+
+// All readings of a stream of a table that was read.
+fn ask_readings(k: u64, table: &[u32]) {
+    let stream = lines::inner::word() as usize;
+    lines::inner::number(k);
+    show_all(panel::readings(table, stream));
     lines::inner::text(b"\n");
 }
 
@@ -118,6 +135,8 @@ fn ask(k: u64, asked: u32, table: &mut [u32], out: &mut [u32]) {
     lines::inner::fill(&mut table[0..n]);
     if asked == 1 {
         ask_reading(k, &table[0..n]);
+    } else if asked == 4 {
+        ask_readings(k, &table[0..n]);
     } else {
         ask_words(k, &table[0..n], out);
     }

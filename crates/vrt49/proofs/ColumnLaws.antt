@@ -1,5 +1,5 @@
 -- What `vrt49_readings` tells. The idea: the loop fills the rows of the columns from the front (`Rows`), so that each column is that of the readings' numbers.
-use Rattle.words.proofs.Kit.{_≡_, refl, sym, ap, _∙_, List, ℕ, _+_, _-_, _≤_, _<_, arith, length, getD, set}
+use Rattle.words.proofs.Kit.{_≡_, sym, ap, _∙_, List, ℕ, _+_, _-_, _≤_, _<_, arith, length, getD, set}
 use mathlib.Core.List.{map}
 use lib.ListN.{length-set, length-map}
 use lib.Seq.{ext-getD, getD-set-same, getD-set-other}
