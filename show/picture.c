@@ -230,7 +230,7 @@ static void draw_labels(const sheet *on, const stream *of, uint64_t seen, uint64
 static void fit(sheet *on, const stream *of)
 {
     double range = of->high - of->low, about = of->low < 0 ? -of->low : of->low;
-    double edge = range > 0 ? 0.07 * range : 0.005 * about + 0.01;
+    double edge = range > 1e-6 ? 0.07 * range : 0.005 * about + 0.01; /* 1e-6: a hertz */
     on->low = of->low - edge;
     on->scale = (on->height - LANE) / (range + 2 * edge);
 }
