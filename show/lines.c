@@ -90,23 +90,24 @@ const char *grouped(uint64_t number)
 }
 
 /* So many digits behind a point, without the zeros at their end; nothing where all are zero. */
-static void put_decimals(FILE *out, uint64_t rest, int digits)
+static void put_decimals(uint64_t rest, int digits)
 {
     if (rest == 0)
         return;
     for (; rest % 10 == 0; rest /= 10)
         digits--;
-    fprintf(out, ".%0*" PRIu64, digits, rest);
+    printf(".%0*" PRIu64, digits, rest);
 }
 
-void put_megahertz(FILE *out, const vrt49_shown *shown)
+/* A frequency in MHz, to a millihertz, halves up; ~ stands before one that is rounded. */
+static void put_megahertz(const vrt49_shown *shown)
 {
     uint64_t thousandths = shown->parts * UINT64_C(1000), size;
     int64_t value = shown->hertz * 1000 + (int64_t)((thousandths + (1 << 19)) >> 20);
     size = value < 0 ? (uint64_t)-value : (uint64_t)value;
-    fprintf(out, "%s%s%" PRIu64, thousandths & 0xFFFFF ? "~" : "", value < 0 ? "-" : "",
-            size / 1000000000);
-    put_decimals(out, size % 1000000000, 9);
+    printf("%s%s%" PRIu64, thousandths & 0xFFFFF ? "~" : "", value < 0 ? "-" : "",
+           size / 1000000000);
+    put_decimals(size % 1000000000, 9);
 }
 
 /* A frequency in hertz, exactly: -1 and 786,432 parts are -0.25. */
@@ -124,7 +125,7 @@ static void put_hertz(const vrt49_shown *shown)
 static void put_value(const vrt49_shown *shown)
 {
     if (shown->kind == VRT49_KIND_FREQUENCY)
-        put_megahertz(stdout, shown);
+        put_megahertz(shown);
     else if (shown->kind == VRT49_KIND_GAIN)
         printf("%.10g and %.10g", (double)shown->levels[0], (double)shown->levels[1]);
     else
@@ -142,9 +143,10 @@ static void put_front(const packet *at)
         return;
     printf(" time %" PRIu32, read.seconds);
     if (read.tsf == VRT49_TSF_PICOSECONDS)
-        put_decimals(stdout, vrt49_fraction(&read), 12);
+        put_decimals(vrt49_fraction(&read), 12);
 }
 
+/* Which stream the line is of. */
 static void put_stream(const survey *all, const stream *of)
 {
     printf(" stream %d (0x%08" PRIX32 ")", (int)(of - all->streams), of->identifier);
@@ -205,16 +207,14 @@ void tell_columns(void)
          "sample_rate_hz,level_dbm,gain_1_db,gain_2_db,temperature_c");
 }
 
-/* A value of a row: nothing where the field is absent. */
+/* The value of a row's field, of a gain both; nothing where it is absent or there is no stream. */
 static void put_cell(const stream *of, uint32_t bit)
 {
     vrt49_shown shown;
+    shown.kind = VRT49_KIND_ABSENT;
+    if (of)
+        shown = shown_of(of, bit);
     putchar(',');
-    if (bit == VRT49_BIT_GAIN && !of)
-        putchar(',');
-    if (!of)
-        return;
-    shown = shown_of(of, bit);
     if (shown.kind == VRT49_KIND_FREQUENCY)
         put_hertz(&shown);
     else if (shown.kind != VRT49_KIND_ABSENT)
@@ -341,6 +341,7 @@ static void put_counts(const survey *all, const stream *of)
     puts("");
 }
 
+/* The packets of no declared stream, by identifier. */
 static void put_strangers(const survey *all)
 {
     size_t i;

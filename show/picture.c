@@ -20,6 +20,7 @@ typedef struct {
     double low, scale;  /* the frequency at the bottom of its plot, MHz, and units for each MHz */
 } sheet;
 
+/* Where a packet stands, of all packets. */
 static double x_of(const sheet *on, uint64_t number)
 {
     uint64_t packets = on->all->packets ? on->all->packets : 1;
@@ -28,12 +29,17 @@ static double x_of(const sheet *on, uint64_t number)
 
 /* The first packet of a column. */
 static uint64_t first_of(const sheet *on, size_t c) { return (uint64_t)c << on->all->shift; }
+
+/* The bottom of the row's plot; below it are the marks. */
 static double floor_of(const sheet *on) { return on->top + on->height - LANE; }
+
+/* Where a frequency stands in the row. */
 static double y_of(const sheet *on, double mhz)
 {
     return floor_of(on) - (mhz - on->low) * on->scale;
 }
 
+/* Words on the sheet, in a kind of writing. */
 static void text(const sheet *on, double x, double y, const char *kind, const char *format, ...)
 {
     va_list values;
@@ -86,23 +92,32 @@ static double step_of(double range, double marks, double least, int *digits)
 
 /* ---- a row */
 
-/* The lines and numbers of the frequencies; of a low row, its lowest and its highest centre. */
+/* A line of the scale, and its number. */
+static void draw_level(const sheet *on, double mhz, int digits)
+{
+    fprintf(on->out, "<path class='grid' d='M%d %.1fh%d'/>", LEFT, y_of(on, mhz), WIDE);
+    if (digits < 0)
+        text(on, LEFT - 5, y_of(on, mhz) + 4, "small end", "%s", mhz_text(mhz));
+    else
+        text(on, LEFT - 5, y_of(on, mhz) + 4, "small end", "%.*f", digits, mhz);
+}
+
+/* The scale of the frequencies; a low row has its lowest and its highest centre alone. */
 static void draw_scale(const sheet *on, const stream *of)
 {
-    double room = on->height - LANE, range = room / on->scale, mhz;
-    int digits, low_row = on->height < LOW_ROW;
-    double step = step_of(range, room / (on->height < 100 ? 16 : 24), 1e-6, &digits);
-    int64_t i, first = low_row ? 0 : (int64_t)(on->low / step) - 1;
-    for (i = first; low_row ? i < 2 : (double)i * step <= on->low + range; i++) {
-        mhz = !low_row ? (double)i * step : i == 0 ? of->least : of->greatest;
-        if (mhz < on->low || (low_row && i == 1 && (mhz - of->least) * on->scale < 11))
-            continue;
-        fprintf(on->out, "<path class='grid' d='M%d %.1fh%d'/>", LEFT, y_of(on, mhz), WIDE);
-        if (low_row)
-            text(on, LEFT - 5, y_of(on, mhz) + 4, "small end", "%s", mhz_text(mhz));
-        else
-            text(on, LEFT - 5, y_of(on, mhz) + 4, "small end", "%.*f", digits, mhz);
+    double room = on->height - LANE, range = room / on->scale, step;
+    int digits;
+    int64_t i;
+    if (on->height < LOW_ROW) {
+        draw_level(on, of->least, -1);
+        if ((of->greatest - of->least) * on->scale > 11)
+            draw_level(on, of->greatest, -1);
+        return;
     }
+    step = step_of(range, room / (on->height < 100 ? 16 : 24), 1e-6, &digits);
+    for (i = (int64_t)(on->low / step) - 1; (double)i * step <= on->low + range; i++)
+        if ((double)i * step >= on->low)
+            draw_level(on, (double)i * step, digits);
 }
 
 /* Where the tuning cannot be trusted: a span for columns that follow each other. */
@@ -230,17 +245,19 @@ static void draw_labels(const sheet *on, const stream *of, uint64_t seen, uint64
 static void fit(sheet *on, const stream *of)
 {
     double range = of->high - of->low, about = of->low < 0 ? -of->low : of->low;
-    double edge = range > 0 ? 0.07 * range : 0.005 * about + 0.01;
+    double edge = range > 1e-6 ? 0.07 * range : 0.005 * about + 0.01; /* 1e-6: a hertz */
     on->low = of->low - edge;
     on->scale = (on->height - LANE) / (range + 2 * edge);
 }
 
+/* What a row is drawn on. */
 static void draw_back(const sheet *on, double height)
 {
     fprintf(on->out, "<rect class='back' x='%d' y='%.1f' width='%d' height='%.1f'/>\n", LEFT,
             on->top, WIDE, height);
 }
 
+/* The row of a stream. */
 static void draw_stream(sheet *on, const stream *of)
 {
     static const uint32_t TYPES[] = {1, 3, 4, 5};
@@ -314,6 +331,7 @@ static void put_name(FILE *out, const char *name)
     }
 }
 
+/* The title, what happened in all, and what the signs mean. */
 static void draw_head(const sheet *on, const char *name)
 {
     const survey *all = on->all;

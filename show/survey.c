@@ -88,16 +88,16 @@ static double hertz_of(const stream *of, uint32_t bit)
    is none, the IF Reference Frequency; and the IF Band Offset (7.1.5.5 to 7.1.5.8 of 49.0). */
 static void band_changed(survey *all, stream *of)
 {
-    int rf = shown_of(of, VRT49_BIT_RF_REFERENCE_FREQUENCY).kind == VRT49_KIND_FREQUENCY;
-    int nf = shown_of(of, VRT49_BIT_IF_REFERENCE_FREQUENCY).kind == VRT49_KIND_FREQUENCY;
+    int has_rf = shown_of(of, VRT49_BIT_RF_REFERENCE_FREQUENCY).kind == VRT49_KIND_FREQUENCY;
+    int has_if = shown_of(of, VRT49_BIT_IF_REFERENCE_FREQUENCY).kind == VRT49_KIND_FREQUENCY;
     double half = hertz_of(of, VRT49_BIT_BANDWIDTH) / 2;
     double centre = hertz_of(of, VRT49_BIT_IF_BAND_OFFSET);
     band now;
-    if (!rf && !nf)
+    if (!has_rf && !has_if)
         return;
-    centre += rf ? hertz_of(of, VRT49_BIT_RF_REFERENCE_FREQUENCY) +
-                   hertz_of(of, VRT49_BIT_RF_REFERENCE_FREQUENCY_OFFSET)
-                 : hertz_of(of, VRT49_BIT_IF_REFERENCE_FREQUENCY);
+    centre += has_rf ? hertz_of(of, VRT49_BIT_RF_REFERENCE_FREQUENCY) +
+                       hertz_of(of, VRT49_BIT_RF_REFERENCE_FREQUENCY_OFFSET)
+                     : hertz_of(of, VRT49_BIT_IF_REFERENCE_FREQUENCY);
     now.low = (centre - half) / 1e6;
     now.centre = centre / 1e6;
     now.high = (centre + half) / 1e6;
@@ -122,7 +122,7 @@ static void look(survey *all, stream *of, const packet *at)
     accepted(vrt49_show_all(of->table, VRT49_TABLE_WORDS(1), 0, &of->panel), "vrt49_show_all");
     if (changed & BAND)
         band_changed(all, of);
-    if (changed & TUNING_FIELDS || all->all)
+    if (changed & TUNING_FIELDS || all->every)
         tell_tuning(all, of, at, changed, &before);
 }
 
@@ -140,6 +140,7 @@ static void miss(survey *all, stream *of, column *now, const packet *at)
     tell_missing(all, of, at);
 }
 
+/* A packet that was accepted. */
 static void hear(survey *all, const packet *at)
 {
     stream *of = &all->streams[at->said->stream];
@@ -176,6 +177,7 @@ static void count_stranger(survey *all, const packet *at)
     all->strangers[i].packets++;
 }
 
+/* A packet that was refused. */
 static void refuse(survey *all, const packet *at)
 {
     all->refused_in[column_now(all)]++;

@@ -45,6 +45,7 @@ static void trouble(const char *file, const char *what)
     exit(TROUBLE);
 }
 
+/* Says how it is used, and ends. */
 static void wrong_use(void)
 {
     fputs(USAGE, stderr);
@@ -58,7 +59,7 @@ static int take(int left, char **argument)
     if (strcmp(a, "-l") == 0)
         from.little = 1;
     else if (strcmp(a, "-a") == 0)
-        all.all = 1;
+        all.every = 1;
     else if (strcmp(a, "-q") == 0 && all.manner == LINES)
         all.manner = SUMMARY;
     else if (strcmp(a, "--csv") == 0 && all.manner == LINES)
@@ -74,6 +75,7 @@ static int take(int left, char **argument)
     return 1;
 }
 
+/* Opens the recording; - is standard input, which is open. */
 static void open_recording(const char *path)
 {
     if (strcmp(path, "-") == 0)

@@ -73,7 +73,7 @@ enum manner { LINES, SUMMARY, CSV };
 
 typedef struct {
     enum manner manner;              /* what is printed */
-    int all;                         /* 1: also where other held fields than the tuning change */
+    int every;                       /* 1: also where other held fields than the tuning change */
     uint32_t streams_n;
     stream streams[VRT49_STREAMS_MAX];
     uint32_t table[VRT49_TABLE_WORDS(VRT49_STREAMS_MAX)];
@@ -147,9 +147,6 @@ const char *reason(uint32_t number);
 
 /* A count with commas, in a buffer that is used again after eight. */
 const char *grouped(uint64_t number);
-
-/* A frequency in MHz, to a millihertz; ~ stands before one that is rounded. */
-void put_megahertz(FILE *out, const vrt49_shown *shown);
 
 /* ---- the picture */
 
