@@ -1,5 +1,6 @@
 /* tuning <RECORDING: what each stream is tuned to, at every packet that says it.
    A recording is big-endian words: the number of streams, their identifiers, packets. */
+#include <arpa/inet.h>
 #include <inttypes.h>
 #include <stdio.h>
 
@@ -7,22 +8,9 @@
 
 static uint32_t words[1 << 20], table[VRT49_TABLE_WORDS(VRT49_STREAMS_MAX)];
 
-/* The calls take words in the host's order. */
-static size_t read_words(FILE *file)
-{
-    unsigned char b[4];
-    size_t n = 0;
-    while (n < 1 << 20 && fread(b, 1, 4, file) == 4)
-        words[n++] = (uint32_t)b[0] << 24 | (uint32_t)b[1] << 16 | (uint32_t)b[2] << 8 | b[3];
-    return n;
-}
-
 /* What is held of a field, if it is: absent is not zero. */
-static void print_field(size_t layout, size_t stream, uint32_t bit, const char *name)
+static void print_field(const char *name, vrt49_shown shown)
 {
-    vrt49_shown shown;
-    if (vrt49_show(table, layout, stream, bit, &shown) != VRT49_OK)
-        return;
     if (shown.kind == VRT49_KIND_FREQUENCY)
         printf("  %s %.6f MHz", name, vrt49_hertz(&shown) / 1e6);
     else if (shown.kind == VRT49_KIND_LEVEL)
@@ -31,29 +19,31 @@ static void print_field(size_t layout, size_t stream, uint32_t bit, const char *
 
 int main(void)
 {
-    size_t n = read_words(stdin), streams = n ? words[0] : 0, at = 0, layout = 0;
+    size_t i, layout = 0, at = 0, n = fread(words, sizeof *words, 1 << 20, stdin);
     uint32_t number = VRT49_LIST;
     vrt49_packet packet;
     vrt49_heard heard;
-    if (streams < n)
-        number = vrt49_start(words + 1, streams, table, sizeof table / sizeof table[0], &layout);
+    vrt49_panel panel;
+    for (i = 0; i < n; i++)
+        words[i] = ntohl(words[i]); /* the calls take words in the host's order */
+    if (words[0] < n)
+        number = vrt49_start(words + 1, words[0], table, sizeof table / sizeof *table, &layout);
     if (number == VRT49_OK)
-        at = 1 + streams;
-    while (number == VRT49_OK && at < n) {
+        at = 1 + words[0];
+    for (; number == VRT49_OK && at < n; at += number == VRT49_OK ? packet.size : 0) {
         number = vrt49_read(words + at, n - at, &packet);
-        if (number != VRT49_OK)
-            break;
-        number = vrt49_play(table, layout, words + at, n - at, &heard);
-        if (number == VRT49_OK && heard.type == VRT49_TYPE_CONTEXT) {
-            printf("%" PRIu32 " s  stream %" PRIu32, packet.seconds, heard.stream);
-            print_field(layout, heard.stream, VRT49_BIT_RF_REFERENCE_FREQUENCY, "at");
-            print_field(layout, heard.stream, VRT49_BIT_BANDWIDTH, "bandwidth");
-            print_field(layout, heard.stream, VRT49_BIT_LEVEL, "level");
-            puts("");
-        }
+        if (number == VRT49_OK)
+            number = vrt49_play(table, layout, words + at, n - at, &heard);
         if (number == VRT49_STREAM) /* of no declared stream: go on behind it */
             number = VRT49_OK;
-        at += packet.size;
+        else if (number == VRT49_OK && heard.type == VRT49_TYPE_CONTEXT) {
+            vrt49_show_all(table, layout, heard.stream, &panel);
+            printf("%" PRIu32 " s  stream %" PRIu32, packet.seconds, heard.stream);
+            print_field("at", vrt49_shown_of(&panel, VRT49_BIT_RF_REFERENCE_FREQUENCY));
+            print_field("bandwidth", vrt49_shown_of(&panel, VRT49_BIT_BANDWIDTH));
+            print_field("level", vrt49_shown_of(&panel, VRT49_BIT_LEVEL));
+            puts("");
+        }
     }
     if (number != VRT49_OK)
         fprintf(stderr, "at word %zu refused: %s\n", at, vrt49_name(number));
