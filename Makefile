@@ -34,14 +34,19 @@ lib: python
 	@rt staticlib vrt49 >target/lib.log 2>&1 || { tail -n 20 target/lib.log; exit 1; }
 	@echo 'proved and built: target/staticlib/libvrt49.a; its header: include/vrt49.h'
 
-# builds a C program over the library, and runs it on the sample survey; installs Python and the compiler from Debian where they are missing
+# installs Python and the compiler of C from Debian where they are missing
+FOR_C = command -v python3 >/dev/null && tools/cc -static >/dev/null 2>&1 || tools/from_debian 'make $@' python3 $$(tools/cc packages)
+
+# builds a C program over the library, and runs it on the sample survey
 example:
-	@command -v python3 >/dev/null && tools/cc -static >/dev/null 2>&1 || tools/from_debian 'make example' python3 $$(tools/cc packages)
+	@$(FOR_C)
 	@$(MAKE) -s lib
 	@tools/run_c examples/c/tuning.c <samples/recordings/survey.vrt
 
 # builds vrtshow over the library, and shows the sample survey: its lines, and a picture in target/survey.svg
-show: lib
+show:
+	@$(FOR_C)
+	@$(MAKE) -s lib
 	@tools/show --svg target/survey.svg samples/recordings/survey.vrt
 
 # the library, static and shared, its header, its pkg-config file, vrtplay and vrtshow: make install PREFIX=/usr DESTDIR=/tmp/package
