@@ -9,7 +9,7 @@ use native.Mathlib.Numerals.{add-one}
 use lib.Seq.{ext-getD}
 use lib.Pow.{pow-mono, high, low}
 use Rattle.words.specs.Numbers.{TABLE, STREAM}
-use Rattle.words.specs.Tests.{pick, when, both, sameWords}
+use Rattle.words.specs.Tests.{when, both, sameWords}
 use Rattle.words.specs.Word.{has}
 use Rattle.words.specs.Part.{part}
 use Rattle.words.specs.All.{all}
@@ -19,7 +19,7 @@ use Rattle.words.proofs.RefusalLaws.{first-passed, first-refused, first-fine, e
 use Rattle.words.proofs.PowerLaws.{halves}
 use Rattle.words.proofs.BitLaws.{has-low}
 use Rattle.words.proofs.SetBitLaws.{has-above}
-use Rattle.words.proofs.AllLaws.{all-at, all-intro, all-none, all-more, all-end, all-fails}
+use Rattle.words.proofs.AllLaws.{all-at, all-intro, all-more, all-fails}
 use Rattle.words.proofs.PartLaws.{seen, part-length, getD-part}
 use Rattle.fields.specs.Sizes.{fieldSize}
 use Rattle.record.specs.Held.{holds, slotAt}

@@ -1,6 +1,6 @@
 -- What the record of a stream says. The idea: the record is a part of the table, so a word of it stands as far behind the record's place (`word-there`); at is
 -- that place.
-use Rattle.words.proofs.Kit.{_≡_, refl, sym, ap, _∙_, Bool, true, false, not, List, [], _∷_, _++_, ℕ, _+_, _*_, _-_, _≤_, _<_, arith, eq-eqb, ne-eqb, lt-ltb}
+use Rattle.words.proofs.Kit.{_≡_, refl, sym, ap, _∙_, Bool, true, false, not, List, [], _∷_, _++_, ℕ, _+_, _-_, _≤_, _<_, arith, eq-eqb, ne-eqb, lt-ltb}
 use Rattle.words.proofs.Kit.{le-ltb, not-true, not-false, length, drop, getD, set}
 use lib.ListN.{length-set}
 use Rattle.words.specs.Numbers.{VALUE, ROOM}

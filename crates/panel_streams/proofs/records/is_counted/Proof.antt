@@ -1,6 +1,5 @@
 -- `is_counted` meets its promise: each test is a line of the definition.
 use Rattle.words.proofs.Cases.{cases}
-use borrow.Author.Needs.{needs}
 use Rattle.panel_streams.proofs.records.is_counted.Statement.{statement}
 use Rattle.panel_streams.proofs.records.is_counted.Tie as tie
 
