@@ -34,7 +34,7 @@
 #include <stdint.h>
 
 #define VRT49_VERSION_MAJOR 0
-#define VRT49_VERSION_MINOR 11
+#define VRT49_VERSION_MINOR 12
 #define VRT49_VERSION_PATCH 0
 
 #ifdef __cplusplus
