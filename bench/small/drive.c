@@ -40,17 +40,23 @@ static u64 sum(u64 x, const u32 *w, size_t n) {
         x = x * 31 + w[i];
     return x;
 }
-// A table of so many streams, of which each holds the six fields.
-static void table(size_t streams) {
-    u32 w[2 + sizeof small / sizeof *small];
+// A table of so many streams, of which each holds the six fields, or all 21.
+static void table(size_t streams, int all) {
+    u32 w[2 + 75] = {0}, n = all ? 75 : sizeof small / sizeof *small;
     for (size_t s = 0; s < streams; s++)
         ids[s] = 0x1000 + s;
     refused |= CALL(start)(ids, streams, t, 1 + RECORD * streams, &length);
     memcpy(w + 2, small, sizeof small);
+    if (all) {
+        w[2] = 0x7ffffc00;
+        for (u32 i = 1; i < n; i++)
+            w[2 + i] = i;
+        w[2 + 24] = processing; // field 15 has a rule that 24 breaks
+    }
     for (size_t s = 0; s < streams; s++) {
-        w[0] = CONTEXT | sizeof w / sizeof *w;
+        w[0] = CONTEXT | (2 + n);
         w[1] = ids[s];
-        refused |= CALL(play)(t, 1 + RECORD * streams, w, sizeof w / sizeof *w, a);
+        refused |= CALL(play)(t, 1 + RECORD * streams, w, 2 + n, a);
     }
 }
 // The calls over words and numbers; size is items, or the bits of one.
@@ -95,11 +101,11 @@ static void of_table(const char *call, size_t streams, size_t times) {
         REPEAT(refused, CALL(changed)(own, 1 + RECORD, 0, t, tn, last, a));
 }
 int main(int argc, char **argv) {
-    // CALL KIND(small large, link processing) SIZE TIMES: SIZE is streams of a table, items, or bits of one
+    // CALL KIND(small large, link processing, all) SIZE TIMES: SIZE is streams of a table, items, or bits of one
     if (argc != 5)
         return 2;
     size_t size = atol(argv[3]), times = atol(argv[4]), streams = size <= 32 ? size : 1;
-    table(streams);
+    table(streams, !strcmp(argv[2], "all"));
     of_words(argv[1], argv[2], size, times);
     of_table(argv[1], streams, times);
     printf("%u %u %016llx %zu %zu %zu %zu %lld\n", refused, answer, (unsigned long long)sum(sum(sum(0, t, 1 + RECORD * streams), own, 1 + RECORD), a, 4), place[0], place[1],

@@ -19,6 +19,9 @@ row signed - 64 'an item of 64 bits'
 for s in 1 32; do
     row start - $s "S $s"
 done
+for s in 1 32; do
+    row well_made all $s "21 fields held, S $s"
+done
 for call in well_made page_length identity counts own_table changed; do
     for s in 1 32; do
         row $call - $s "6 fields held, S $s"
