@@ -1,5 +1,5 @@
 // What the smaller calls of libvrt49.a are measured against, in C by hand, with the same checks in the same order: trailers, fields of a body, a table's
-// start, test and page length. The tests of bodies and tables are those of the play bench.
+// start, test and page length, and what it says of a stream. The tests of bodies and tables are those of the play bench.
 #include "../calls/by_hand.c"
 enum { LIST = 12 };
 u32 c_trailer_parts(u32 w, u32 *a) {
@@ -76,5 +76,66 @@ u32 c_page_length(const u32 *t, size_t tn, size_t *length) {
     if (words > MOST)
         return SIZE;
     *length = words;
+    return 0;
+}
+// The record of a stream, or the refusal of the table or of the stream's number.
+static inline u32 record_of(const u32 *t, size_t tn, size_t s, const u32 **r) {
+    if (!table_good(t, tn))
+        return TABLE;
+    if (s >= t[0])
+        return STREAM;
+    *r = t + 1 + RECORD * s;
+    return 0;
+}
+u32 c_identity(const u32 *t, size_t tn, size_t s, u32 *identifier, u32 *held) {
+    const u32 *r;
+    u32 refused = record_of(t, tn, s, &r);
+    if (refused)
+        return refused;
+    *identifier = r[0];
+    *held = r[1];
+    return 0;
+}
+u32 c_counts(const u32 *t, size_t tn, size_t s, u32 kind, u32 *a) {
+    const u32 *r;
+    u32 refused = record_of(t, tn, s, &r);
+    if (refused)
+        return refused;
+    if (kind > 5 || !counts[kind])
+        return VALUE;
+    const u32 *c = r + counts[kind];
+    a[0] = c[2] != 0;
+    a[1] = c[0];
+    a[2] = c[1];
+    a[3] = c[2] ? c[2] - 1 : 0;
+    return 0;
+}
+u32 c_own_table(const u32 *t, size_t tn, size_t s, u32 *out, size_t room, size_t *length) {
+    const u32 *r;
+    u32 refused = record_of(t, tn, s, &r);
+    if (refused)
+        return refused;
+    if (room < 1 + RECORD)
+        return ROOM;
+    out[0] = 1;
+    memcpy(out + 1, r, RECORD * 4);
+    *length = 1 + RECORD;
+    return 0;
+}
+u32 c_changed(const u32 *t, size_t tn, size_t s, const u32 *u, size_t un, size_t v, u32 *fields) {
+    if (!table_good(t, tn) || !table_good(u, un))
+        return TABLE;
+    if (s >= t[0] || v >= u[0])
+        return STREAM;
+    const u32 *p = t + 1 + RECORD * s, *q = u + 1 + RECORD * v;
+    u32 changed = p[1] ^ q[1], both = p[1] & q[1];
+    while (both) {
+        u32 bit = __builtin_clz(both) ^ 31;
+        both ^= 1u << bit;
+        for (size_t i = slots[bit]; i < slots[bit] + sizes[bit]; i++)
+            if (p[i] != q[i])
+                changed |= 1u << bit;
+    }
+    *fields = changed;
     return 0;
 }

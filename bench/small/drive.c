@@ -19,6 +19,10 @@ u32 CALL(signed)(u32, u64, int64_t *);
 u32 CALL(start)(const u32 *, size_t, u32 *, size_t, size_t *);
 u32 CALL(well_made)(const u32 *, size_t);
 u32 CALL(page_length)(const u32 *, size_t, size_t *);
+u32 CALL(identity)(const u32 *, size_t, size_t, u32 *, u32 *);
+u32 CALL(counts)(const u32 *, size_t, size_t, u32, u32 *);
+u32 CALL(own_table)(const u32 *, size_t, size_t, u32 *, size_t, size_t *);
+u32 CALL(changed)(const u32 *, size_t, size_t, const u32 *, size_t, size_t, u32 *);
 u32 CALL(play)(u32 *, size_t, const u32 *, size_t, u32 *);
 enum { RECORD = 88, CONTEXT = 0x40000000 };
 // Bodies: fields 29, 27, 24, 23, 21 and 18, whose first words are small; fields 29, 27, 23, 21, 20 and 19, whose first words are all 2^16 or more.
@@ -27,7 +31,7 @@ static const u32 large[] = {1u << 29 | 1 << 27 | 1 << 23 | 1 << 21 | 1 << 20 | 1
 // Formats of 12-bit items: link-efficient, and processing-efficient in fields of 16 bits.
 static const u32 link = 1u << 31 | 11 << 6 | 11, processing = 15 << 6 | 11;
 static _Alignas(64) u32 t[1 + RECORD * 32]; // the count of memset hangs on the place
-static u32 ids[32], a[4];
+static u32 own[1 + RECORD], ids[32], a[4];
 static size_t place[3], length;
 static int64_t value;
 static u32 refused, answer;
@@ -76,15 +80,25 @@ static void of_words(const char *call, const char *kind, size_t size, size_t tim
     if (!strcmp(call, "signed"))
         REPEAT(refused, CALL(signed)(size, (u64)1 << (size - 1), &value));
 }
-// The calls over a table.
+// The calls over a table, of its last stream; that one's own table has another bandwidth.
 static void of_table(const char *call, size_t streams, size_t times) {
-    size_t tn = 1 + RECORD * streams;
+    size_t tn = 1 + RECORD * streams, last = streams - 1;
+    refused |= CALL(own_table)(t, tn, last, own, 1 + RECORD, &length);
+    own[1 + 15]++;
     if (!strcmp(call, "start"))
         REPEAT(refused, CALL(start)(ids, streams, t, tn, &length));
     if (!strcmp(call, "well_made"))
         REPEAT(answer, CALL(well_made)(t, tn));
     if (!strcmp(call, "page_length"))
         REPEAT(refused, CALL(page_length)(t, tn, &length));
+    if (!strcmp(call, "identity"))
+        REPEAT(refused, CALL(identity)(t, tn, last, a, a + 1));
+    if (!strcmp(call, "counts"))
+        REPEAT(refused, CALL(counts)(t, tn, last, 4, a));
+    if (!strcmp(call, "own_table"))
+        REPEAT(refused, CALL(own_table)(t, tn, last, own, 1 + RECORD, &length));
+    if (!strcmp(call, "changed"))
+        REPEAT(refused, CALL(changed)(own, 1 + RECORD, 0, t, tn, last, a));
 }
 int main(int argc, char **argv) {
     // CALL KIND(small large, link processing, all) SIZE TIMES: SIZE is streams of a table, items, or bits of one
@@ -94,7 +108,7 @@ int main(int argc, char **argv) {
     table(streams, !strcmp(argv[2], "all"));
     of_words(argv[1], argv[2], size, times);
     of_table(argv[1], streams, times);
-    printf("%u %u %016llx %zu %zu %zu %zu %lld\n", refused, answer, (unsigned long long)sum(sum(0, t, 1 + RECORD * streams), a, 4), place[0], place[1],
+    printf("%u %u %016llx %zu %zu %zu %zu %lld\n", refused, answer, (unsigned long long)sum(sum(sum(0, t, 1 + RECORD * streams), own, 1 + RECORD), a, 4), place[0], place[1],
            place[2], length, (long long)value);
     return 0;
 }

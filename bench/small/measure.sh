@@ -22,7 +22,7 @@ done
 for s in 1 32; do
     row well_made all $s "21 fields held, S $s"
 done
-for call in well_made page_length; do
+for call in well_made page_length identity counts own_table changed; do
     for s in 1 32; do
         row $call - $s "6 fields held, S $s"
     done
