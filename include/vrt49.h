@@ -18,7 +18,7 @@
 
    What a call costs in S, the number of streams: vrt49_play, vrt49_well_made, vrt49_page_length,
    vrt49_save, vrt49_put_back, vrt49_reading, vrt49_readings, vrt49_held_words, vrt49_identity,
-   vrt49_counts and vrt49_own_table test a whole table each time, 500 to 750 instructions for each
+   vrt49_counts and vrt49_own_table test a whole table each time, 490 to 700 instructions for each
    stream that holds six fields, and vrt49_changed tests two; of a stream's fields vrt49_readings
    gives all for one test. vrt49_play_run is the fast one: it tests the table once, and then takes
    110 instructions for a sample packet and 6 for each stream before its own (docs/SPEED.md).

@@ -25,7 +25,6 @@ use Rattle.payload_pack.specs.Pack.{packList, packOf}
 use Rattle.payload_pack.specs.inner.Packable.{packCheck}
 use Rattle.payload_pack.proofs.PackLaws.{PackPassed, pack-passed}
 use Rattle.payload_unpack.specs.Unpack.{Buffers, unpackList, unpackOf}
-use Rattle.payload_unpack.specs.inner.Unpackable.{unpackCheck}
 use Rattle.payload_unpack.proofs.UnpackLaws.{unpack-passed}
 use Rattle.demands.specs.Clean.{Clean}
 use Rattle.demands.specs.Packings.{FieldAt, WordsTaken, PackedAs}
@@ -207,7 +206,7 @@ packed-as first second items events channels out d e =
 pub unpacked-as : (first second n : ℕ) (ws : List ℕ) → ((j : ℕ) → getD ws j 0 < 2 ^ 32) → (b : Buffers) (d : Done ℕ Buffers)
     → unpackOf first second n ws b ≡ accepted d
     → PackedAs first n (take n (d .leaves .items)) (take n (d .leaves .events)) (take n (d .leaves .channels)) ws
-unfolding unpackOf unpackCheck packingOf
+unfolding unpackOf packingOf
 unpacked-as first second n ws h b d e =
     let list = unpackList first second n (length ws) (length (b .items)) (length (b .events)) (length (b .channels)) in
     let a = first-passed list _ d e in

@@ -21,18 +21,16 @@ use Rattle.payload_format.specs.inner.Legal.{Legal}
 use Rattle.payload_format.specs.Count.{countBad, wordsFor}
 use Rattle.payload_format.specs.Field.{fieldIn, itemIn, eventIn, channelIn, fieldsOf}
 use Rattle.payload_unpack.specs.Unpack.{Buffers, unpacked, unpackList, unpackOf}
-use Rattle.payload_unpack.specs.inner.Unpackable.{unpackCheck}
 use Rattle.payload_pack.specs.Pack.{packed, fitting, valueBad, packList, packOf}
 use Rattle.payload_pack.specs.inner.Packable.{packCheck, Fitting}
 use Rattle.demands.specs.Clean.{Clean}
 use Rattle.payload_format.proofs.FormatLaws.{legal, carry-some, carry-most, field-some}
 use Rattle.payload_format.proofs.FieldLaws.{item-back, event-back, channel-back, made-below, made-back, fields-blank}
-use Rattle.payload_unpack.proofs.UnpackLaws.{UnpackPassed, unpack-passed}
+use Rattle.payload_unpack.proofs.UnpackLaws.{unpackCheck, UnpackPassed, unpack-passed}
 use Rattle.payload_pack.proofs.PackLaws.{PackPassed, pack-passed, packable}
 
 -- ---- the checks of each call, passed
 unpack-passes : (first second n m a b c : ℕ) → UnpackPassed first second n m a b c → unpackCheck first second n m a b c ≡ accepted tt
-unfolding unpackCheck
 unpack-passes first second n m a b c p =
     simp (
       p .format,
@@ -122,7 +120,7 @@ pub pack-then-unpack : (first second : ℕ) (items events channels out : List �
     × (take (length items) (leftOf answer b .items) ≡ items)
     × (take (length items) (leftOf answer b .events) ≡ events)
     × (take (length items) (leftOf answer b .channels) ≡ channels)
-unfolding packOf packCheck unpackOf unpackCheck
+unfolding packOf packCheck unpackOf
 pack-then-unpack first second items events channels out d e b hi he hc =
     let n = length items in
     let a = first-passed (packList first second items events channels (length out)) _ d e in
@@ -222,7 +220,7 @@ pub unpack-then-pack : (first second n : ℕ) (ws : List ℕ) → ((j : ℕ) →
     → let left = leftOf (unpackOf first second n ws b) b in
     let answer = packOf first second (take n (left .items)) (take n (left .events)) (take n (left .channels)) out in
     (saidOf answer ≡ accepted (length ws)) × (take (length ws) (leftOf answer out) ≡ ws)
-unfolding unpackOf unpackCheck
+unfolding unpackOf
 unpack-then-pack first second n ws w z b v e out room =
     let list = unpackList first second n (length ws) (length (b .items)) (length (b .events)) (length (b .channels)) in
     let t = said-accepted (unpackOf first second n ws b) v e in

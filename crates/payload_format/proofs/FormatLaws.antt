@@ -118,7 +118,11 @@ module _ (first second n : ℕ) where
       by-tests false false = refl
 
   module _ (answer : Check) (e : checked answer ≡ itemsCheck first second n) where
-    -- n of a number of items that is let through
+    -- what is let through: a legal format, and a number of items that is not too large
+    pub items-legal : answer ≡ found.Fine → Legal (packingOf first)
+    unfolding itemsCheck
+    items-legal fine = legal first second (first-passed (neededList first second n) _ tt (sym e ∙ ap checked fine) .0 .0)
+
     pub items-few : answer ≡ found.Fine → n ≤ 2097120
     unfolding itemsCheck
     items-few fine = count-few first second n (first-passed (neededList first second n) _ tt (sym e ∙ ap checked fine) .0 .1 .0)

@@ -65,16 +65,16 @@ fn wide_processing(first: u32) -> bool
 fn format_bad(first: u32, second: u32) -> bool
     ensures { λ r. ⌜ r ≡ formatBad first second ⌝ }
 {
-    if !format_ok(first) {
-        return true;
-    }
-    if component_repeat(first) {
-        return true;
-    }
     if repeat_size(second) != 1 {
         return true;
     }
-    wide_processing(first)
+    if !format_ok(first) {
+        return true;
+    }
+    if wide_processing(first) {
+        return true;
+    }
+    component_repeat(first)
 }
 
 // How many bits of each word carry packing fields.
@@ -125,12 +125,13 @@ fn count_bad(first: u32, second: u32, n: usize) -> bool
     n % unit(first, second) != 0
 }
 
-// The words that n fields of f bits take, where c bits of each word carry them.
-fn words_of(c: usize, f: usize, n: usize) -> usize
+// The words that n fields of f bits take, where c bits of each word carry them. The division is in 32 bits, which compiles to fewer instructions.
+pub fn words_of(c: usize, f: usize, n: usize) -> usize
     requires { ⌜ (0 < c) × (c ≤ 32) × (f ≤ 64) × (n ≤ 2097120) ⌝ }
     ensures { λ r. ⌜ r ≡ needed c f n ⌝ }
 {
-    (f * n + (c - 1)) / c
+    let bits = (f * n + (c - 1)) as u32;
+    (bits / c as u32) as usize
 }
 
 // The words that n items take under a format.

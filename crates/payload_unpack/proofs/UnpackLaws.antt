@@ -1,17 +1,16 @@
--- What is known where nothing of unpacking is refused, what fields without tags hold, and the answers of `unpack_check` and `unpack`.
-use Rattle.words.proofs.Kit.{_≡_, sym, ap, _∙_, false, not, List, [], _∷_, ℕ, _+_, _*_, _/_, _%_, _^_, _≤_, _<_, arith, length, getD, ltb, eqb}
+-- What is known where nothing of unpacking is refused, what fields without tags hold, and the answers of `unpack`.
+use Rattle.words.proofs.Kit.{_≡_, refl, sym, ap, _∙_, false, not, List, [], _∷_, ℕ, _+_, _*_, _/_, _%_, _^_, _≤_, _<_, arith, length, getD, ltb, eqb}
 use Rattle.words.proofs.Kit.{ltb-false, eqb-true, not-false}
 use native.Mathlib.Nat.{mod-one, div-one}
 use Rattle.words.specs.declared.Check.{Check}
 use Rattle.words.specs.declared.Check.the-variants as found
 use Rattle.words.specs.declared.Length.the-variants.{Accepted, Refused}
-use Rattle.words.specs.Tests.{either}
-use Rattle.words.specs.Outcome.{refused, accepted, checked, measured, Meets}
+use Rattle.words.specs.Outcome.{Outcome, accepted, checked, measured, Meets}
 use Rattle.words.specs.Refusals.{Refusals, firstGiven}
-use Rattle.words.specs.Numbers.{COUNT, ROOM}
 use Rattle.words.specs.Word.{highFirst}
 use Rattle.words.proofs.RefusalLaws.{first-passed, either-passed, first-refused, first-fine}
 use Rattle.words.proofs.MeetLaws.{meets-refused, meets-length}
+use Rattle.bitstream.specs.Carried.{needed}
 use Rattle.bitstream.specs.Filled.{listOf, filled}
 use Rattle.bitstream.proofs.CarriedLaws.{enough, none-over, field-word, field-words}
 use Rattle.bitstream.proofs.FilledLaws.{filled-same}
@@ -19,10 +18,11 @@ use Rattle.payload_format.specs.declared.inner.Packing.{Packing}
 use Rattle.payload_format.specs.Format.{formatBad, packingOf, carriedBits}
 use Rattle.payload_format.specs.Count.{countBad, wordsFor}
 use Rattle.payload_format.specs.inner.Checked.{itemsCheck}
+use Rattle.payload_format.specs.inner.Legal.{Legal}
 use Rattle.payload_format.specs.Field.{fieldIn, itemIn}
-use Rattle.payload_format.proofs.FormatLaws.{legal, count-few, carry-some, items-first}
+use Rattle.payload_format.proofs.FormatLaws.{carry-some, words-for, items-first, items-legal, items-few}
 use Rattle.payload_unpack.specs.Unpack.{Buffers, buffers, unpacked, unpackList, unpackOf}
-use Rattle.payload_unpack.specs.inner.Unpackable.{unpackCheck, Unpackable}
+use Rattle.payload_unpack.specs.inner.Unpackable.{fitList, fitCheck, Unpackable}
 
 -- ---- fields without tags
 
@@ -79,29 +79,28 @@ module _ {p : Packing} {n room : ℕ} {ws : List ℕ} (u : Unpackable p n ws roo
         rw (two-field, two-carry, two)
         (sym (ap (λ (x : ℕ). x / 2 ^ 0) (field-words ws small k) ∙ div-one (highFirst (getD ws (2 * k) 0) (getD ws (2 * k + 1) 0)))))
 
--- ---- the answers of `unpack_check`, by what `items_check` says
-module _ (first second n : ℕ) (answer : Check) (e : checked answer ≡ itemsCheck first second n) (given items events channels : ℕ) where
-  pub asked-refused : (k : ℕ) → answer ≡ found.Refused k → refused k ≡ unpackCheck first second n given items events channels
-  unfolding unpackCheck
-  asked-refused k r = rw (items-first first second n, ← e, r)
+-- the words that are needed hold the fields, and one word fewer does not
+fields-there : (first n m : ℕ) → m ≡ wordsFor first n → packingOf first .field * n ≤ m * packingOf first .carry
+unfolding wordsFor packingOf
+fields-there first n m e = rw e (enough (carriedBits first) _ n (carry-some first))
 
-  -- the lines of `unpackCheck` that are left
-  pub asked-fine : answer ≡ found.Fine → unpackCheck first second n given items events channels
-      ≡ firstGiven ((COUNT, not (eqb given (wordsFor first n))) ∷ (ROOM, either (ltb items n) (either (ltb events n) (ltb channels n))) ∷ []) (accepted tt)
-  unfolding unpackCheck
-  asked-fine r = rw (items-first first second n, ← e, r)
+fields-fill : (first n m : ℕ) → m ≡ wordsFor first n → m * packingOf first .carry < packingOf first .field * n + packingOf first .carry
+unfolding wordsFor packingOf
+fields-fill first n m e = rw e (none-over (carriedBits first) _ n (carry-some first))
 
--- ---- what `unpackCheck` lets through
-pub record UnpackPassed (first second n words room-items room-events room-channels : ℕ) : Type 0 where
+-- ---- all refusals of unpacking, and what they let through
+abbrev pub unpackCheck : (first second n given items events channels : ℕ) → Outcome Unit
+unpackCheck first second n given items events channels = firstGiven (unpackList first second n given items events channels) (accepted tt)
+
+pub record UnpackPassed (first second n given room-items room-events room-channels : ℕ) : Type 0 where
   pub format : formatBad first second ≡ false
   pub count : countBad first second n ≡ false
-  pub there : words ≡ wordsFor first n
+  pub there : given ≡ wordsFor first n
   pub items : n ≤ room-items
   pub events : n ≤ room-events
   pub channels : n ≤ room-channels
 
 pub unpack-passed : (first second n m i e c : ℕ) → unpackCheck first second n m i e c ≡ accepted tt → UnpackPassed first second n m i e c
-unfolding unpackCheck
 unpack-passed first second n m i e c h =
     let a = first-passed (unpackList first second n m i e c) _ tt h .0 in
     let count = either-passed (countBad first second n) (not (eqb m (wordsFor first n))) (a .1 .0) in
@@ -116,51 +115,62 @@ unpack-passed first second n m i e c h =
       channels = ltb-false c n (tags .1);
     }
 
--- the words that are needed hold the fields, and one word fewer does not
-fields-there : (first n m : ℕ) → m ≡ wordsFor first n → packingOf first .field * n ≤ m * packingOf first .carry
-unfolding wordsFor packingOf
-fields-there first n m e = rw e (enough (carriedBits first) _ n (carry-some first))
-
-fields-fill : (first n m : ℕ) → m ≡ wordsFor first n → m * packingOf first .carry < packingOf first .field * n + packingOf first .carry
-unfolding wordsFor packingOf
-fields-fill first n m e = rw e (none-over (carriedBits first) _ n (carry-some first))
-
--- ---- the answers of `unpack`, by what `unpack_check` found
-module _ (first second n : ℕ) (ws items events channels : List ℕ) (answer : Check) where
-  abbrev list : Refusals
-  list = unpackList first second n (length ws) (length items) (length events) (length channels)
-
+-- ---- the answers of `unpack`, by what `items_check` found of the format and n, and `fit_check` of the words and the places
+module _ (first second n : ℕ) (ws items events channels : List ℕ) (asked : Check) (e : checked asked ≡ itemsCheck first second n) where
   abbrev lent : Buffers
   lent = buffers items events channels
 
-  module _ (e : checked answer ≡ unpackCheck first second n (length ws) (length items) (length events) (length channels)) where
-    pub unpack-refused : (k : ℕ) → answer ≡ found.Refused k
-        → Meets measured (unpackOf first second n ws lent) lent (Refused k) lent
-    unfolding unpackOf unpackCheck
-    unpack-refused k r = meets-refused (first-refused list tt k _ (sym e ∙ ap checked r))
+  pub unpack-asked : (k : ℕ) → asked ≡ found.Refused k → Meets measured (unpackOf first second n ws lent) lent (Refused k) lent
+  unfolding unpackOf
+  unpack-asked k r = meets-refused (rw (items-first first second n, ← e, r))
 
-    module _ (fine : answer ≡ found.Fine) where
-      through : UnpackPassed first second n (length ws) (length items) (length events) (length channels)
-      through = unpack-passed first second n (length ws) (length items) (length events) (length channels) (sym e ∙ ap checked fine)
+  module _ (fine : asked ≡ found.Fine) (p : Packing) (q : p ≡ packingOf first) where
+    pub packing-legal : Legal p
+    packing-legal = rw q (items-legal first second n asked e fine)
 
-      pub unpackable : (p : Packing) → p ≡ packingOf first → Unpackable p n ws (length items)
-      unpackable p q =
-          rw q
-          (record {
-            legal = legal first second (through .format);
-            few = count-few first second n (through .count);
-            there = fields-there first n (length ws) (through .there);
-            none-over = fields-fill first n (length ws) (through .there);
-            places = through .items;
-          })
+    pub items-small : n ≤ 2097120
+    items-small = items-few first second n asked e fine
 
-      pub events-room : n ≤ length events
-      events-room = through .events
+    -- the words that are needed, by the sizes
+    words-here : needed (p .carry) (p .field) n ≡ wordsFor first n
+    words-here = words-for first n _ p q refl
 
-      pub channels-room : n ≤ length channels
-      channels-room = through .channels
+    module _ (fit : Check) (f : checked fit ≡ fitCheck (needed (p .carry) (p .field) n) n (length ws) (length items) (length events) (length channels)) where
+      abbrev list : Refusals
+      list = fitList (needed (p .carry) (p .field) n) n (length ws) (length items) (length events) (length channels)
 
-      pub unpack-accepted : (p : Packing) (after : Buffers) → p ≡ packingOf first → after ≡ unpacked p n ws lent
-          → Meets measured (unpackOf first second n ws lent) lent (Accepted n) after
-      unfolding unpackOf unpackCheck
-      unpack-accepted p after q left = meets-length (first-fine list tt tt _ (sym e ∙ ap checked fine)) (rw q at left)
+      -- the lines of the definition that are left
+      left : unpackOf first second n ws lent ≡ firstGiven list (accepted (record { says = n; leaves = unpacked p n ws lent }))
+      unfolding unpackOf
+      left = rw (items-first first second n, ← e, fine, words-here, q)
+
+      pub unpack-unfit : (k : ℕ) → fit ≡ found.Refused k → Meets measured (unpackOf first second n ws lent) lent (Refused k) lent
+      unfolding fitCheck
+      unpack-unfit k r = meets-refused (left ∙ first-refused list tt k _ (sym f ∙ ap checked r))
+
+      module _ (fits : fit ≡ found.Fine) where
+        through : UnpackPassed first second n (length ws) (length items) (length events) (length channels)
+        unfolding fitCheck
+        through =
+            unpack-passed first second n (length ws) (length items) (length events) (length channels)
+            (rw (items-first first second n, ← e, fine, ← words-here) (sym f ∙ ap checked fits))
+
+        pub unpackable : Unpackable p n ws (length items)
+        unpackable =
+            record {
+              legal = packing-legal;
+              few = items-small;
+              there = rw q (fields-there first n (length ws) (through .there));
+              none-over = rw q (fields-fill first n (length ws) (through .there));
+              places = through .items;
+            }
+
+        pub events-room : n ≤ length events
+        events-room = through .events
+
+        pub channels-room : n ≤ length channels
+        channels-room = through .channels
+
+        pub unpack-accepted : (after : Buffers) → after ≡ unpacked p n ws lent → Meets measured (unpackOf first second n ws lent) lent (Accepted n) after
+        unfolding fitCheck
+        unpack-accepted after done = meets-length (left ∙ first-fine list tt tt _ (sym f ∙ ap checked fits)) done

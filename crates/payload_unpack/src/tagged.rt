@@ -47,8 +47,8 @@ fn unpack_parts(
         s = take_field(c, f, s, payload);
         let v = s.value;
         items[k] = v >> up;
-        events[k] = event_of(p, v);
         channels[k] = channel_of(p, v);
+        events[k] = event_of(p, v);
         k += 1;
     }
 }
@@ -76,8 +76,8 @@ fn unpack_parts_last(
     while k < n {
         let v = (window::bits_last(word, k * f) >> down) as u64;
         items[k] = v >> up;
-        events[k] = event_of(p, v);
         channels[k] = channel_of(p, v);
+        events[k] = event_of(p, v);
         k += 1;
     }
 }
@@ -103,8 +103,8 @@ fn unpack_parts_narrow(
     while k * f < last_begins {
         let v = (window::bits(payload, k * f) >> down) as u64;
         items[k] = v >> up;
-        events[k] = event_of(p, v);
         channels[k] = channel_of(p, v);
+        events[k] = event_of(p, v);
         k += 1;
     }
     unpack_parts_last(p, k, n, payload, items, events, channels);

@@ -2,34 +2,32 @@
 ghost use Rattle.words.specs.Kit.{_≡_, _≤_, length};
 ghost use Rattle.words.specs.Outcome.{checked, measured, Meets};
 ghost use Rattle.payload_unpack.specs.Unpack.{buffers, unpacked, unpackOf};
-ghost use Rattle.payload_unpack.specs.inner.Unpackable.{unpackCheck, Unpackable};
+ghost use Rattle.bitstream.specs.Carried.{needed};
+ghost use Rattle.payload_format.specs.inner.Legal.{Legal};
+ghost use Rattle.payload_unpack.specs.inner.Unpackable.{fitCheck, Unpackable};
 use crate::plain::clear_tags;
 use crate::plain::unpack_plain;
 use crate::tagged::unpack_tagged;
 use payload_format::inner::Packing;
 use payload_format::inner::items_check;
 use payload_format::inner::packing_of;
-use payload_format::inner::words_for;
+use payload_format::inner::words_of;
 use words::Check;
 use words::Length;
 
-// The first refusal of unpacking, by how many words are given and how many places there are.
-fn unpack_check(
-    first: u32,
-    second: u32,
+// COUNT of the words that are given, then ROOM by how many places there are: the refusals of unpacking behind those of a format and n.
+fn fit_check(
+    p: Packing,
     n: usize,
     given: usize,
     items: usize,
     events: usize,
     channels: usize,
 ) -> Check
-    ensures { λ r. ⌜ checked r ≡ unpackCheck first second n given items events channels ⌝ }
+    requires { ⌜ Legal p × (n ≤ 2097120) ⌝ }
+    ensures { λ r. ⌜ checked r ≡ fitCheck (needed (p .carry) (p .field) n) n given items events channels ⌝ }
 {
-    let asked = items_check(first, second, n);
-    if let Check::Refused(number) = asked {
-        return Check::Refused(number);
-    }
-    if given != words_for(first, n) {
+    if given != words_of(p.carry, p.field, n) {
         return Check::Refused(words::COUNT);
     }
     if items < n {
@@ -84,18 +82,16 @@ pub fn unpack(
         (buffers (now (items .entry)) (now (events .entry)) (now (channels .entry))) r
         (buffers (now (items .exit)) (now (events .exit)) (now (channels .exit))) ⌝ }
 {
-    let checked = unpack_check(
-        first,
-        second,
-        n,
-        payload.len(),
-        items.len(),
-        events.len(),
-        channels.len(),
-    );
-    if let Check::Refused(number) = checked {
+    let asked = items_check(first, second, n);
+    if let Check::Refused(number) = asked {
         return Length::Refused(number);
     }
-    unpack_fields(packing_of(first), n, payload, items, events, channels);
+    let p = packing_of(first);
+    let given = payload.len();
+    let fit = fit_check(p, n, given, items.len(), events.len(), channels.len());
+    if let Check::Refused(number) = fit {
+        return Length::Refused(number);
+    }
+    unpack_fields(p, n, payload, items, events, channels);
     Length::Accepted(n)
 }

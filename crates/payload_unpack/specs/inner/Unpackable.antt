@@ -1,16 +1,23 @@
 -- What the functions inside are given, what their checks answer, and what a loop that goes on promises.
-use Rattle.words.specs.Kit.{_≡_, ℕ, _+_, _*_, _≤_, _<_, List, length}
+use Rattle.words.specs.Kit.{_≡_, ℕ, _+_, _*_, _≤_, _<_, not, List, [], _∷_, eqb, ltb, length}
+use Rattle.words.specs.Numbers.{COUNT, ROOM}
+use Rattle.words.specs.Tests.{either}
 use Rattle.words.specs.Outcome.{Outcome, accepted}
-use Rattle.words.specs.Refusals.{firstGiven}
+use Rattle.words.specs.Refusals.{Refusals, firstGiven}
 use Rattle.bitstream.specs.inner.FilledOn.{FilledOn}
 use Rattle.payload_format.specs.declared.inner.Packing.{Packing}
 use Rattle.payload_format.specs.inner.Legal.{Legal}
 use Rattle.payload_format.specs.Field.{fieldIn, itemIn, eventIn, channelIn}
-use Rattle.payload_unpack.specs.Unpack.{Buffers, unpackList}
+use Rattle.payload_unpack.specs.Unpack.{Buffers}
 
--- the first refusal of unpacking
-unfoldable pub unpackCheck : (first second n given items events channels : ℕ) → Outcome Unit
-unpackCheck first second n given items events channels = firstGiven (unpackList first second n given items events channels) (accepted tt)
+-- the refusals of unpacking behind those of a format and n, by the words that are needed and given, and the places
+abbrev pub fitList : (words n given items events channels : ℕ) → Refusals
+fitList words n given items events channels =
+    (COUNT, not (eqb given words)) ∷ (ROOM, either (ltb items n) (either (ltb events n) (ltb channels n))) ∷ []
+
+-- the first of them
+unfoldable pub fitCheck : (words n given items events channels : ℕ) → Outcome Unit
+fitCheck words n given items events channels = firstGiven (fitList words n given items events channels) (accepted tt)
 
 -- n fields in the words ws, which are just as many as hold them, and room for n entries
 pub record Unpackable (p : Packing) (n : ℕ) (ws : List ℕ) (room : ℕ) : Type 0 where

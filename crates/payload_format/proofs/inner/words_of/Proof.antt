@@ -1,15 +1,26 @@
--- `words_of` meets its promise: the product stays small.
+-- `words_of` meets its promise: the product stays small, so that 32 bits hold it.
 use Rattle.bitstream.specs.Carried.{needed}
-use Rattle.words.proofs.Kit.{arith, refl, needs}
-use native.Mathlib.Nat.{mul-le-mul-right}
+use Rattle.words.proofs.Kit.{_+_, _-_, _*_, arith, refl, needs}
+use native.Mathlib.Nat.{mul-le-mul-right, div-le-self}
 use Rattle.payload_format.proofs.inner.words_of.Statement.{statement}
 use Rattle.payload_format.proofs.inner.words_of.Tie as tie
 
-mul-result : tie.Need-mul-result
-mul-result c = omega (arith, mul-le-mul-right (c .args .n) (c .pre .2))
+mul-bits : tie.Need-mul-bits
+mul-bits c = omega (arith, mul-le-mul-right (c .args .n) (c .pre .2))
 
-add-result : tie.Need-add-result
-add-result c = omega (arith, mul-le-mul-right (c .args .n) (c .pre .2))
+add-bits : tie.Need-add-bits
+add-bits c = omega (arith, mul-le-mul-right (c .args .n) (c .pre .2))
+
+cast-bits : tie.Need-cast-bits
+cast-bits c =
+    let start : tie.Start = search in
+    omega (arith, mul-le-mul-right (start .args .n) (start .pre .2))
+
+cast-result-2 : tie.Need-cast-result-2
+cast-result-2 c =
+    let start : tie.Start = search in
+    let a = start .args in
+    omega (arith, mul-le-mul-right (a .n) (start .pre .2), div-le-self (a .f * a .n + (a .c - 1)) (a .c))
 
 returns : tie.Need-returns
 unfolding needed
@@ -17,4 +28,5 @@ returns c = refl
 
 pub words-of-spec : {M : Type 1} → statement M
 words-of-spec =
-    tie.close (tie.spec mul-result (λ c. search needs) add-result (λ c. search needs) returns)
+    tie.close
+    (tie.spec mul-bits (λ c. search needs) add-bits cast-bits (λ c. search needs) (λ c. search needs) cast-result-2 returns)

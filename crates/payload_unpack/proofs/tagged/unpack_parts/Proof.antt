@@ -17,6 +17,6 @@ unpack-parts-spec =
     tie.close
     (tie.spec
     Inv-loop μ-loop (λ c. search needs) (λ c κs. search needs) (λ c. search (parts-none, reading-start)) (λ c κs. search field-can) (λ c. search needs)
-    (λ c. search needs) (λ c. search needs) (λ c κs. search needs) (λ c. search needs) (λ c κs. search needs) (λ c. search needs) (λ c. search needs)
+    (λ c. search needs) (λ c. search needs) (λ c κs. search needs) (λ c. search needs) (λ c. search needs) (λ c κs. search needs) (λ c. search needs)
     (λ c. search needs) (λ c. search needs) (λ c. search (parts-turn, reading-field, reading-next)) (λ c. search needs) (λ c. search needs)
     (λ c. search needs) (λ c. search parts-all))

@@ -24,8 +24,8 @@ pub unpack-parts-last-spec : {M : Type 1} → statement M
 unpack-parts-last-spec =
     tie.close
     (tie.spec
-    Inv-loop μ-loop (λ c. search needs) (λ c. search needs) (λ c. omega (arith, words-some)) (λ c. omega (arith, words-few))
-    (λ c. omega (arith, words-some)) (λ c. search parts-start) (λ c. omega (arith, place (search))) (λ c κs. search needs) (λ c. search needs)
-    (λ c. search needs) (λ c. search shifted-small) (λ c. search needs) (λ c. search needs) (λ c. search needs) (λ c κs. search needs)
-    (λ c. search needs) (λ c κs. search needs) (λ c. search needs) (λ c. search needs) (λ c. search needs) (λ c. search needs)
-    (λ c. search (parts-turn, field-last, words-small)) (λ c. search needs) (λ c. search needs) (λ c. search needs) (λ c. search parts-end))
+    Inv-loop μ-loop (λ c. search needs) (λ c. search needs) (λ c. omega (arith, words-some)) (λ c. omega (arith, words-few)) (λ c. omega (arith, words-some))
+    (λ c. search parts-start) (λ c. omega (arith, place (search))) (λ c κs. search needs) (λ c. search needs) (λ c. search needs) (λ c. search shifted-small)
+    (λ c. search needs) (λ c. search needs) (λ c. search needs) (λ c κs. search needs) (λ c. search needs) (λ c. search needs) (λ c κs. search needs)
+    (λ c. search needs) (λ c. search needs) (λ c. search needs) (λ c. search (parts-turn, field-last, words-small)) (λ c. search needs) (λ c. search needs)
+    (λ c. search needs) (λ c. search parts-end))

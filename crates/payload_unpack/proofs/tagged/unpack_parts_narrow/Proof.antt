@@ -27,9 +27,8 @@ unpack-parts-narrow-spec =
     tie.close
     (tie.spec
     Inv-loop μ-loop (λ c. search needs) (λ c. search needs) (λ c. omega (arith, words-some)) (λ c. omega (arith, words-few)) (λ c. search parts-none)
-    (λ c. omega (arith, place (search))) (λ c. omega (arith, place (search))) (λ c κs. search (place, word-behind)) (λ c. search needs)
-    (λ c. search needs) (λ c. search shifted-small) (λ c. search needs) (λ c. omega (arith, turn (search))) (λ c. omega (arith, turn (search)))
-    (λ c κs. search needs) (λ c. omega (arith, turn (search))) (λ c κs. search needs) (λ c. omega (arith, turn (search)))
-    (λ c. omega (arith, turn (search))) (λ c. omega (arith, turn (search))) (λ c. omega (arith, turn (search)))
-    (λ c. search (parts-turn, turn, field-here)) (λ c κs. search (needs, placed-still)) (λ c. search needs) (λ c. search needs) (λ c. search needs)
-    (λ c. search parts-on))
+    (λ c. omega (arith, place (search))) (λ c. omega (arith, place (search))) (λ c κs. search (place, word-behind)) (λ c. search needs) (λ c. search needs)
+    (λ c. search shifted-small) (λ c. search needs) (λ c. omega (arith, turn (search))) (λ c. omega (arith, turn (search))) (λ c κs. search needs)
+    (λ c. omega (arith, turn (search))) (λ c. omega (arith, turn (search))) (λ c κs. search needs) (λ c. omega (arith, turn (search)))
+    (λ c. omega (arith, turn (search))) (λ c. omega (arith, turn (search))) (λ c. search (parts-turn, turn, field-here))
+    (λ c κs. search (needs, placed-still)) (λ c. search needs) (λ c. search needs) (λ c. search needs) (λ c. search parts-on))
