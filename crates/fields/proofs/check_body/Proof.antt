@@ -1,57 +1,36 @@
 -- `check_body` meets its promise: each return is a line of the chain of refusals, its tests being what the walk found.
-use Rattle.words.proofs.Kit.{eq-eqb, ne-eqb, needs}
-use Rattle.fields.specs.Layout.{contextOf, lowBitsSet, otherLength, ruleBroken}
+use Rattle.words.proofs.Kit.{ℕ, _+_, _%_, _^_, _≡_, Bool, true, false, List, drop, length, eq-eqb, ne-eqb, needs}
+use Rattle.words.specs.Numbers.{INDICATOR, LAYOUT, FIELD}
+use Rattle.words.specs.Outcome.{refused, accepted}
+use Rattle.words.specs.SetBits.{bitsOf}
+use Rattle.fields.specs.Layout.{indicatorOf, spanOf, obeyed, contextOf, lowBitsSet, otherLength, ruleBroken}
 use Rattle.fields.proofs.WalkLaws.{walked-words, walked-rules}
 use Rattle.fields.proofs.check_body.Statement.{statement}
 use Rattle.fields.proofs.check_body.Tie as tie
 
-returns : tie.Need-returns
-unfolding contextOf lowBitsSet
-returns c = rw (← c .before .word-at .ensures, ne-eqb _ _ (c .if1 .taken))
+module _ (body : List ℕ) (w : ℕ) (i : w ≡ indicatorOf body) where
+  low-bits : (w % 256 ≡ 0 → ⊥) → refused INDICATOR ≡ contextOf body
+  unfolding contextOf lowBitsSet
+  low-bits d = rw (← i, ne-eqb (w % 256) 0 d)
 
-returns-2 : tie.Need-returns-2
-unfolding contextOf lowBitsSet otherLength
-returns-2 c =
-    let at-word-at : tie.After-word-at = search in
-    let w = at-word-at .word-at in
-    rw (
-      ← w .ensures,
-      eq-eqb _ _ (c .before .before .before .if1 .left),
-      walked-words _ _ _ (w .ensures) (c .before .before .walk .ensures .0),
-      ne-eqb _ _
-          (c .if2 .taken),
-    )
+  module _ (zero : w % 256 ≡ 0) (end : ℕ) (e : end ≡ 1 + spanOf (bitsOf 31 (w % 2 ^ 31)) (drop 1 body)) where
+    other-length : (end ≡ length body → ⊥) → refused LAYOUT ≡ contextOf body
+    unfolding contextOf lowBitsSet otherLength
+    other-length d = rw (walked-words w end body i e, ← i, eq-eqb (w % 256) 0 zero, ne-eqb end (length body) d)
 
-returns-3 : tie.Need-returns-3
-unfolding contextOf lowBitsSet otherLength ruleBroken
-returns-3 c =
-    let k = c .before .before .before in
-    let w = k .before .before .word-at in
-    rw (
-      walked-rules _ _ _ (w .ensures) (k .walk .ensures .1),
-      walked-words _ _ _ (w .ensures) (k .walk .ensures .0),
-      ← w .ensures,
-      eq-eqb _ _
-          (k .before .if1 .left),
-      eq-eqb _ _ (c .before .if2 .left),
-      c .if3 .taken,
-    )
+    module _ (whole : end ≡ length body) (kept : Bool) (k : kept ≡ obeyed (bitsOf 31 (w % 2 ^ 31)) (drop 1 body)) where
+      fine : kept ≡ true → accepted tt ≡ contextOf body
+      unfolding contextOf lowBitsSet otherLength ruleBroken
+      fine t =
+          rw (walked-words w end body i e, walked-rules w kept body i k, ← i, eq-eqb (w % 256) 0 zero, eq-eqb end (length body) whole, t)
 
-returns-4 : tie.Need-returns-4
-unfolding contextOf lowBitsSet otherLength ruleBroken
-returns-4 c =
-    let k = c .before .before .before in
-    let w = k .before .before .word-at in
-    rw (
-      walked-rules _ _ _ (w .ensures) (k .walk .ensures .1),
-      walked-words _ _ _ (w .ensures) (k .walk .ensures .0),
-      ← w .ensures,
-      eq-eqb _ _
-          (k .before .if1 .left),
-      eq-eqb _ _ (c .before .if2 .left),
-      c .if3 .left,
-    )
+      rule-broken : kept ≡ false → refused FIELD ≡ contextOf body
+      unfolding contextOf lowBitsSet otherLength ruleBroken
+      rule-broken f =
+          rw (walked-words w end body i e, walked-rules w kept body i k, ← i, eq-eqb (w % 256) 0 zero, eq-eqb end (length body) whole, f)
 
 pub check-body-spec : {M : Type 1} → statement M
 check-body-spec =
-    tie.close (tie.spec (λ c κs. search needs) returns (λ c κs. search needs) returns-2 returns-3 returns-4)
+    tie.close
+    (tie.spec
+    (λ c κs. search needs) (λ c. search low-bits) (λ c κs. search needs) (λ c. search other-length) (λ c. search fine) (λ c. search rule-broken))
