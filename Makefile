@@ -69,8 +69,9 @@ speed:
 stack: lib
 	@tools/stack
 
-# what the proofs weigh, and whether they keep to their rules
+# what the proofs weigh, whether they keep to their rules, and whether the lists of calls have every public function
 count: python
+	@tools/check_calls
 	@tools/count
 
 # makes the vectors and what they should give again, from the reference
