@@ -1,5 +1,6 @@
 -- The demands are met. Each line cites the theorem that proves it.
 use Rattle.words.proofs.Kit.{refl, _∙_, []}
+use Rattle.packet_trailer.proofs.TrailerLaws.{trailer-again, trailer-back}
 use Rattle.table.proofs.StartLaws.{start-well-made}
 use Rattle.vrt49.proofs.CallLaws.{every-once, every-some, every-leaves, every-order, every-zero}
 use Rattle.demands.specs.Calls.{calls}
@@ -19,7 +20,7 @@ use Rattle.demands.proofs.Packings.{packed-as, unpacked-as}
 use Rattle.demands.proofs.ShownAs.{shown-as}
 use Rattle.demands.proofs.RightLaws.{start-accepts, right-start, right-on, answers-on, past-on}
 use Rattle.demands.proofs.Resumed.{saves, resumes, no-room, days}
-use Rattle.demands.proofs.PanelShows.{shows}
+use Rattle.demands.proofs.PanelShows.{shows, changes}
 use Rattle.demands.proofs.OwnRight.{own-right}
 use Rattle.demands.proofs.RunLaws.{runs}
 use Rattle.demands.proofs.PastUnread.{past-unread}
@@ -48,15 +49,20 @@ demand-2 = record {
   reads = λ ws. refl;
   finds = λ b body. refl;
   writes = λ p body out at. refl;
+  trailers = λ w. refl;
+  trailer-words = λ enables indicators e associated. refl;
   packs = λ first second items events channels out. refl;
   unpacks = λ first second n ws b. refl;
   fields = fields-found;
   again = written-again;
   back = written-back;
+  trailer-again = trailer-again;
+  trailer-back = trailer-back;
   unpacked = pack-then-unpack;
   packed = unpack-then-pack;
   packs-as = packed-as;
   unpacks-as = unpacked-as;
+  readings = λ table stream bit. refl;
   shown-as = shown-as;
 }
 
@@ -67,6 +73,7 @@ demand-3 = record {
   answers = λ ids t d e packets. answers-on ids [] packets (d .leaves) (right-start ids t d e);
   past = λ ids t d e packets. past-on ids packets (d .leaves) (right-start ids t d e .streams) ∙ start-well-made ids t d e .past;
   shows = shows;
+  changes = changes;
   own = own-right;
   runs = runs;
   unread = past-unread;

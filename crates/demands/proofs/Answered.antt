@@ -34,7 +34,7 @@ use Rattle.panel_streams.specs.Identity.{Declared, identityPaper}
 use Rattle.panel_streams.specs.TypeCounts.{Count, started, notStarted, typeCountsPaper}
 use Rattle.panel_streams.specs.Changed.{changedPaper}
 use Rattle.demands.specs.Calls.{lends, SomeOutcome, Each, calls}
-use Rattle.demands.proofs.Listing.{_and_}
+use Rattle.vrt49.proofs.CallLaws.{_and_}
 
 -- some answer reads so
 abbrev Says : {A B : Type 0} → (A → B) → B → Type 0

@@ -1,7 +1,6 @@
 -- The proofs of the demands. AllMet has the theorems; the others are what they cite, each file opening with its idea.
 
 -- proofs one after the other
-pub mod Listing
 -- some outcome meets every promise
 pub mod Answered
 -- every promise leaves one outcome, and a refusal the lent words

@@ -11,7 +11,7 @@ use Rattle.play.proofs.Uniqueness.{play-once, play-run-once}
 use Rattle.panel.proofs.Uniqueness.{reading-once, readings-once}
 use Rattle.panel_streams.proofs.Uniqueness.{identity-once, counts-once, changed-once}
 use Rattle.demands.specs.Calls.{Call, answers, lends, OneOutcome, RefusalLeaves, Each, calls}
-use Rattle.demands.proofs.Listing.{_and_}
+use Rattle.vrt49.proofs.CallLaws.{_and_}
 
 -- ---- one outcome
 

@@ -23,7 +23,7 @@ use Rattle.demands.specs.Trace.{Arrival, placeIn, arrivalOf, heardBy, tr
 use Rattle.demands.specs.Program.{ours}
 use Rattle.demands.specs.Right.{heldIn, Right}
 use Rattle.demands.specs.OwnRight.{OwnRight}
-use Rattle.demands.proofs.Listing.{_and_}
+use Rattle.vrt49.proofs.CallLaws.{_and_}
 use Rattle.demands.proofs.RuleLaws.{own-append}
 
 -- ---- a packet as stream 0's: no rule sees the difference

@@ -1,18 +1,21 @@
 -- What is seen is what is held. The idea: no test refuses a stream of the list and a kept field of a right table (`asked`); and what a record shows, or gives
 -- as words, is by what it holds (`shows-held`, `words-held`), which the rules fix; so are its held indicator (`some-carried`) and its counts (`count-by`).
-use Rattle.words.proofs.Kit.{_≡_, refl, sym, ap, _∙_, Bool, true, false, List, [], _∷_, _++_, ℕ, _+_, _-_, _≤_, _<_, arith, ne-eqb, lt-ltb}
+use Rattle.words.proofs.Kit.{_≡_, refl, sym, ap, _∙_, Bool, true, false, List, [], _∷_, _++_, ℕ, _+_, _-_, _≤_, _<_, arith, ⊎-elim, ne-eqb, lt-ltb}
 use Rattle.words.proofs.Kit.{le-ltb, lt-leb, leb, length, drop}
 use mathlib.Core.List.{map}
 use mathlib.Core.Option.{Option, some, none}
+use native.Mathlib.Nat.{lt-of-lt-of-le}
+use lib.Pow.{pow-mono}
 use borrow.Author.Tests.{leb-true}
 use Rattle.words.specs.Numbers.{ROOM}
 use Rattle.words.specs.Tests.{pick, among, either}
 use Rattle.words.specs.Word.{has}
 use Rattle.words.specs.Part.{part}
 use Rattle.words.specs.Outcome.{refused, accepted}
-use Rattle.words.proofs.Cases.{both-left, both-right}
+use Rattle.words.proofs.Cases.{both-left, both-right, both-no, le-or-lt}
 use Rattle.words.proofs.RefusalLaws.{None, none-given}
 use Rattle.words.proofs.PartLaws.{part-part}
+use Rattle.words.proofs.SetBitLaws.{has-above}
 use Rattle.fields.specs.Layout.{fieldOf}
 use Rattle.record.specs.Held.{heldBits}
 use Rattle.record.specs.Layout.{recordWords, heldOf, countedTypes, orderOf, countAt, countWords, slotOf, isHeld, heldWordsIn}
@@ -25,13 +28,16 @@ use Rattle.panel.specs.AllReadings.{recordReadings, readingsOf}
 use Rattle.panel.specs.HeldWords.{heldWordsOf}
 use Rattle.panel.specs.Readings.{absent, shownOf, recordShows, readingList, readingOf}
 use Rattle.panel.proofs.AllReadingLaws.{map-both}
+use Rattle.panel_streams.specs.Changed.{differs, changedIn, changedList, changedOf}
+use Rattle.panel_streams.proofs.ChangedLaws.{marked-small, marked-has}
 use Rattle.panel_streams.specs.Identity.{Declared, declaredIn, identityOf}
 use Rattle.panel_streams.specs.TypeCounts.{countIn, typeCountIn, typeCountsOf}
 use Rattle.demands.specs.Trace.{Arrival, traceOf, own, kept, carries, valueCarried, orElse, lastCarried, countsOf, lastCount, countRule}
 use Rattle.demands.specs.Program.{ours}
 use Rattle.demands.specs.Right.{heldIn, Right}
-use Rattle.demands.specs.PanelShows.{shownBy, wordsBy, someCarried, countBy, PanelShows}
-use Rattle.demands.proofs.Listing.{_and_}
+use Rattle.demands.specs.PanelShows.{shownBy, wordsBy, changedBy, someCarried, countBy, PanelShows}
+use Rattle.demands.proofs.RecordLaws.{kept-same}
+use Rattle.vrt49.proofs.CallLaws.{_and_}
 
 -- ---- a record
 
@@ -107,18 +113,18 @@ module _ (ids : List ℕ) (packets : List (List ℕ)) (t : List ℕ) (r : Right 
   unfolding readingsOf recordReadings
   all-shown = none-given (streamNumberList t s) _ numbered ∙ ap accepted (map-both _ _ heldBits heldBits 0 0 refl (λ i l. shows-last _))
 
-  module _ (b : ℕ) (k : kept b ≡ true) (out : List ℕ) where
-    words-are : heldWordsIn b (recordAt s t) ≡ wordsBy (lastCarried b (own s (traceOf ids packets)))
-    words-are = words-held b (recordAt s t) ∙ ap wordsBy (r .held s h b)
+  words-are : (b : ℕ) → heldWordsIn b (recordAt s t) ≡ wordsBy (lastCarried b (own s (traceOf ids packets)))
+  words-are b = words-held b (recordAt s t) ∙ ap wordsBy (r .held s h b)
 
+  module _ (b : ℕ) (k : kept b ≡ true) (out : List ℕ) where
     pub held-words-last : let ws = wordsBy (lastCarried b (own s (traceOf ids packets))) in
         length ws ≤ length out → heldWordsOf t s b out ≡ accepted (record { says = length ws; leaves = ws ++ drop (length ws) out })
     unfolding heldWordsOf
-    held-words-last g = none-given (readingList t s b) _ (asked b k) ∙ rw (words-are, le-ltb _ _ g)
+    held-words-last g = none-given (readingList t s b) _ (asked b k) ∙ rw (words-are b, le-ltb _ _ g)
 
     pub held-words-room : length out < length (wordsBy (lastCarried b (own s (traceOf ids packets)))) → heldWordsOf t s b out ≡ refused ROOM
     unfolding heldWordsOf
-    held-words-room g = none-given (readingList t s b) _ (asked b k) ∙ rw (words-are, lt-ltb _ _ g)
+    held-words-room g = none-given (readingList t s b) _ (asked b k) ∙ rw (words-are b, lt-ltb _ _ g)
 
   pub counts-stand : (kind : ℕ) → among kind countedTypes ≡ true
       → part (base s + countAt (orderOf kind)) 3 t ≡ countRule (countsOf kind (own s (traceOf ids packets)))
@@ -126,13 +132,10 @@ module _ (ids : List ℕ) (packets : List (List ℕ)) (t : List ℕ) (r : Right 
   counts-stand kind o =
       sym (part-part (countAt (orderOf kind)) 3 (base s) recordWords t (omega (arith, order-small kind))) ∙ r .counts s h kind o
 
-  known : None (streamNumberList t s)
-  known = (rw (r .made)) and (rw (r .streams, lt-leb (length ids) s h)) and tt
-
   pub counts-said : (kind : ℕ) → among kind countedTypes ≡ true → typeCountsOf t s kind ≡ accepted (countBy (countsOf kind (own s (traceOf ids packets))))
   unfolding typeCountsOf typeCountIn
   counts-said kind o =
-      none-given (streamNumberList t s) _ known
+      none-given (streamNumberList t s) _ numbered
       ∙ rw o (ap accepted (ap countIn (r .counts s h kind o) ∙ count-by (countsOf kind (own s (traceOf ids packets)))))
 
   pub identified : (d : Declared) × (identityOf t s ≡ accepted d) × (d .identifier ≡ listed ids s)
@@ -140,7 +143,7 @@ module _ (ids : List ℕ) (packets : List (List ℕ)) (t : List ℕ) (r : Right 
   unfolding identityOf declaredIn
   identified = (
     declaredIn (recordAt s t),
-    none-given (streamNumberList t s) _ known,
+    none-given (streamNumberList t s) _ numbered,
     record-identifier s t ∙ r .list s h,
     λ b.
         sym (some-pick (has (heldOf (recordAt s t)) b) (slotOf b (recordAt s t))) ∙ ap isSome (r .held s h b)
@@ -157,3 +160,33 @@ module _ (ids : List ℕ) (packets : List (List ℕ)) (t : List ℕ) (r : Right 
     typeCounts = counts-said;
     identity = identified;
   }
+
+-- ---- two right tables
+
+module _ (ids : List ℕ) (packets : List (List ℕ)) (t : List ℕ) (r : Right ids packets t) (s : ℕ) (h : s < length ids)
+    (others : List ℕ) (heard : List (List ℕ)) (u : List ℕ) (q : Right others heard u) (v : ℕ) (g : v < length others) where
+  fits : None (changedList t s u v)
+  fits =
+      (rw (r .made, q .made)) and (rw (r .streams, q .streams, lt-leb (length ids) s h, lt-leb (length others) v g)) and tt
+
+  differs-by : (b : ℕ) → differs (recordAt s t) (recordAt v u) b
+      ≡ changedBy b (lastCarried b (own s (traceOf ids packets))) (lastCarried b (own v (traceOf others heard)))
+  unfolding differs
+  differs-by b = rw (kept-same b, words-are ids packets t r s h b, words-are others heard u q v g b)
+
+  not-kept : (b : ℕ) → 31 ≤ b → kept b ≡ false
+  not-kept b l = rw (lt-leb b 30 (omega arith), both-no (leb 10 b))
+
+  pub changes : (w : ℕ) × (changedOf t s u v ≡ accepted w)
+      × ((b : ℕ) → has w b ≡ changedBy b (lastCarried b (own s (traceOf ids packets))) (lastCarried b (own v (traceOf others heard))))
+  unfolding changedOf changedIn
+  changes = (
+    changedIn (recordAt s t) (recordAt v u),
+    none-given (changedList t s u v) _ fits,
+    λ b.
+        ⊎-elim
+        (λ (l : 31 ≤ b).
+        has-above _ b (lt-of-lt-of-le (marked-small 31 (differs (recordAt s t) (recordAt v u))) (pow-mono l)) ∙ rw (not-kept b l))
+        (λ (l : b < 31). marked-has 31 (differs (recordAt s t) (recordAt v u)) b l ∙ differs-by b)
+        (le-or-lt 31 b),
+  )

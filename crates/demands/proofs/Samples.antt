@@ -25,7 +25,7 @@ use Rattle.record.specs.Counts.{missedOf}
 use Rattle.panel.specs.Values.{unitsOf, share, over, lowerHalf}
 use Rattle.panel.specs.Readings.{isFrequency, shownOf}
 use Rattle.demands.specs.Samples.{Hold, bench}
-use Rattle.demands.proofs.Listing.{_and_}
+use Rattle.vrt49.proofs.CallLaws.{_and_}
 
 pub samples : Hold bench
 unfolding bench classBad part bitsOf above all fieldSize asciiWords listWords wordsOf codeKnown codeFits formatOk notNegative upperHalfZero deviceRule stateRule

@@ -82,7 +82,7 @@ trailerPartsCall = answers plain trailerOf
 abbrev pub trailerWordCall : Call
 trailerWordCall = answers trailerPaper (λ (h : ℕ × ℕ × ℕ × ℕ). trailerWordOf (h .0) (h .1) (h .2) (h .3))
 
--- payload_format::words_needed, unpack, pack, signed
+-- payload_format::words_needed, payload_unpack::unpack, payload_pack::pack, payload_format::signed
 abbrev pub wordsNeededCall : Call
 wordsNeededCall = answers measured (λ (h : ℕ × ℕ × ℕ). neededOf (h .0) (h .1) (h .2))
 

@@ -4,7 +4,7 @@ use Rattle.words.specs.Kit.{_≡_, ℕ, _≤_, _<_, List, [], _∷_, _++_, leng
 use mathlib.Core.List.{map}
 use Rattle.words.specs.declared.Length.{Length}
 use Rattle.words.specs.Outcome.{accepted, measured, Meets}
-use Rattle.table.specs.Layout.{base, recordAt}
+use Rattle.table.specs.Layout.{layoutWords, recordAt}
 use Rattle.table.specs.Start.{startOf}
 use Rattle.play.specs.declared.Played.{Played}
 use Rattle.play.specs.Play as Play
@@ -72,7 +72,7 @@ pub record Demand3Made : Type 0 where
       → Ruled ids [] packets answers last
   -- "Save a page after any packet, put it back where there is room": it is accepted there
   pub puts-back : (ids : List ℕ) (packets : List (List ℕ)) (t page room back : List ℕ) (r : Length) → Right ids packets t → SaveMade t page
-      → base (length ids) ≤ length room → Meets measured (putBackOf page room) room r back → measured r ≡ accepted (base (length ids))
+      → layoutWords (length ids) ≤ length room → Meets measured (putBackOf page room) room r back → measured r ≡ accepted (layoutWords (length ids))
   -- "play the rest", with any number of stops
   pub days : (ids lent t last : List ℕ) (packets : List (List ℕ)) (answers : List Played) (stops : List Stop) → StartMade ids lent t
       → DayMade [] t packets answers stops last → Ruled ids [] packets answers last × SamePagesMade t stops

@@ -1,7 +1,8 @@
 -- The three demands, in the words of the person this is built for (quoted above each statement), as statements about a program (Program). proofs/AllMet.antt
 -- proves them of `ours`, the program of this project, and so of the code.
-use Rattle.words.specs.Kit.{_≡_, ℕ, _+_, _≤_, _<_, true, List, [], _++_, length, take, drop}
+use Rattle.words.specs.Kit.{_≡_, ℕ, _+_, _^_, _≤_, _<_, true, List, [], _++_, eqb, length, take, drop}
 use Rattle.words.specs.Numbers.{ROOM}
+use Rattle.words.specs.Word.{bits, has}
 use Rattle.words.specs.Part.{part}
 use Rattle.words.specs.Outcome.{Outcome, refused, accepted, Done, saidOf, leftOf}
 use Rattle.fields.specs.Layout.{foundOf}
@@ -9,12 +10,14 @@ use Rattle.packet.specs.declared.Packet.{Packet}
 use Rattle.packet.specs.declared.Parts.{Parts}
 use Rattle.packet.specs.Parts.{bodyAt}
 use Rattle.packet.specs.Read.{readOf}
+use Rattle.packet_trailer.specs.Trailer.{trailerOf, trailerWordOf}
 use Rattle.packet_write.specs.Write.{headerWord, sizeFor, plainParts, writeOf}
 use Rattle.payload_unpack.specs.Unpack.{Buffers, unpackOf}
 use Rattle.payload_pack.specs.Pack.{packOf}
-use Rattle.table.specs.Layout.{base, recordAt}
+use Rattle.table.specs.Layout.{layoutWords, recordAt}
 use Rattle.table.specs.Identifiers.{listed, listGood}
 use Rattle.play.specs.declared.Heard.{Heard}
+use Rattle.panel.specs.Readings.{readingOf}
 use Rattle.demands.specs.Calls.{SomeOutcome, OneOutcome, RefusalLeaves, Each, calls}
 use Rattle.demands.specs.Sources.{Sources}
 use Rattle.demands.specs.Refusals.{InOrder}
@@ -23,11 +26,11 @@ use Rattle.demands.specs.ForC.{ForC}
 use Rattle.demands.specs.Clean.{Clean}
 use Rattle.demands.specs.Packings.{PackedAs}
 use Rattle.demands.specs.ShownAs.{ShownAs}
-use Rattle.demands.specs.Trace.{traceOf, answersAfter}
+use Rattle.demands.specs.Trace.{traceOf, own, lastCarried, answersAfter}
 use Rattle.demands.specs.Program.{Program, Accepts, AreWords, playAll, saidAll}
 use Rattle.demands.specs.FieldFound.{FieldFound}
 use Rattle.demands.specs.Right.{Right, pastOf}
-use Rattle.demands.specs.PanelShows.{PanelShows}
+use Rattle.demands.specs.PanelShows.{changedBy, PanelShows}
 use Rattle.demands.specs.OwnRight.{OwnRight}
 use Rattle.demands.specs.Resumed.{Saves, Resumes, Stop, Day, DayRight}
 use Rattle.demands.specs.Recording.{Runs}
@@ -59,6 +62,8 @@ pub record Demand2 (P : Program) : Type 0 where
   pub reads : (ws : List ℕ) → P .read ws ≡ readOf ws
   pub finds : (b : ℕ) (body : List ℕ) → P .find b body ≡ foundOf b body
   pub writes : (p : Parts) (body out : List ℕ) (at : ℕ) → P .write p body out at ≡ writeOf p body out at
+  pub trailers : (w : ℕ) → P .trailerParts w ≡ trailerOf w
+  pub trailer-words : (enables indicators e associated : ℕ) → P .trailerWord enables indicators e associated ≡ trailerWordOf enables indicators e associated
   pub packs : (first second : ℕ) (items events channels out : List ℕ)
       → P .pack first second items events channels out ≡ packOf first second items events channels out
   pub unpacks : (first second n : ℕ) (ws : List ℕ) (b : Buffers) → P .unpack first second n ws b ≡ unpackOf first second n ws b
@@ -73,6 +78,10 @@ pub record Demand2 (P : Program) : Type 0 where
       → let w = headerWord p (sizeFor p (length body)) in
       (P .read (drop at (d .leaves)) ≡ accepted (record { parts = plainParts w p; size = d .says; place = bodyAt w; length = length body }))
       × (part (bodyAt w) (length body) (drop at (d .leaves)) ≡ body)
+  -- "no bit combination is refused": the parts of every trailer word make that word again; and a word that was made says its parts
+  pub trailer-again : (w : ℕ) → w < 2 ^ 32 → P .trailerWord (bits 31 20 w) (bits 19 8 w) (bits 7 7 w) (bits 6 0 w) ≡ accepted w
+  pub trailer-back : (enables indicators e associated w : ℕ) → P .trailerWord enables indicators e associated ≡ accepted w
+      → P .trailerParts w ≡ record { enables = enables; indicators = indicators; e = eqb e 1; associated = associated }
   -- "Legal samples, event tags and channel tags packed and unpacked come back the same"
   pub unpacked : (first second : ℕ) (items events channels out : List ℕ) (d : Done ℕ (List ℕ)) → P .pack first second items events channels out ≡ accepted d
       → (b : Buffers) → length items ≤ length (b .items) → length items ≤ length (b .events) → length items ≤ length (b .channels)
@@ -93,14 +102,15 @@ pub record Demand2 (P : Program) : Type 0 where
       PackedAs first (length items) items events channels ws × Clean first (length items) ws
   pub unpacks-as : (first second n : ℕ) (ws : List ℕ) → AreWords ws → (b : Buffers) (d : Done ℕ Buffers) → P .unpack first second n ws b ≡ accepted d
       → PackedAs first n (take n (d .leaves .items)) (take n (d .leaves .events)) (take n (d .leaves .channels)) ws
-  -- readings for the panel, of any words of a field
+  -- readings for the panel: what each shows of the words of its field
+  pub readings : (table : List ℕ) (stream bit : ℕ) → P .reading table stream bit ≡ readingOf table stream bit
   pub shown-as : (ws : List ℕ) → ShownAs ws
 
 -- ---- demand 3: tables
 
 pub record Demand3 (P : Program) : Type 0 where
   -- "Start a fresh table for any valid list of streams": one is started wherever there is room
-  pub starts : (ids t : List ℕ) → listGood (length ids) (listed ids) ≡ true → base (length ids) ≤ length t → Accepts (P .start ids t)
+  pub starts : (ids t : List ℕ) → listGood (length ids) (listed ids) ≡ true → layoutWords (length ids) ≤ length t → Accepts (P .start ids t)
   -- "and play any packets, refused ones among them": the table is right, each answer is the one that the rules give, and words past the layout stay
   pub right : (ids t : List ℕ) (d : Done ℕ (List ℕ)) → P .start ids t ≡ accepted d → (packets : List (List ℕ))
       → Right ids packets (playAll P (d .leaves) packets)
@@ -110,8 +120,13 @@ pub record Demand3 (P : Program) : Type 0 where
       → pastOf ids (playAll P (d .leaves) packets) ≡ pastOf ids t
   -- what the panel and the caller see of a stream is that value, and these counts
   pub shows : (ids : List ℕ) (packets : List (List ℕ)) (t : List ℕ) → Right ids packets t → (s : ℕ) → s < length ids → PanelShows P ids packets t s
+  -- which fields two tables do not hold alike, such as those before a packet and after it: those whose last carried values are not the same
+  pub changes : (ids : List ℕ) (packets : List (List ℕ)) (t : List ℕ) → Right ids packets t → (s : ℕ) → s < length ids
+      → (others : List ℕ) (heard : List (List ℕ)) (u : List ℕ) → Right others heard u → (v : ℕ) → v < length others
+      → (w : ℕ) × (P .changed t s u v ≡ accepted w)
+      × ((b : ℕ) → has w b ≡ changedBy b (lastCarried b (own s (traceOf ids packets))) (lastCarried b (own v (traceOf others heard))))
   -- a stream's own table is right for its identifier alone and the same packets
-  pub own : (ids : List ℕ) (packets : List (List ℕ)) (t : List ℕ) → Right ids packets t → (s : ℕ) → s < length ids → (out : List ℕ) → base 1 ≤ length out
+  pub own : (ids : List ℕ) (packets : List (List ℕ)) (t : List ℕ) → Right ids packets t → (s : ℕ) → s < length ids → (out : List ℕ) → layoutWords 1 ≤ length out
       → OwnRight P ids packets t s out
   -- many packets in one slice of words are played as one by one
   pub runs : Runs P
@@ -121,10 +136,10 @@ pub record Demand3 (P : Program) : Type 0 where
   pub saves : (ids : List ℕ) (packets : List (List ℕ)) (t : List ℕ) → Right ids packets t → Saves P ids t
   -- "put it back where there is room, play the rest"; without room, ROOM
   pub resumes : (ids : List ℕ) (first rest : List (List ℕ)) (t : List ℕ) → Right ids first t → (buffer : List ℕ) (saved : Done ℕ (List ℕ))
-      → P .save t buffer ≡ accepted saved → (lent : List ℕ) → base (length ids) ≤ length lent
+      → P .save t buffer ≡ accepted saved → (lent : List ℕ) → layoutWords (length ids) ≤ length lent
       → Resumes P ids t first rest (take (saved .says) (saved .leaves)) lent
   pub no-room : (ids : List ℕ) (first : List (List ℕ)) (t : List ℕ) → Right ids first t → (buffer : List ℕ) (saved : Done ℕ (List ℕ))
-      → P .save t buffer ≡ accepted saved → (lent : List ℕ) → length lent < base (length ids)
+      → P .save t buffer ≡ accepted saved → (lent : List ℕ) → length lent < layoutWords (length ids)
       → P .putBack (take (saved .says) (saved .leaves)) lent ≡ refused ROOM
   -- and so all day, with any number of stops: "every answer and the final table equal those of the unbroken play", and so does every page
   pub days : (ids : List ℕ) (first packets : List (List ℕ)) (t last : List ℕ) (answers : List (Outcome Heard)) (stops : List Stop) → Right ids first t

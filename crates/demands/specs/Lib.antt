@@ -32,6 +32,8 @@ pub mod FieldFound
 pub mod Clean
 -- packed samples as document 01 says them
 pub mod Packings
+-- what a reading shows, in document 01's words
+pub mod ShownAs
 -- every public call, with its promise
 pub mod Calls
 -- the cases marked P, as one table
@@ -42,5 +44,3 @@ pub mod Sources
 pub mod ForC
 -- each call for C, tied to its function
 pub mod SourcesForC
--- what a reading shows, in document 01's words
-pub mod ShownAs

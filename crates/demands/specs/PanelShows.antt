@@ -1,10 +1,11 @@
 -- What the panel and the caller see is what is held: `reading`, `readings` and `held_words` answer by the value in the last accepted Context packet of the
--- stream that carried the field, "and nothing if none did"; `counts` by its own accepted packets; `identity` by the list and by which fields were carried.
-use Rattle.words.specs.Kit.{_≡_, ℕ, _+_, _%_, _^_, _≤_, _<_, Bool, true, false, List, [], _∷_, _++_, length, drop}
+-- stream that carried the field, "and nothing if none did"; `counts` by its own accepted packets; `identity` by the list and by which fields were carried; `changed` by the values in
+-- two tables.
+use Rattle.words.specs.Kit.{_≡_, ℕ, _+_, _%_, _^_, _≤_, _<_, Bool, true, false, not, List, [], _∷_, _++_, length, drop}
 use mathlib.Core.List.{map}
 use mathlib.Core.Option.{Option, none, some}
 use Rattle.words.specs.Numbers.{ROOM}
-use Rattle.words.specs.Tests.{among, either}
+use Rattle.words.specs.Tests.{among, both, either, sameWords}
 use Rattle.words.specs.Word.{has}
 use Rattle.words.specs.Part.{part}
 use Rattle.words.specs.Outcome.{refused, accepted}
@@ -27,6 +28,10 @@ shownBy b (some v) = shownOf b v
 abbrev pub wordsBy : Option (List ℕ) → List ℕ
 wordsBy none = []
 wordsBy (some v) = v
+
+-- the field of bit b is kept, and two values of it are not the same, absent being no words
+abbrev pub changedBy : ℕ → Option (List ℕ) → Option (List ℕ) → Bool
+changedBy b x y = both (kept b) (not (sameWords (wordsBy x) (wordsBy y)))
 
 -- some of these packets carried the field of bit b
 abbrev pub someCarried : ℕ → List Arrival → Bool

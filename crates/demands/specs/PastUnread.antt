@@ -3,12 +3,12 @@
 -- tables with one layout get the same answers and the same layouts. (What `start` and `put_back` write over is not read at all: their definitions say so.)
 use Rattle.words.specs.Kit.{_≡_, ℕ, List, _++_, length}
 use Rattle.words.specs.Outcome.{saidOf, leftOf}
-use Rattle.table.specs.Layout.{streamsOf, base}
+use Rattle.table.specs.Layout.{streamsOf, layoutWords}
 use Rattle.demands.specs.Program.{Program}
 
 -- l has the words of a layout and no more: S, and S records, well made or not
 abbrev pub IsLayout : List ℕ → Type 0
-IsLayout l = length l ≡ base (streamsOf l)
+IsLayout l = length l ≡ layoutWords (streamsOf l)
 
 -- of a layout l and the words x past it
 pub record PastUnread (P : Program) (l x : List ℕ) : Type 0 where

@@ -7,6 +7,8 @@ use Rattle.packet.specs.declared.Packet.{Packet}
 use Rattle.packet.specs.declared.Parts.{Parts}
 use Rattle.packet.specs.Read.{readOf}
 use Rattle.packet_write.specs.Write.{writeOf}
+use Rattle.packet_trailer.specs.declared.Trailer.{Trailer}
+use Rattle.packet_trailer.specs.Trailer.{trailerOf, trailerWordOf}
 use Rattle.payload_unpack.specs.Unpack.{Buffers, unpackOf}
 use Rattle.payload_pack.specs.Pack.{packOf}
 use Rattle.table.specs.Start.{startOf}
@@ -31,6 +33,8 @@ pub record Program : Type 0 where
   pub read : List ℕ → Outcome Packet
   pub find : (bit : ℕ) (body : List ℕ) → List ℕ
   pub write : Parts → (body out : List ℕ) (at : ℕ) → Outcome (Done ℕ (List ℕ))
+  pub trailerParts : (word : ℕ) → Trailer
+  pub trailerWord : (enables indicators e associated : ℕ) → Outcome ℕ
   pub pack : (first second : ℕ) (items events channels out : List ℕ) → Outcome (Done ℕ (List ℕ))
   pub unpack : (first second n : ℕ) → List ℕ → Buffers → Outcome (Done ℕ Buffers)
   pub start : (ids table : List ℕ) → Outcome (Done ℕ (List ℕ))
@@ -54,6 +58,8 @@ ours = record {
   read = readOf;
   find = foundOf;
   write = writeOf;
+  trailerParts = trailerOf;
+  trailerWord = trailerWordOf;
   pack = packOf;
   unpack = unpackOf;
   start = startOf;

@@ -19,7 +19,7 @@ use Rattle.words.specs.Signed.{twosComplement}
 use Rattle.payload_format.specs.Signs.{signedList, signedOf}
 use Rattle.payload_unpack.specs.Unpack.{Buffers, unpacked, unpackList, unpackOf}
 use Rattle.record.specs.Layout.{heldWordsIn}
-use Rattle.table.specs.Layout.{base, recordAt}
+use Rattle.table.specs.Layout.{layoutWords, recordAt}
 use Rattle.table.specs.Identifiers.{streamOf}
 use Rattle.table.specs.Stream.{streamNumberList}
 use Rattle.table.specs.Start.{freshTable, startList, startOf}
@@ -35,15 +35,12 @@ use Rattle.panel_streams.specs.Identity.{declaredIn, identityOf}
 use Rattle.panel_streams.specs.TypeCounts.{typeCountIn, typeCountsList, typeCountsOf}
 use Rattle.panel_streams.specs.OwnTable.{ownDone, ownTableList, ownTableOf}
 use Rattle.panel_streams.specs.Changed.{changedIn, changedList, changedOf}
+use Rattle.vrt49.specs.Calls.{readNumbers}
 
 -- a call's list has these numbers in this order; the call gives the first of the list that applies, and is else accepted with this answer
 pub record Ordered {A : Type 0} (call : Outcome A) (numbers : List ℕ) (list : Refusals) (answer : A) : Type 0 where
   pub order : numbersIn list ≡ numbers
   pub first : call ≡ firstGiven list (accepted answer)
-
--- "Read: 1 to 10 as listed"
-abbrev pub readOrder : List ℕ
-readOrder = EMPTY ∷ TYPE ∷ BITS ∷ SHORT ∷ CUT ∷ CLASS ∷ TIME ∷ INDICATOR ∷ LAYOUT ∷ FIELD ∷ []
 
 -- "Write: TYPE, VALUE, SHORT, SIZE, TIME, INDICATOR, LAYOUT, FIELD, ROOM."
 abbrev pub writeOrder : List ℕ
@@ -51,17 +48,18 @@ writeOrder = TYPE ∷ VALUE ∷ SHORT ∷ SIZE ∷ TIME ∷ INDICATOR ∷ LAYOUT
 
 -- of the public calls, those that are not here never refuse
 pub record InOrder : Type 0 where
-  pub read : (ws : List ℕ) → let w = getD ws 0 0 in Ordered (readOf ws) readOrder (readList w ws) (packetOf w ws)
+  -- "Read: 1 to 10 as listed"
+  pub read : (ws : List ℕ) → let w = getD ws 0 0 in Ordered (readOf ws) readNumbers (readList w ws) (packetOf w ws)
   pub write : (p : Parts) (body out : List ℕ) (at : ℕ)
       → Ordered (writeOf p body out at) writeOrder (writeList p body (length out) at) (writtenDone p body out at)
   -- "Start: LIST, ROOM. Play: TABLE, read order, STREAM. Save: TABLE, SIZE, ROOM. Put back: PAGE, ROOM. Reading: TABLE, STREAM, VALUE."
   pub start : (ids t : List ℕ)
-      → Ordered (startOf ids t) (LIST ∷ ROOM ∷ []) (startList ids t) (record { says = base (length ids); leaves = freshTable ids t })
+      → Ordered (startOf ids t) (LIST ∷ ROOM ∷ []) (startList ids t) (record { says = layoutWords (length ids); leaves = freshTable ids t })
   pub play : (t ws : List ℕ) → let p = packetOf (getD ws 0 0) ws in
-      Ordered (playOf t ws) ((TABLE ∷ []) ++ readOrder ++ (STREAM ∷ [])) (playList t ws) (heardDone p (streamOf (p .parts .identifier) t) t ws)
+      Ordered (playOf t ws) ((TABLE ∷ []) ++ readNumbers ++ (STREAM ∷ [])) (playList t ws) (heardDone p (streamOf (p .parts .identifier) t) t ws)
   pub save : (t page : List ℕ)
       → Ordered (saveOf t page) (TABLE ∷ SIZE ∷ ROOM ∷ []) (saveList t page) (record { says = pageLength t; leaves = pageOf t ++ drop (pageLength t) page })
-  pub putBack : (p t : List ℕ) → let n = base (bodiesIn p) in
+  pub putBack : (p t : List ℕ) → let n = layoutWords (bodiesIn p) in
       Ordered (putBackOf p t) (PAGE ∷ ROOM ∷ []) (putBackList p t) (record { says = n; leaves = tableOf p ++ drop n t })
   pub reading : (t : List ℕ) (stream bit : ℕ)
       → Ordered (readingOf t stream bit) (TABLE ∷ STREAM ∷ VALUE ∷ []) (readingList t stream bit) (recordShows bit (recordAt stream t))

@@ -3,7 +3,7 @@
 use Rattle.words.specs.Kit.{_≡_, ℕ, _+_, _*_, _≤_, _<_, List, [], _∷_, _++_, length, take, drop}
 use Rattle.words.specs.Numbers.{ROOM}
 use Rattle.words.specs.Outcome.{Outcome, refused, accepted, Done, saidOf, leftOf}
-use Rattle.table.specs.Layout.{base}
+use Rattle.table.specs.Layout.{layoutWords}
 use Rattle.play.specs.declared.Heard.{Heard}
 use Rattle.demands.specs.Trace.{traceOf, answersAfter}
 use Rattle.demands.specs.Program.{Program, playAll, saidAll}
@@ -29,7 +29,7 @@ pub record Saves (P : Program) (ids t : List ℕ) : Type 0 where
 pub record Resumes (P : Program) (ids t : List ℕ) (first rest : List (List ℕ)) (page lent : List ℕ) : Type 0 where
   pub done : Done ℕ (List ℕ)
   pub accepts : P .putBack page lent ≡ accepted done
-  pub says : done .says ≡ base (length ids)
+  pub says : done .says ≡ layoutWords (length ids)
   pub right : Right ids (first ++ rest) (playAll P (done .leaves) rest)
   pub answers : saidAll P (done .leaves) rest ≡ answersAfter (traceOf ids first) (traceOf ids rest)
   pub same-answers : saidAll P (done .leaves) rest ≡ saidAll P t rest

@@ -5,7 +5,7 @@ use mathlib.Core.Option.{Option, none, some}
 use Rattle.words.specs.Tests.{pick, among}
 use Rattle.words.specs.Word.{has}
 use Rattle.record.specs.Layout.{heldOf, countedTypes, orderOf, countWords, slotOf}
-use Rattle.table.specs.Layout.{streamsOf, base, recordAt}
+use Rattle.table.specs.Layout.{streamsOf, layoutWords, recordAt}
 use Rattle.table.specs.Identifiers.{listed, declared}
 use Rattle.table.specs.Well.{wellMade}
 use Rattle.demands.specs.Trace.{Arrival, traceOf, own, lastCarried, NoneCarried, LastCarried, countsOf, countRule}
@@ -32,10 +32,10 @@ LastMeant = (b : ℕ) (packets : List Arrival)
 
 -- the words of a table's layout, and those past it
 abbrev pub layoutOf : List ℕ → List ℕ → List ℕ
-layoutOf ids t = take (base (length ids)) t
+layoutOf ids t = take (layoutWords (length ids)) t
 
 abbrev pub pastOf : List ℕ → List ℕ → List ℕ
-pastOf ids t = drop (base (length ids)) t
+pastOf ids t = drop (layoutWords (length ids)) t
 
 -- the rules leave nothing open: two tables that are right for the same packets have the same layout
 abbrev pub Determined : Type 0

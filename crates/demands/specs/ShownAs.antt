@@ -5,9 +5,10 @@ use lib.Signed.{nonNeg}
 use lib.Ieee.{Float, binary32, toBits}
 use lib.Ieee.Exact.{HasValue}
 use Rattle.words.specs.Tests.{among}
-use Rattle.words.specs.Word.{bits, highFirst}
+use Rattle.words.specs.Word.{highFirst}
 use Rattle.words.specs.Signed.{twosComplement}
 use Rattle.panel.specs.Pattern.{signField, exponentField, fractionField}
+use Rattle.panel.specs.Values.{lowerHalf, upperHalf}
 use Rattle.panel.specs.Readings.{frequency, level, gain, temperature, other, shownOf}
 
 -- "Frequencies (29 to 25, 21) are whole hertz rounded down, and 0 to 1,048,575 parts of 2^20": both together are z units of 2 ^ -20 hertz
@@ -21,13 +22,6 @@ pub record Exactly (x : Float) (z : ℤ) (k : ℕ) : Type 0 where
   pub fields : toBits binary32 x ≡ signField z * 2 ^ 31 + exponentField k (natAbs z) * 2 ^ 23 + fractionField (natAbs z)
   pub sizes : (exponentField k (natAbs z) < 2 ^ 8) × (fractionField (natAbs z) < 2 ^ 23)
 
--- the halves of a word, signed
-abbrev pub lower : ℕ → ℤ
-lower w = twosComplement 16 (bits 15 0 w)
-
-abbrev pub upper : ℕ → ℤ
-upper w = twosComplement 16 (bits 31 16 w)
-
 -- the fields that show something
 abbrev pub frequencies : List ℕ
 frequencies = 29 ∷ 28 ∷ 27 ∷ 26 ∷ 25 ∷ 21 ∷ []
@@ -36,10 +30,10 @@ pub record ShownAs (ws : List ℕ) : Type 0 where
   pub hertz : (b : ℕ) → b < 31 → among b frequencies ≡ true
       → (whole : ℤ) × (parts : ℕ) × (shownOf b ws ≡ frequency whole parts) × Hertz (twosComplement 64 (highFirst (getD ws 0 0) (getD ws 1 0))) whole parts
   -- "Level is the lower half, signed, over 128"
-  pub levels : (x : Float) × (shownOf 24 ws ≡ level x) × Exactly x (lower (getD ws 0 0)) 7
+  pub levels : (x : Float) × (shownOf 24 ws ≡ level x) × Exactly x (lowerHalf (getD ws 0 0)) 7
   -- "a gain reading shows both stages together (stage 1 the lower half, stage 2 the upper), each over 128"
-  pub stages : (x y : Float) × (shownOf 23 ws ≡ gain x y) × Exactly x (lower (getD ws 0 0)) 7 × Exactly y (upper (getD ws 0 0)) 7
+  pub stages : (x y : Float) × (shownOf 23 ws ≡ gain x y) × Exactly x (lowerHalf (getD ws 0 0)) 7 × Exactly y (upperHalf (getD ws 0 0)) 7
   -- "temperature over 64"
-  pub degrees : (x : Float) × (shownOf 18 ws ≡ temperature x) × Exactly x (lower (getD ws 0 0)) 6
+  pub degrees : (x : Float) × (shownOf 18 ws ≡ temperature x) × Exactly x (lowerHalf (getD ws 0 0)) 6
   -- "other (held, nothing more said)"
   pub others : (b : ℕ) → b < 31 → among b frequencies ≡ false → among b (24 ∷ 23 ∷ 18 ∷ []) ≡ false → shownOf b ws ≡ other

@@ -1,6 +1,7 @@
 -- Each call of the list `calls`, tied to the function that it is: what the function asks of a caller (`Asked`) and what a caller learns from it (`Learnt`), as
--- the prover has them from its `requires` and `ensures`. A promise that is weakened in its crate, or a `requires` that is added there, breaks `Sources`. The
--- last three of a line say where the call's input, its answer and the lent words stand: a has the parameters in their order, ws what is left of each.
+-- the prover has them from its `requires` and `ensures`. A promise that is weakened in its crate, or a `requires` that is added there, breaks `Sources`. Each
+-- line ends with three functions: from the parameters a, in their order, to what the call is handed; from the result z to its answer; and from ws, what is left
+-- behind each parameter, to the lent words.
 use Rattle.words.specs.Kit.{_≡_, ℕ, List}
 use contract.Lifetimes.{Lfts}
 use borrow.Fn.Kinds.{PK, RK, Dens, In, Out, resT, endedOf}

@@ -58,9 +58,9 @@ Listed (answers want) = Unit
 Listed (tells {H} {A} {L} want values lent list numbers) =
     (h : H) → ((a : A) × (want h ≡ firstGiven (list h) (accepted a))) × (numbersIn (list h) ≡ numbers) × Numbers notZero (list h)
 
--- one after the other, in the order of `callsForC`
+-- proofs of each thing in a list, written one after the other
 infixr 4 _and_
-abbrev _and_ : {A B : Type 0} → A → B → A × B
+abbrev pub _and_ : {A B : Type 0} → A → B → A × B
 a and b = (a, b)
 
 listed : EachForC Listed callsForC
