@@ -12,7 +12,8 @@
    before a call sees them (examples/c/tuning.c does it). A buffer is a pointer and its number of
    entries. Values come back through pointers: to one number, such as `length`, or to a struct.
 
-   Calls are reentrant: nothing is kept between them, nothing is shared, and nothing is allocated.
+   Calls are reentrant: nothing is kept between them, nothing is shared, and nothing is allocated;
+   threads may call at once, where none writes what another has handed over.
    The stack that a call takes is fixed: 1240 bytes for vrt49_readings, and less than 600 for every
    other (`make stack`). memcpy, memmove and memset are all that is asked of the C library.
 
@@ -23,9 +24,11 @@
    gives all for one test. vrt49_play_run is the fast one: it tests the table once, and then takes
    110 instructions for a sample packet and 6 for each stream before its own (docs/SPEED.md).
 
-   What a caller owes: a pointer to a number or to a struct is not null; what is written, be it
-   number, struct or buffer, overlaps nothing else that is handed over; a pointer is aligned as its
-   type asks. A buffer of no entries may be null.
+   What a caller owes: every pointer is valid, and aligned as its type asks; a buffer has as many
+   entries as its number says, and an array of a fixed length, such as levels[2], has them all; a
+   pointer to a number, to a struct or to such an array is not null; what is written, be it number,
+   struct, array or buffer, overlaps nothing else that is handed over. A buffer of no entries may be
+   null.
 
    The header is C99 and C++. The library is for x86-64 Linux. */
 #ifndef VRT49_H
@@ -363,7 +366,8 @@ uint32_t vrt49_start(const uint32_t *ids, size_t ids_n, uint32_t *table, size_t 
 /* Whether a table is well made: 1 or 0. Nothing is refused. */
 uint32_t vrt49_well_made(const uint32_t *table, size_t table_n);
 
-/* Plays the packet at the front of the words: TABLE, then 1 to 10 as in reading, STREAM. */
+/* Plays the packet at the front of the words: TABLE, then 1 to 10 as in reading, STREAM. After
+   STREAM go on by the packet's size, which vrt49_read gives; vrt49_play_run does so itself. */
 uint32_t vrt49_play(uint32_t *table, size_t table_n, const uint32_t *words, size_t words_n,
                     vrt49_heard *answer);
 
