@@ -1,4 +1,4 @@
-// The refusals of reading, from the header on. Each number of the list is given in one place.
+// The refusals of reading, from the header on, each number in one place.
 ghost use Rattle.words.specs.Kit.{_≡_, _^_, _≤_, leb, length};
 ghost use Rattle.words.specs.Word.{highFirst};
 ghost use Rattle.words.specs.Outcome.{checked};
