@@ -22,7 +22,7 @@ use Rattle.packet.specs.Parts.{streamed, hasSeconds, hasFraction, classAt, seco
 use Rattle.packet.specs.Parts.{fractionOf, partsOf, bodyOf, packetOf}
 use Rattle.packet.specs.Read.{headerList, prologueList, timeOver, classBad, readOf}
 use Rattle.packet.specs.inner.Steps.{headerChecks, prologueChecks, bodyChecks}
-use Rattle.packet_write.specs.Write.{bit, headerWidths, headerWord, sizeFor, given, classWord, leadingWords, classWords, timeWords, prologueWords, trailerWords}
+use Rattle.packet_write.specs.Write.{flagBit, headerWidths, headerWord, sizeFor, given, classWord, leadingWords, classWords, timeWords, prologueWords, trailerWords}
 use Rattle.packet_write.specs.Write.{packetWords, codesFit, flagsFit, classFits, partsFit}
 use Rattle.packet_write.specs.Write.{writeList, writeOf}
 use Rattle.packet_write.specs.inner.Steps.{partsChecks, measureChecks, roomChecks, writeChecks}
@@ -33,14 +33,14 @@ use Rattle.packet_write.proofs.HeaderLaws.{two-bits, size-for-is, required-is}
 
 -- ---- the header
 
-bit-again : (n : ℕ) → n < 2 → bit (eqb n 1) ≡ n
+bit-again : (n : ℕ) → n < 2 → flagBit (eqb n 1) ≡ n
 bit-again zero h = refl
 bit-again (suc zero) h = refl
 bit-again (suc (suc n)) h = absurd (omega arith)
 
 -- T and TSM by the type, where the reserved bits are clear
 flags-again : (young : Bool) (high middle low : ℕ) → high < 2 → low < 2 → pick young (middle * 2 + low) (high * 2 + middle) ≡ 0
-    → (bit (pick young false (eqb low 1)) ≡ low) × (0 ≡ middle) × (bit (pick young (eqb high 1) false) ≡ high)
+    → (flagBit (pick young false (eqb low 1)) ≡ low) × (0 ≡ middle) × (flagBit (pick young (eqb high 1) false) ≡ high)
 flags-again true high middle low h l e = (omega arith, omega arith, bit-again high h)
 flags-again false high middle low h l e = (bit-again low l, omega arith, omega arith)
 
@@ -55,9 +55,9 @@ unfolding headerWord partsOf reservedOf trailed tsmOf total
 header-again w ws h e =
     let clear = rw (two-bits w 24, two-bits w 25) at e in
     let f = flags-again (ltb (typeOf w) 4) (w / 2 ^ 26 % 2) (w / 2 ^ 25 % 2) (w / 2 ^ 24 % 2) (mod-lt _ (lit< tt)) (mod-lt _ (lit< tt)) clear in
-    let c : bit (classed w) ≡ w / 2 ^ 27 % 2 = bit-again (w / 2 ^ 27 % 2) (mod-lt _ (lit< tt)) in
+    let c : flagBit (classed w) ≡ w / 2 ^ 27 % 2 = bit-again (w / 2 ^ 27 % 2) (mod-lt _ (lit< tt)) in
     let size : sizeOf w ≡ w / 2 ^ 0 % 2 ^ 16 = rw (div-one w) in
-    let same : sizeOf w ∷ countOf w ∷ tsfOf w ∷ tsiOf w ∷ bit (tsmOf w) ∷ 0 ∷ bit (trailed w) ∷ bit (classed w) ∷ typeOf w ∷ [] ≡ fieldsFrom 0 headerWidths w =
+    let same : sizeOf w ∷ countOf w ∷ tsfOf w ∷ tsiOf w ∷ flagBit (tsmOf w) ∷ 0 ∷ flagBit (trailed w) ∷ flagBit (classed w) ∷ typeOf w ∷ [] ≡ fieldsFrom 0 headerWidths w =
     cc (size, f .0, f .1, f .2, c) in
     ap (join headerWidths) (same ∙ sym (split-from headerWidths w)) ∙ join-split headerWidths w h
 

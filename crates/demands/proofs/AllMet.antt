@@ -39,7 +39,7 @@ demand-1 = record {
     answered = every-some;
     once = every-once;
     numbers = every-order;
-    accepted = every-zero;
+    values = every-zero;
     refusals = every-leaves;
   };
 }

@@ -9,6 +9,6 @@ pub record ForC : Type 1 where
   pub once : EachForC OnceForC callsForC
   -- "refused with the number in our list, given exactly when the list says": the first of its list that applies; 0 is given where none does, with the values
   pub numbers : EachForC OrderForC callsForC
-  pub accepted : EachForC ZeroForC callsForC
+  pub values : EachForC ZeroForC callsForC
   -- "A refusal changes no word of any buffer it was lent": nor any other lent place
   pub refusals : EachForC LeavesForC callsForC

@@ -9,7 +9,7 @@ use Rattle.fields.specs.Format.{realComplex, itemCode, packingSize, itemSize}
 use Rattle.fields.specs.Layout.{carried, spanOf}
 use Rattle.packet.specs.declared.Packet.{Packet}
 use Rattle.packet.specs.Read.{readOf}
-use Rattle.packet_write.specs.Write.{bit}
+use Rattle.packet_write.specs.Write.{flagBit}
 use Rattle.payload_format.specs.Format.{linkEfficient}
 use Rattle.payload_pack.specs.Pack.{packOf}
 use Rattle.payload_unpack.specs.Unpack.{Buffers, buffers, unpackOf}
@@ -35,7 +35,7 @@ Hold (s ∷ rows) = (s .got ≡ s .want) × Hold rows
 abbrev pub told : Outcome Packet → Outcome (List ℕ)
 told (refused n) = refused n
 told (accepted p) =
-    accepted (p .parts .kind ∷ bit (p .parts .trailed) ∷ p .parts .tsi ∷ p .parts .tsf ∷ p .parts .count ∷ p .size ∷ p .length ∷ [])
+    accepted (p .parts .kind ∷ flagBit (p .parts .trailed) ∷ p .parts .tsi ∷ p .parts .tsf ∷ p .parts .count ∷ p .size ∷ p .length ∷ [])
 
 -- three items, or one, with no tags or with those given; and what is left of a buffer of two words
 abbrev pub wrote : ℕ → List ℕ → Outcome (Done ℕ (List ℕ))

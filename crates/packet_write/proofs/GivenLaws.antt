@@ -13,7 +13,7 @@ use Rattle.words.proofs.Cases.{le-or-lt}
 use Rattle.packet.specs.Header.{trailed}
 use Rattle.packet.specs.Parts.{bodyAt}
 use Rattle.packet.specs.declared.Parts.{Parts}
-use Rattle.packet_write.specs.Write.{bit, headerWord, sizeFor, prologueWords, trailerWords, packetWords}
+use Rattle.packet_write.specs.Write.{flagBit, headerWord, sizeFor, prologueWords, trailerWords, packetWords}
 use Rattle.packet_write.specs.inner.Steps.{partsChecks, writeChecks}
 use Rattle.packet_write.specs.inner.Given.{partsIn, HeaderFor}
 use Rattle.packet_write.proofs.FitLaws.{Fits, Writable, writable, parts-passed, parts-fit}
@@ -22,17 +22,17 @@ use Rattle.packet_write.proofs.LayLaws.{prologue-length, trailer-length
 
 -- ---- parts as words, and back
 
-low-bit : (n : ℕ) → n % 2 ≡ bit (eqb (n % 2) 1)
+low-bit : (n : ℕ) → n % 2 ≡ flagBit (eqb (n % 2) 1)
 low-bit n =
     ⊎-elim (λ (h : 1 ≤ n % 2). let e : n % 2 ≡ 1 = omega arith in rw e)
     (λ (h : n % 2 < 1). let e : n % 2 ≡ 0 = omega arith in rw e) (le-or-lt 1 (n % 2))
 
-bit-back : (t : Bool) → eqb (bit t % 2) 1 ≡ t
+bit-back : (t : Bool) → eqb (flagBit t % 2) 1 ≡ t
 bit-back true = refl
 bit-back false = refl
 
 -- what `write` lays out as words gives its parts again
-pub parts-again : (p : Parts) (c t m : ℕ) → c ≡ bit (p .classed) → t ≡ bit (p .trailed) → m ≡ bit (p .tsm)
+pub parts-again : (p : Parts) (c t m : ℕ) → c ≡ flagBit (p .classed) → t ≡ flagBit (p .trailed) → m ≡ flagBit (p .tsm)
     → partsIn (p .kind ∷ c ∷ t ∷ m ∷ p .tsi ∷ p .tsf ∷ p .count ∷ p .identifier ∷ p .oui ∷ p .information ∷ p .code ∷ p .seconds
     ∷ p .fraction / 2 ^ 32 ∷ p .fraction % 2 ^ 32 ∷ p .trailer ∷ []) ≡ p
 unfolding partsIn

@@ -11,16 +11,16 @@ use Rattle.words.proofs.WordLaws.{fieldsFrom, split-join, split-from}
 use Rattle.packet.specs.declared.Parts.{Parts}
 use Rattle.packet.specs.Header.{typeOf, classed, trailed, tsmOf, reservedOf, tsiOf, tsfOf, countOf, sizeOf}
 use Rattle.packet.specs.Parts.{streamed, hasSeconds, hasFraction, classAt, secondsAt, fractionAt, bodyAt, requiredOf}
-use Rattle.packet_write.specs.Write.{bit, headerWidths, headerWord, sizeFor, flagsFit}
+use Rattle.packet_write.specs.Write.{flagBit, headerWidths, headerWord, sizeFor, flagsFit}
 use Rattle.packet_write.proofs.FitLaws.{Fits}
 
 -- ---- bits
 
-bit-small : (t : Bool) → bit t < 2
+bit-small : (t : Bool) → flagBit t < 2
 bit-small true = lit< tt
 bit-small false = lit< tt
 
-bit-set : (t : Bool) → eqb (bit t) 1 ≡ t
+bit-set : (t : Bool) → eqb (flagBit t) 1 ≡ t
 bit-set true = refl
 bit-set false = refl
 
@@ -35,7 +35,7 @@ flags-by-type true t false e = (refl, refl, refl)
 flags-by-type false true m e = absurd (true-is-false (sym e))
 flags-by-type false false m e = (refl, refl, refl)
 
-reserved-clear : (young m t : Bool) → pick young m t ≡ false → pick young (0 * 2 + bit m) (bit t * 2 + 0) ≡ 0
+reserved-clear : (young m t : Bool) → pick young m t ≡ false → pick young (0 * 2 + flagBit m) (flagBit t * 2 + 0) ≡ 0
 reserved-clear true true t e = absurd (true-is-false e)
 reserved-clear true false t e = refl
 reserved-clear false m true e = absurd (true-is-false e)
@@ -59,7 +59,7 @@ module _ (p : Parts) (size : ℕ) (kind : p .kind < 6) (fits : Fits p) (small : 
   W = headerWord p size
 
   abbrev values : List ℕ
-  values = size ∷ p .count ∷ p .tsf ∷ p .tsi ∷ bit (p .tsm) ∷ 0 ∷ bit (p .trailed) ∷ bit (p .classed) ∷ p .kind ∷ []
+  values = size ∷ p .count ∷ p .tsf ∷ p .tsi ∷ flagBit (p .tsm) ∷ 0 ∷ flagBit (p .trailed) ∷ flagBit (p .classed) ∷ p .kind ∷ []
 
   header-fields : split headerWidths W ≡ values
   unfolding headerWord

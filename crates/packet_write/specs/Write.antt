@@ -13,8 +13,9 @@ use Rattle.packet.specs.declared.Parts.{Parts}
 
 -- ---- the words of a packet
 
-abbrev pub bit : Bool → ℕ
-bit t = when t 1
+-- C, T and TSM as bits of the header
+abbrev pub flagBit : Bool → ℕ
+flagBit t = when t 1
 
 -- the header's fields from the right: size 15-0, count 19-16, TSF 21-20, TSI 23-22, TSM 24, 25, T 26, C 27, type 31-28
 abbrev pub headerWidths : List ℕ
@@ -22,7 +23,7 @@ headerWidths = 16 ∷ 4 ∷ 2 ∷ 2 ∷ 1 ∷ 1 ∷ 1 ∷ 1 ∷ 4 ∷ []
 
 unfoldable pub headerWord : Parts → ℕ → ℕ
 headerWord p size =
-    join headerWidths (size ∷ p .count ∷ p .tsf ∷ p .tsi ∷ bit (p .tsm) ∷ 0 ∷ bit (p .trailed) ∷ bit (p .classed) ∷ p .kind ∷ [])
+    join headerWidths (size ∷ p .count ∷ p .tsf ∷ p .tsi ∷ flagBit (p .tsm) ∷ 0 ∷ flagBit (p .trailed) ∷ flagBit (p .classed) ∷ p .kind ∷ [])
 
 -- the words of a packet whose body has n: which parts are there is what the header says, whatever size it has
 unfoldable pub sizeFor : Parts → ℕ → ℕ

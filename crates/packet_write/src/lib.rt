@@ -7,11 +7,11 @@ mod writing;
 
 ghost use mathlib.Core.Path.{_≡_};
 ghost use Rattle.words.specs.Outcome.{measured, Meets};
-ghost use Rattle.packet_write.specs.Write.{bit, writeOf};
+ghost use Rattle.packet_write.specs.Write.{flagBit, writeOf};
 
 // 1 for a flag that is set.
 fn bit_of(flag: bool) -> u32
-    ensures { λ r. ⌜ r ≡ bit flag ⌝ }
+    ensures { λ r. ⌜ r ≡ flagBit flag ⌝ }
 {
     if flag { 1 } else { 0 }
 }

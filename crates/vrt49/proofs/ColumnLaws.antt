@@ -18,14 +18,14 @@ use Rattle.panel.proofs.AllReadingLaws.{map-at, readings-many, readings-at, rea
 use Rattle.vrt49.specs.declared.readings.Values.{Values}
 use Rattle.vrt49.specs.declared.readings.Columns.{Columns}
 use Rattle.vrt49.specs.Answers.{Tells}
-use Rattle.vrt49.specs.Readings.{zero, levelledOf, numbersOf, numbersShown, columns, columnPlaces, readingsValues}
+use Rattle.vrt49.specs.Readings.{plusZero, levelledOf, numbersOf, numbersShown, columns, columnPlaces, readingsValues}
 use Rattle.vrt49.proofs.AnswerLaws.{tells-refused, tells-values}
 
 -- ---- the loop
 
 -- the numbers that stand past the ends
 abbrev unsaid : Values
-unsaid = levelledOf 0 zero zero
+unsaid = levelledOf 0 plusZero plusZero
 
 -- entry k of each column
 abbrev rowAt : Columns → ℕ → Values
@@ -34,8 +34,8 @@ rowAt c k =
       kind = getD (c .kinds) k 0;
       parts = getD (c .parts) k 0;
       hertz = getD (c .hertz) k (pos 0);
-      first = getD (c .first) k zero;
-      second = getD (c .second) k zero;
+      first = getD (c .first) k plusZero;
+      second = getD (c .second) k plusZero;
     }
 
 -- columns of five lists
@@ -126,8 +126,8 @@ rows-all r i c h f =
       column-is (λ v. v .kind) 0 (c .kinds) vs (f .kinds) m (λ k l. ap (λ (v : Values). v .kind) (each k l)),
       column-is (λ v. v .parts) 0 (c .parts) vs (f .parts) m (λ k l. ap (λ (v : Values). v .parts) (each k l)),
       column-is (λ v. v .hertz) (pos 0) (c .hertz) vs (f .hertz) m (λ k l. ap (λ (v : Values). v .hertz) (each k l)),
-      column-is (λ v. v .first) zero (c .first) vs (f .first) m (λ k l. ap (λ (v : Values). v .first) (each k l)),
-      column-is (λ v. v .second) zero (c .second) vs (f .second) m (λ k l. ap (λ (v : Values). v .second) (each k l)),
+      column-is (λ v. v .first) plusZero (c .first) vs (f .first) m (λ k l. ap (λ (v : Values). v .first) (each k l)),
+      column-is (λ v. v .second) plusZero (c .second) vs (f .second) m (λ k l. ap (λ (v : Values). v .second) (each k l)),
     )
 
 -- ---- the answer, k being what the stream's number was found to be

@@ -11,7 +11,7 @@ use Rattle.panel.specs.declared.FieldReading.the-variants as dial
 use Rattle.panel.specs.Readings.{Reading, readingPaper}
 use Rattle.vrt49.specs.declared.readings.Values.{Values}
 use Rattle.vrt49.specs.Answers.{Tells}
-use Rattle.vrt49.specs.Readings.{zero, numbersShown, places, readingValues}
+use Rattle.vrt49.specs.Readings.{plusZero, numbersShown, places, readingValues}
 
 -- the first six cases of an answer are no refusal
 abbrev shows : List ℕ
@@ -25,7 +25,7 @@ pub numbers-told : (d e : FieldReading) (v : Values) → v ≡ numbersShown (rea
 numbers-told d e v f g = f ∙ ap (λ (x : FieldReading). numbersShown (readingPaper x)) (sym g)
 
 pub numbers-frequency : (d : FieldReading) (hertz z : ℤ) (parts : ℕ) → hertz ≡ z → d ≡ dial.Frequency z parts
-    → record { kind = 1; parts = parts; hertz = hertz; first = zero; second = zero } ≡ numbersShown (readingPaper d)
+    → record { kind = 1; parts = parts; hertz = hertz; first = plusZero; second = plusZero } ≡ numbersShown (readingPaper d)
 numbers-frequency d hertz z parts f g = rw (f, g)
 
 -- what an answer d that is no refusal tells

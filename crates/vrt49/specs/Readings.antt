@@ -11,8 +11,8 @@ use Rattle.vrt49.specs.declared.readings.Columns.{Columns}
 -- ---- a reading as numbers
 
 -- plus zero
-abbrev pub zero : Float
-zero = fin false 0 (pos 0)
+abbrev pub plusZero : Float
+plusZero = fin false 0 (pos 0)
 
 -- a reading that is no frequency
 abbrev pub levelledOf : ℕ → Float → Float → Values
@@ -20,16 +20,16 @@ levelledOf kind first second = record { kind = kind; parts = 0; hertz = pos 0; f
 
 -- the kind; the parts of 2^20 and the whole hertz of a frequency; the level or the temperature, or both stages of a gain; zero what it has not
 abbrev pub numbersOf : Reading → Values
-numbersOf (frequency hertz parts) = record { kind = 1; parts = parts; hertz = hertz; first = zero; second = zero }
-numbersOf (level x) = levelledOf 2 x zero
+numbersOf (frequency hertz parts) = record { kind = 1; parts = parts; hertz = hertz; first = plusZero; second = plusZero }
+numbersOf (level x) = levelledOf 2 x plusZero
 numbersOf (gain x y) = levelledOf 3 x y
-numbersOf (temperature x) = levelledOf 4 x zero
-numbersOf other = levelledOf 5 zero zero
-numbersOf absent = levelledOf 6 zero zero
+numbersOf (temperature x) = levelledOf 4 x plusZero
+numbersOf other = levelledOf 5 plusZero plusZero
+numbersOf absent = levelledOf 6 plusZero plusZero
 
 -- those of an answer; of a refusal they are not looked at
 abbrev pub numbersShown : Outcome Reading → Values
-numbersShown (refused n) = levelledOf 0 zero zero
+numbersShown (refused n) = levelledOf 0 plusZero plusZero
 numbersShown (accepted r) = numbersOf r
 
 -- the places of a reading's numbers: the kind, the parts, the whole hertz, and the two levels

@@ -3,13 +3,13 @@ use Rattle.words.proofs.Kit.{_≡_, List, [], _∷_, ℕ, _/_, _%_, _^_, needs}
 use Rattle.words.specs.declared.Length.{Length}
 use Rattle.words.specs.Outcome.{measured, Meets}
 use Rattle.packet.specs.declared.Parts.{Parts}
-use Rattle.packet_write.specs.Write.{bit, writeOf}
+use Rattle.packet_write.specs.Write.{flagBit, writeOf}
 use Rattle.packet_write.specs.inner.Given.{partsIn}
 use Rattle.packet_write.proofs.GivenLaws.{parts-again}
 use Rattle.packet_write.proofs.write.Statement.{statement}
 use Rattle.packet_write.proofs.write.Tie as tie
 
-module _ (p : Parts) (c t m : ℕ) (e : c ≡ bit (p .classed)) (f : t ≡ bit (p .trailed)) (g : m ≡ bit (p .tsm)) where
+module _ (p : Parts) (c t m : ℕ) (e : c ≡ flagBit (p .classed)) (f : t ≡ flagBit (p .trailed)) (g : m ≡ flagBit (p .tsm)) where
   written : (body out left : List ℕ) (at : ℕ) (r : Length)
       → Meets measured
       (writeOf (partsIn (p .kind ∷ c ∷ t ∷ m ∷ p .tsi ∷ p .tsf ∷ p .count ∷ p .identifier ∷ p .oui ∷ p .information ∷ p .code ∷ p .seconds
