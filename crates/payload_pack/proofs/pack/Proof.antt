@@ -1,61 +1,56 @@
 -- `pack` meets its promise: `pack-refused` and `pack-accepted`, by what the checks answer.
-use Rattle.words.specs.Outcome.{checked}
+use Rattle.words.proofs.Kit.{_≡_, sym, ap, _∙_, List, ℕ, _≤_, length, needs}
+use Rattle.words.specs.declared.Check.{Check}
+use Rattle.words.specs.declared.Check.the-variants as found
+use Rattle.words.specs.declared.Length.the-variants.{Accepted, Refused}
+use Rattle.words.specs.Outcome.{checked, measured, Meets}
+use Rattle.payload_format.specs.declared.inner.Packing.{Packing}
+use Rattle.payload_format.specs.Format.{packingOf}
+use Rattle.payload_format.specs.Count.{wordsFor}
 use Rattle.payload_format.proofs.FormatLaws.{count-few}
+use Rattle.payload_pack.specs.Pack.{packed, packOf}
+use Rattle.payload_pack.specs.inner.Packable.{packCheck, Packable, Fitting}
 use Rattle.payload_pack.proofs.PackLaws.{PackPassed, pack-passed, packable, pack-refused, pack-accepted}
-use Rattle.words.proofs.Kit.{length, sym, ap, _∙_, needs}
 use Rattle.payload_pack.proofs.pack.Statement.{statement}
 use Rattle.payload_pack.proofs.pack.Tie as tie
 
-checked-here : (c : tie.After-packing-of) →
-    let start : tie.Start = search in
-    let a = start .args in
-    PackPassed (a .first) (a .second) (a .items .now) (a .events .now) (a .channels .now) (length (a .out .now))
-checked-here c =
-    let start : tie.Start = search in
-    let at-enum-told : tie.After-enum-told = search in
-    let at-pack-check : tie.After-pack-check = search in
-    let a = start .args in
-    pack-passed (a .first) (a .second) (a .items .now) (a .events .now) (a .channels .now) (length (a .out .now))
-    (sym (at-pack-check .pack-check .ensures) ∙ ap checked (at-enum-told .enum-told .given .1))
+module _ (first second : ℕ) (items events channels out : List ℕ) (answer : Check)
+    (e : checked answer ≡ packCheck first second items events channels (length out)) where
+  refusal-given : (k : ℕ) → answer ≡ found.Refused k → Meets measured (packOf first second items events channels out) out (Refused k) out
+  refusal-given k r = pack-refused first second items events channels out k (sym (ap checked r) ∙ e)
 
-returns : tie.Need-returns
-returns c =
-    let start : tie.Start = search in
-    let a = start .args in
-    pack-refused (a .first) (a .second) (a .items .now) (a .events .now) (a .channels .now) (a .out .now) _
-    (sym (ap checked (c .before .checked .given .1)) ∙ c .before .before .before .pack-check .ensures)
+  module _ (fine : answer ≡ found.Fine) where
+    passed : PackPassed first second items events channels (length out)
+    passed = pack-passed first second items events channels (length out) (sym e ∙ ap checked fine)
 
-pack-fields-requires : tie.Need-pack-fields-requires
-pack-fields-requires c κs =
-    let start : tie.Start = search in
-    let a = start .args in
-    let at-packing-of : tie.After-packing-of = search in
-    rw (at-packing-of .packing-of .ensures)
-    (packable (a .first) (a .second) (a .items .now) (a .events .now) (a .channels .now) (length (a .out .now)) (checked-here at-packing-of))
+    few-items : length items ≤ 2097120
+    few-items = count-few first second (length items) (passed .count)
 
-words-for-requires : tie.Need-words-for-requires
-words-for-requires c κs =
-    let start : tie.Start = search in
-    let at-packing-of : tie.After-packing-of = search in
-    let a = start .args in
-    count-few (a .first) (a .second) (length (a .items .now)) (checked-here at-packing-of .count)
+    module _ (p : Packing) (q : p ≡ packingOf first) where
+      ready : Packable p (length items) (length out) × Fitting (p .item) (length items) items × Fitting (p .event) (length items) events
+          × Fitting (p .channel) (length items) channels
+      ready = rw q (packable first second items events channels (length out) passed)
 
-returns-2 : tie.Need-returns-2
-returns-2 c =
-    let start : tie.Start = search in
-    let at-enum-told : tie.After-enum-told = search in
-    let at-pack-check : tie.After-pack-check = search in
-    let at-packing-of : tie.After-packing-of = search in
-    let at-pack-fields : tie.After-pack-fields = search in
-    let a = start .args in
-    pack-accepted (a .first) (a .second) (a .items .now) (a .events .now) (a .channels .now) (a .out .now) _ _
-    (sym (ap checked (at-enum-told .enum-told .given .1)) ∙ at-pack-check .pack-check .ensures)
-    (c .words-for .ensures)
-    (rw (at-packing-of .packing-of .ensures) at (at-pack-fields .pack-fields .ensures))
+      room-there : Packable p (length items) (length out)
+      room-there = ready .0
+
+      items-fit : Fitting (p .item) (length items) items
+      items-fit = ready .1
+
+      events-fit : Fitting (p .event) (length items) events
+      events-fit = ready .2
+
+      channels-fit : Fitting (p .channel) (length items) channels
+      channels-fit = ready .3
+
+      words-given : (m : ℕ) (after : List ℕ) → m ≡ wordsFor first (length items) → after ≡ packed p (length items) items events channels out
+          → Meets measured (packOf first second items events channels out) out (Accepted m) after
+      words-given m after w l = pack-accepted first second items events channels out m after (sym (ap checked fine) ∙ e) w (rw q at l)
 
 pub pack-spec : {M : Type 1} → statement M
 pack-spec =
     tie.close
     (tie.spec
-    (λ c κs. search needs) (λ c. search needs) returns (λ c. search needs) (λ c κs. search needs) pack-fields-requires words-for-requires
-    (λ c. search needs) returns-2)
+    (λ c κs. search needs) (λ c. search needs) (λ c. search refusal-given) (λ c. search needs) (λ c κs. search needs)
+    (λ c κs. (search room-there, search items-fit, search events-fit, search channels-fit)) (λ c κs. search few-items) (λ c. search needs)
+    (λ c. search words-given))

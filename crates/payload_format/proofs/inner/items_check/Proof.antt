@@ -1,22 +1,28 @@
 -- `items_check` meets its promise: each return is a line of the list.
-use Rattle.words.proofs.Kit.{sym, _∙_, needs}
+use Rattle.words.proofs.Kit.{_≡_, Bool, true, false, ℕ, needs}
+use Rattle.words.specs.Numbers.{FORMAT, COUNT}
+use Rattle.words.specs.Outcome.{refused, accepted}
+use Rattle.payload_format.specs.Format.{formatBad}
+use Rattle.payload_format.specs.Count.{countBad}
 use Rattle.payload_format.specs.inner.Checked.{itemsCheck}
 use Rattle.payload_format.proofs.inner.items_check.Statement.{statement}
 use Rattle.payload_format.proofs.inner.items_check.Tie as tie
 
-returns : tie.Need-returns
-unfolding itemsCheck
-returns c = simp (sym (c .before .format-bad .ensures) ∙ c .if1 .taken)
+module _ (first second n : ℕ) (bad : Bool) (b : bad ≡ formatBad first second) where
+  format-refused : bad ≡ true → refused FORMAT ≡ itemsCheck first second n
+  unfolding itemsCheck
+  format-refused e = rw (← b, e)
 
-returns-2 : tie.Need-returns-2
-unfolding itemsCheck
-returns-2 c =
-    simp (sym (c .before .before .before .format-bad .ensures) ∙ c .before .before .if1 .left, sym (c .before .count-bad .ensures) ∙ c .if2 .taken)
+  module _ (good : bad ≡ false) (over : Bool) (o : over ≡ countBad first second n) where
+    count-refused : over ≡ true → refused COUNT ≡ itemsCheck first second n
+    unfolding itemsCheck
+    count-refused e = rw (← b, good, ← o, e)
 
-returns-3 : tie.Need-returns-3
-unfolding itemsCheck
-returns-3 c =
-    simp (sym (c .before .before .before .format-bad .ensures) ∙ c .before .before .if1 .left, sym (c .before .count-bad .ensures) ∙ c .if2 .left)
+    items-fine : over ≡ false → accepted tt ≡ itemsCheck first second n
+    unfolding itemsCheck
+    items-fine e = rw (← b, good, ← o, e)
 
 pub items-check-spec : {M : Type 1} → statement M
-items-check-spec = tie.close (tie.spec (λ c κs. search needs) returns (λ c κs. search needs) returns-2 returns-3)
+items-check-spec =
+    tie.close
+    (tie.spec (λ c κs. search needs) (λ c. search format-refused) (λ c κs. search needs) (λ c. search count-refused) (λ c. search items-fine))
