@@ -1,5 +1,5 @@
 #!/bin/sh
-# Holds the header and the lists of calls to the source, libvrt49.a to the reference, to UHD and to tshark, vrtplay to its recordings, tools/capture to known packets, the
+# Holds the header, the manual and the lists of calls to the source, libvrt49.a to the reference, to UHD and to tshark, vrtplay to its recordings, tools/capture to known packets, the
 # examples to their output, over an installed copy, and vrtshow to the reference; ends at the first difference.
 # It is what `make compare` runs. LIBRARY names a library that is made already, VRTPLAY a command that plays (recordings.sh, capture.py), PLAYER the file
 # of vrtplay that is installed for a try (tools/install).
@@ -41,7 +41,7 @@ every_call() {
 }
 
 step 'header and source' tools/check_header
-step 'spoilt headers' python3 $here/test_header.py
+step 'spoilt headers and manuals' python3 $here/test_header.py
 step 'lists of calls and source' tools/check_calls
 step 'spoilt lists of calls' python3 -B $here/test_calls.py
 library=${LIBRARY:-target/staticlib/libvrt49.a}
