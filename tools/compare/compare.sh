@@ -10,7 +10,7 @@ work=target/compare
 mkdir -p "$work"
 
 # what is needed from Debian
-needed='python3 gcc g++ libc6-dev libuhd-dev libboost-dev tshark python3-dpkt pkg-config'
+needed='python3 gcc g++ binutils-x86-64-linux-gnu libc6-dev libuhd-dev libboost-dev tshark python3-dpkt pkg-config'
 cc=gcc
 cxx=g++
 run=
@@ -57,6 +57,8 @@ $cc -static "$work/survey.o" "$library" -o "$work/survey_cpp"
 g++ -O1 -Wall -Wextra $here/uhd_pack.cpp -o "$work/uhd_pack" -luhd
 "$work/uhd_pack" >"$work/uhd_packets"
 step 'every call once' every_call
+step 'stack of every call' tools/stack --check "$library"
+step 'spoilt words of the stack' python3 -B $here/test_stack.py "$library"
 step 'cases of every call, some minutes' python3 $here/cases.py -- $run "$work/drive"
 step 'packets of UHD' python3 $here/peers.py uhd "$work/uhd_packets" -- $run "$work/drive"
 step 'packets for tshark' python3 $here/peers.py tshark "$work" -- $run "$work/drive"
