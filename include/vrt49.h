@@ -310,7 +310,7 @@ VRT49_ASSERT(vrt49_sizes_have_64_bits, sizeof(size_t) == 8);
 
 /* ---- packets, trailers and the fields of a body */
 
-/* Reads the packet at the front of the words: EMPTY to FIELD, 1 to 10 as listed. */
+/* Reads the packet at the front of the words: EMPTY to FIELD (1 to 10 as listed). */
 uint32_t vrt49_read(const uint32_t *words, size_t n, vrt49_packet *answer);
 
 /* Writes a packet into out from word `at` on; the other words of out stay: TYPE, VALUE (also for C,
@@ -319,7 +319,7 @@ uint32_t vrt49_read(const uint32_t *words, size_t n, vrt49_packet *answer);
 uint32_t vrt49_write(const vrt49_parts *parts, const uint32_t *body, size_t body_n, uint32_t *out,
                      size_t room, size_t at, size_t *length);
 
-/* A trailer word's parts; no word is refused. */
+/* A trailer word's parts; nothing is refused. */
 uint32_t vrt49_trailer_parts(uint32_t word, vrt49_trailer *answer);
 
 /* The trailer word of its parts: VALUE. */
@@ -366,7 +366,7 @@ uint32_t vrt49_start(const uint32_t *ids, size_t ids_n, uint32_t *table, size_t 
 /* Whether a table is well made: 1 or 0. Nothing is refused. */
 uint32_t vrt49_well_made(const uint32_t *table, size_t table_n);
 
-/* Plays the packet at the front of the words: TABLE, then 1 to 10 as in reading, STREAM. After
+/* Plays the packet at the front of the words: TABLE, EMPTY to FIELD (as in reading), STREAM. After
    STREAM go on by the packet's size, which vrt49_read gives; vrt49_play_run does so itself. */
 uint32_t vrt49_play(uint32_t *table, size_t table_n, const uint32_t *words, size_t words_n,
                     vrt49_heard *answer);
@@ -419,7 +419,7 @@ uint32_t vrt49_held_words(const uint32_t *table, size_t table_n, size_t stream, 
 uint32_t vrt49_identity(const uint32_t *table, size_t table_n, size_t stream, uint32_t *identifier,
                         uint32_t *held);
 
-/* What the stream counted of a type, 1, 3, 4 or 5: TABLE, STREAM, VALUE for another type. */
+/* What the stream counted of a type, 1, 3, 4 or 5: TABLE, STREAM, VALUE (another type). */
 uint32_t vrt49_counts(const uint32_t *table, size_t table_n, size_t stream, uint32_t type,
                       vrt49_count *answer);
 
@@ -430,7 +430,7 @@ uint32_t vrt49_own_table(const uint32_t *table, size_t table_n, size_t stream, u
 
 /* The fields, bits 30 to 10, for which the one stream and the other do not hold the same words; an
    absent field holds none. What a packet changed is asked of the stream's own table from before it
-   and of the table after it. TABLE, STREAM, of either. */
+   and of the table after it. TABLE (of either), STREAM (of either). */
 uint32_t vrt49_changed(const uint32_t *before, size_t before_n, size_t before_stream,
                        const uint32_t *after, size_t after_n, size_t after_stream,
                        uint32_t *fields);

@@ -410,7 +410,9 @@ def declared(r, lent):
 
 
 def lent_table(r):
-    """A table for playing, saving and reading: mostly good."""
+    """A table for playing, saving and reading: mostly good, now and then of no words."""
+    if r.randrange(100) == 0:
+        return []
     if r.randrange(10) == 0:
         return making.some_table(r)
     return table.layout(making.some_streams(r)) + making.words(r, r.choice((0, 0, 0, 2)))

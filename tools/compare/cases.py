@@ -7,11 +7,13 @@ DRIVE is the command that runs drive.c's program.  Each call's cases are made in
 lots of 500, each from the seed, the call's name and the lot's number alone, so
 that a case is the same however many processes make them (JOBS, 2 if not set).
 --few makes one lot of 100 for each call; --only runs one call, or prints one case
-of it.  The first difference ends the program with status 1.
+of it.  The first difference ends the program with status 1; so does, where all
+calls run in full, a buffer that no case hands over without entries.
 """
 
 import os
 import random
+import re
 import subprocess
 import sys
 from array import array
@@ -30,6 +32,7 @@ assert sys.byteorder == "little"
 SEED = 4900
 LOT = 500
 WHICH = {call.name: place for place, call in enumerate(CALLS)}
+HEADER = (Path(__file__).resolve().parent.parent.parent / "include/vrt49.h").read_text()
 
 
 # The words that drive.c reads and writes.
@@ -67,6 +70,28 @@ def expected(call, case):
     for place in written(call, case):
         made.append(whole_words(case.after.get(place, case.lent[place].entries)))
     return b"".join(made)
+
+
+# Buffers of no entries, which drive.c hands over as null.
+
+
+def buffers(call):
+    """The buffers among what a call is lent, by their places: their names.  In the
+    header a buffer is a pointer and its number of entries."""
+    listed = " ".join(re.search(rf"\n\w+ {call.name}\(([^)]*)\);", HEADER).group(1).split())
+    lent = re.sub(r"\*(\w+), size_t \w+", r"[] \1", listed).split(", ")
+    assert len(lent) == len(call.takes), (call, lent)
+    return {place: one.split("[] ")[1] for place, one in enumerate(lent) if "[] " in one}
+
+
+def without_entries(call, cases):
+    """The places of the buffers that have no entries in one of the cases."""
+    return {place for place in buffers(call) for case in cases if not case.lent[place].entries}
+
+
+def never_empty(call, seen):
+    """The names of the buffers whose places are not among those seen without entries."""
+    return [name for place, name in buffers(call).items() if place not in seen]
 
 
 # What a difference looks like.
@@ -143,7 +168,7 @@ def run_lot(job):
         wrong = run_cases(call, cases, first, drive)
     except OSError as problem:
         wrong = str(problem)
-    return name, Counter(case.number for case in cases), wrong
+    return name, Counter(case.number for case in cases), without_entries(call, cases), wrong
 
 
 def options(words):
@@ -192,19 +217,25 @@ def main():
         jobs += [(call.name, seed, lot, 100 if few else LOT, drive) for lot in range(lots)]
     print(f"seed {seed}", flush=True)
     counted = {call.name: Counter() for call in calls}
+    empty = {call.name: set() for call in calls}
     with Pool(int(os.environ.get("JOBS", "2"))) as pool:
-        for name, counts, wrong in pool.imap(run_lot, jobs):
+        for name, counts, places, wrong in pool.imap(run_lot, jobs):
             if wrong:
                 pool.terminate()
                 print(wrong, flush=True)
                 sys.exit(1)
             counted[name] += counts
+            empty[name] |= places
     for call in calls:
         numbers = " ".join(f"{number}:{times}" for number, times in sorted(counted[call.name].items()))
         print(f"{call.name} {sum(counted[call.name].values())} cases, answers {numbers}")
         absent = [number for number in call.occur if not counted[call.name][number]]
         if absent and not few:
             print(f"{call.name}: no case has the answer {absent}")
+            sys.exit(1)
+        filled = never_empty(call, empty[call.name])
+        if filled and not few and not only:
+            print(f"{call.name}: no case has no entries in {', '.join(filled)}")
             sys.exit(1)
     print(f"{sum(sum(counts.values()) for counts in counted.values())} cases, no difference")
 

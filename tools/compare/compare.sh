@@ -1,5 +1,5 @@
 #!/bin/sh
-# Holds the header and the lists of calls to the source, libvrt49.a to the reference, to UHD and to tshark, vrtplay to its recordings, tools/capture to known packets, the
+# Holds the header, the manual and the lists of calls to the source, libvrt49.a to the reference, to UHD and to tshark, vrtplay to its recordings, tools/capture to known packets, the
 # examples to their output, over an installed copy, and vrtshow to the reference; ends at the first difference.
 # It is what `make compare` runs. LIBRARY names a library that is made already, VRTPLAY a command that plays (recordings.sh, capture.py), PLAYER the file
 # of vrtplay that is installed for a try (tools/install).
@@ -10,7 +10,7 @@ work=target/compare
 mkdir -p "$work"
 
 # what is needed from Debian
-needed='python3 gcc g++ libc6-dev libuhd-dev libboost-dev tshark python3-dpkt pkg-config'
+needed='python3 gcc g++ binutils-x86-64-linux-gnu libc6-dev libuhd-dev libboost-dev tshark python3-dpkt pkg-config'
 cc=gcc
 cxx=g++
 run=
@@ -41,7 +41,7 @@ every_call() {
 }
 
 step 'header and source' tools/check_header
-step 'spoilt headers' python3 $here/test_header.py
+step 'spoilt headers and manuals' python3 $here/test_header.py
 step 'lists of calls and source' tools/check_calls
 step 'spoilt lists of calls' python3 -B $here/test_calls.py
 library=${LIBRARY:-target/staticlib/libvrt49.a}
@@ -57,6 +57,8 @@ $cc -static "$work/survey.o" "$library" -o "$work/survey_cpp"
 g++ -O1 -Wall -Wextra $here/uhd_pack.cpp -o "$work/uhd_pack" -luhd
 "$work/uhd_pack" >"$work/uhd_packets"
 step 'every call once' every_call
+step 'stack of every call' tools/stack --check "$library"
+step 'spoilt words of the stack' python3 -B $here/test_stack.py "$library"
 step 'cases of every call, some minutes' python3 $here/cases.py -- $run "$work/drive"
 step 'packets of UHD' python3 $here/peers.py uhd "$work/uhd_packets" -- $run "$work/drive"
 step 'packets for tshark' python3 $here/peers.py tshark "$work" -- $run "$work/drive"

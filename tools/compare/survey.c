@@ -45,7 +45,8 @@ static void read_packets(void)
     expect("vrt49_check_body", vrt49_check_body(body, packet.body_words), VRT49_OK);
     expect("vrt49_find", vrt49_find(body, packet.body_words, VRT49_BIT_LEVEL, &place), VRT49_OK);
     printf("  %" PRIu32 " fields; the level at %zu of the body, %zu word\n", vrt49_field_count(body[0]), place.at, place.words);
-    expect("vrt49_find of an absent field", vrt49_find(body, packet.body_words, VRT49_BIT_GAIN, &place) + place.present, 0);
+    expect("vrt49_find of an absent field", vrt49_find(body, packet.body_words, VRT49_BIT_GAIN, &place), VRT49_OK);
+    expect("an absent field", place.present == 0 && place.at == 0 && place.words == 0, 1);
     packet = read_packet(data, ENTRIES(data));
     expect("vrt49_trailer_parts", vrt49_trailer_parts(packet.trailer, &trailer), VRT49_OK);
     expect("the trailer", trailer.enables == VRT49_TRAILER_VALID_DATA && trailer.indicators == VRT49_TRAILER_VALID_DATA, 1);
@@ -156,7 +157,7 @@ static void show_readings(const uint32_t *table, size_t layout)
     expect("the kind", shown.kind, VRT49_KIND_ABSENT);
 }
 
-/* what the table says of stream 0, and what the data packet changes: the counts, and no field */
+/* what the table says of stream 0, and what the context packet changes when it is played again: the counts, and no field */
 static void ask_stream(uint32_t *table, size_t layout)
 {
     uint32_t own[VRT49_TABLE_WORDS(1)], identifier, held, fields;

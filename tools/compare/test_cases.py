@@ -4,6 +4,8 @@
 
 For each call, and each way in which drive.c spoils one answer when BEND is set, the
 first cases are run; a difference must be found every time, and none without BEND.
+Where the cases of a call that leave one of its buffers without entries are taken away,
+that buffer must be named.
 """
 
 import os
@@ -11,7 +13,7 @@ import sys
 
 sys.dont_write_bytecode = True
 
-from cases import SEED, made_lot, run_cases
+from cases import LOT, SEED, buffers, made_lot, never_empty, run_cases, without_entries
 from calls import CALLS
 
 # What a call needs so that drive.c can spoil it so.
@@ -22,6 +24,18 @@ NEEDS = {
     4: lambda call: any(letter in "ilhb" for letter in call.takes),
     5: lambda call: any(letter.isupper() for letter in call.takes) and any(call.occur),
 }
+
+
+def named(call):
+    """How many buffers of a call are named when no case leaves them without entries."""
+    cases = made_lot(call, SEED, 0, LOT)
+    for place, name in buffers(call).items():
+        filled = [case for case in cases if case.lent[place].entries]
+        if name not in never_empty(call, without_entries(call, filled)):
+            sys.exit(f"{call.name}: it is not noticed that {name} always has entries")
+    if never_empty(call, set(buffers(call))):
+        sys.exit(f"{call.name}: a buffer is named that has no entries")
+    return len(buffers(call))
 
 
 def main():
@@ -38,7 +52,8 @@ def main():
             if bend and not wrong:
                 sys.exit(f"{call.name}: BEND={bend} is not noticed")
             noticed += bend != 0
-    print(f"the comparison itself: {noticed} spoilt answers, each noticed")
+    always = sum(map(named, CALLS))
+    print(f"the comparison itself: {noticed} spoilt answers, {always} buffers that always have entries, each noticed")
 
 
 if __name__ == "__main__":

@@ -1,4 +1,4 @@
-"""Spoils the header in one place at a time, to see that tools/check_header finds each."""
+"""Spoils the header, or the manual, in one place at a time, to see that tools/check_header finds each."""
 import os
 import subprocess
 import sys
@@ -6,8 +6,8 @@ import tempfile
 
 ROOT = os.path.dirname(os.path.dirname(os.path.dirname(os.path.abspath(__file__))))
 
-# what stands in the header, what is put in its place, and a word of the line that must be printed
-SPOILT = [
+# what stands in the header, what is put in its place, and a part of the line that must be printed
+HEADERS = [
     ('uint32_t vrt49_field_count(uint32_t indicator);', '', 'vrt49_field_count of'),
     ('uint32_t vrt49_field_count(uint32_t indicator);', 'uint32_t vrt49_fields(uint32_t indicator);', 'vrt49_fields is exported by no'),
     ('uint32_t vrt49_well_made(', 'int32_t vrt49_well_made(', 'vrt49_well_made gives'),
@@ -49,25 +49,80 @@ SPOILT = [
     ('size_t before_stream,', 'uint32_t before_stream,', 'vrt49_changed, parameter 3'),
     ('VRT49_ASSERT(vrt49_entry_is_5_words', 'VRT49_ASSERT(vrt49_entry_is_words', 'no line VRT49_ASSERT(vrt49_entry_is_5'),
     ('parts.seconds = packet->seconds', 'parts.seconds = packet->fraction_low', 'vrt49_parts_of does not'),
+    ('a list of identifiers: LIST, ROOM.', 'a list of identifiers: ROOM, LIST.', 'vrt49_start: its comment lists ROOM, LIST, in'),
+    ('channel tags: FORMAT, COUNT, ROOM.', 'channel tags: FORMAT, ROOM.', 'vrt49_unpack: its comment lists FORMAT, ROOM, in'),
+    ('page: TABLE, SIZE. */', 'page: TABLE, SIZE, ROOM. */', 'vrt49_page_length: its comment lists TABLE, SIZE, ROOM, in'),
+    ('EMPTY to FIELD (1 to', 'EMPTY to LAYOUT (1 to', 'vrt49_read: its comment lists EMPTY, TYPE, BITS, SHORT, CUT, CLASS, TIME, INDICATOR, LAYOUT, in'),
+    ('TABLE, EMPTY to FIELD (as in reading), STREAM', 'EMPTY to FIELD (as in reading), TABLE, STREAM', 'vrt49_play: its comment lists EMPTY, TYPE'),
+    ('above 1), SHORT, SIZE,', 'above 1), SIZE, SHORT,', 'vrt49_write: its comment lists TYPE, VALUE, SIZE, SHORT'),
+    ('TABLE (of either), STREAM', 'TABLES (of either), STREAM', 'vrt49_changed: its comment lists TABLES, STREAM'),
+    ('VALUE (another type)', 'VALUE, TYPE', 'vrt49_counts: its comment lists TABLE, STREAM, VALUE, TYPE'),
+    ('1 or 0. Nothing is refused. */', '1 or 0: TABLE. */', 'vrt49_well_made: its comment lists TABLE, in'),
+    ('of its parts: VALUE. */', 'of its parts. */', 'vrt49_trailer_word: its comment does not list'),
+    ('body; nothing is refused. */', 'body. */', 'vrt49_find: its comment does not list'),
+    ('INDICATOR, LAYOUT, FIELD. */', 'INDICATOR, LAYOUT. FIELD. */', 'vrt49_check_body: its comment does not list'),
+    ('entries: TABLE. The', 'entries: TABLE, STREAM. The', 'vrt49_play_entries: its comment lists TABLE, STREAM, in'),
+    ('vrt49_reading into a struct: TABLE, STREAM, VALUE.', 'vrt49_reading into a struct: TABLE, STREAM.', 'vrt49_show: its comment lists TABLE, STREAM, in'),
+    ('vrt49_well_made refuse nothing', 'vrt49_find refuse nothing', 'the calls that answer their value are others'),
+    ('&shown->kind, &shown->parts', '&shown->parts, &shown->kind', 'vrt49_show does not hand over'),
+    ('* entries_n, packets, next);', '* entries_n, next, packets);', 'vrt49_play_entries does not hand over'),
+    ('VRT49_TYPE_CONTEXT = 4', 'VRT49_TYPE_CONTEXT = 5', 'VRT49_TYPE_CONTEXT is 5'),
+    ('VRT49_TYPE_DATA_NO_ID = 0', 'VRT49_TYPE_DATA_NO_ID = 1', 'VRT49_TYPE_DATA_NO_ID is 1'),
+    ('VRT49_TYPE_EXTENSION_DATA = 3', 'VRT49_TYPE_EXTENSION = 3', 'VRT49_TYPE_EXTENSION_DATA is missing'),
+    ('VRT49_TSI_UTC = 1,\n    VRT49_TSI_GPS = 2', 'VRT49_TSI_UTC = 2,\n    VRT49_TSI_GPS = 1', 'VRT49_TSI_UTC is 2, in'),
+    ('    VRT49_TSI_OTHER = 3\n', '', 'enum vrt49_tsi has 0 1 2, in'),
+    ('VRT49_TSF_PICOSECONDS = 2', 'VRT49_TSF_PICOSECONDS = 1', 'VRT49_TSF_PICOSECONDS is 1, in'),
+    ('VRT49_TSF_NONE = 0', 'VRT49_TSF_NONE = 4', 'VRT49_TSF_NONE is 4, in'),
+    ('VRT49_TRAILER_AGC = 0x100', 'VRT49_TRAILER_AGC = 0x200', 'VRT49_TRAILER_AGC is 0x200'),
+    ('VRT49_TRAILER_USER = 0x00F', 'VRT49_TRAILER_USER = 0x00E', 'VRT49_TRAILER_USER is 0x00E'),
+    ('    VRT49_TRAILER_OVER_RANGE = 0x020,\n', '', 'VRT49_TRAILER_OVER_RANGE is missing'),
     ('/* A trailer word, taken apart. */', '/* A trailer word, taken apart' + 80 * '.' + ' */', ' columns'),
 ]
 
+# the same of the manual
+MANUALS = [
+    ('| `start` | LIST, ROOM |', '| `start` | ROOM, LIST |', 'vrt49_start has ROOM, LIST, in'),
+    ('| FORMAT, COUNT, VALUE, ROOM |', '| FORMAT, COUNT, ROOM |', 'vrt49_pack has FORMAT, COUNT, ROOM, in'),
+    ('| `page_length` | TABLE, SIZE |', '| `page_length` | TABLE, SIZE, ROOM |', 'vrt49_page_length has TABLE, SIZE, ROOM, in'),
+    ('BITS, SHORT, CUT, CLASS', 'SHORT, BITS, CUT, CLASS', 'vrt49_read has EMPTY, TYPE, SHORT'),
+    ('TABLE, those of `read`, STREAM', 'those of `read`, TABLE, STREAM', 'vrt49_play has EMPTY'),
+    ('those of `read`', 'those of `pack`', 'vrt49_play has TABLE, FORMAT'),
+    ('| `signed` | FORMAT, VALUE |\n', '', 'vrt49_signed has no row'),
+    ('| `readings`, `identity` |', '| `readings`, `identify` |', 'vrt49_identify has TABLE, STREAM, in'),
+    ('`well_made` | none |', '`well_made` | TABLE |', 'vrt49_well_made has TABLE, in'),
+    ('`play_run`, `reading` and `readings`.', '`play`, `reading` and `readings`.', 'or the calls that they make, are others'),
+    ('| 1 | UTC, since', '| 1 | local time, since', 'VRT49_TSI_UTC is 1, in'),
+    ('| sample count: ', '| count of samples: ', 'VRT49_TSF_SAMPLE_COUNT is 1, in'),
+    ('| 31 | 19 | calibrated', '| 31 | 18 | calibrated', 'the row of `VRT49_TRAILER_CALIBRATED_TIME` does not agree'),
+    ('| 0x040 | `VRT49_TRAILER_SP', '| 0x080 | `VRT49_TRAILER_SP', 'the row of `VRT49_TRAILER_SPECTRAL_INVERSION` does not agree'),
+    ('| 18 | valid data |', '| 18 | data |', 'the row of `VRT49_TRAILER_VALID_DATA` does not agree'),
+    ('`VRT49_TRAILER_SAMPLE_LOSS`', '`VRT49_TRAILER_LOSS`', 'VRT49_TRAILER_LOSS is missing'),
+]
 
-def said(path):
-    done = subprocess.run([os.path.join(ROOT, 'tools/check_header'), path], capture_output=True, text=True)
+
+def said(*paths):
+    done = subprocess.run([os.path.join(ROOT, 'tools/check_header'), *paths], capture_output=True, text=True)
     return done.returncode, done.stdout + done.stderr
 
 
-with open(os.path.join(ROOT, 'include/vrt49.h'), encoding='utf-8') as file:
-    header = file.read()
-wrong = 0
-for old, new, word in SPOILT:
-    with tempfile.NamedTemporaryFile('w', suffix='.h', encoding='utf-8') as bent:
-        bent.write(header.replace(old, new, 1))
-        bent.flush()
-        status, lines = said(bent.name)
-    if header.count(old) == 0 or status != 1 or word not in lines:
-        wrong += 1
-        print(f'not found: {old!r} as {new!r}; tools/check_header says, with status {status}:\n{lines}')
-print(f'{len(SPOILT)} spoilt headers, {len(SPOILT) - wrong} found')
-sys.exit(1 if wrong else 0)
+def not_found(path, rows, before=()):
+    """How many of the rows are not found, each put into a copy of a file, which is handed over behind those before."""
+    with open(os.path.join(ROOT, path), encoding='utf-8') as file:
+        whole = file.read()
+    wrong = 0
+    for old, new, part in rows:
+        with tempfile.NamedTemporaryFile('w', encoding='utf-8') as bent:
+            bent.write(whole.replace(old, new, 1))
+            bent.flush()
+            status, lines = said(*before, bent.name)
+        if old not in whole or status != 1 or part not in lines:
+            wrong += 1
+            print(f'not found: {old!r} as {new!r}; tools/check_header says, with status {status}:\n{lines}')
+    return wrong
+
+
+wrong = not_found('include/vrt49.h', HEADERS)
+print(f'{len(HEADERS)} spoilt headers, {len(HEADERS) - wrong} found')
+missed = not_found('docs/MANUAL.md', MANUALS, ['include/vrt49.h'])
+print(f'{len(MANUALS)} spoilt manuals, {len(MANUALS) - missed} found')
+sys.exit(1 if wrong or missed else 0)
