@@ -22,7 +22,8 @@ use Rattle.packet.specs.Parts.{streamed, hasSeconds, hasFraction, classAt, seco
 use Rattle.packet.specs.Parts.{fractionOf, partsOf, bodyOf, packetOf}
 use Rattle.packet.specs.Read.{headerList, prologueList, timeOver, classBad, readOf}
 use Rattle.packet.specs.inner.Steps.{headerChecks, prologueChecks, bodyChecks}
-use Rattle.packet_write.specs.Write.{flagBit, headerWidths, headerWord, sizeFor, given, classWord, leadingWords, classWords, timeWords, prologueWords, trailerWords}
+use Rattle.packet_write.specs.Write.{flagBit, headerWidths, headerWord, sizeFor, given, classWord, leadingWords, classWords, timeWords, prologueWords}
+use Rattle.packet_write.specs.Write.{trailerWords}
 use Rattle.packet_write.specs.Write.{packetWords, codesFit, flagsFit, classFits, partsFit}
 use Rattle.packet_write.specs.Write.{writeList, writeOf}
 use Rattle.packet_write.specs.inner.Steps.{partsChecks, measureChecks, roomChecks, writeChecks}
@@ -57,7 +58,8 @@ header-again w ws h e =
     let f = flags-again (ltb (typeOf w) 4) (w / 2 ^ 26 % 2) (w / 2 ^ 25 % 2) (w / 2 ^ 24 % 2) (mod-lt _ (lit< tt)) (mod-lt _ (lit< tt)) clear in
     let c : flagBit (classed w) ≡ w / 2 ^ 27 % 2 = bit-again (w / 2 ^ 27 % 2) (mod-lt _ (lit< tt)) in
     let size : sizeOf w ≡ w / 2 ^ 0 % 2 ^ 16 = rw (div-one w) in
-    let same : sizeOf w ∷ countOf w ∷ tsfOf w ∷ tsiOf w ∷ flagBit (tsmOf w) ∷ 0 ∷ flagBit (trailed w) ∷ flagBit (classed w) ∷ typeOf w ∷ [] ≡ fieldsFrom 0 headerWidths w =
+    let same : sizeOf w ∷ countOf w ∷ tsfOf w ∷ tsiOf w ∷ flagBit (tsmOf w) ∷ 0 ∷ flagBit (trailed w) ∷ flagBit (classed w) ∷ typeOf w ∷ []
+    ≡ fieldsFrom 0 headerWidths w =
     cc (size, f .0, f .1, f .2, c) in
     ap (join headerWidths) (same ∙ sym (split-from headerWidths w)) ∙ join-split headerWidths w h
 

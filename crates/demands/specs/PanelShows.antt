@@ -1,6 +1,6 @@
 -- What the panel and the caller see is what is held: `reading`, `readings` and `held_words` answer by the value in the last accepted Context packet of the
--- stream that carried the field, "and nothing if none did"; `counts` by its own accepted packets; `identity` by the list and by which fields were carried; `changed` by the values in
--- two tables.
+-- stream that carried the field, "and nothing if none did"; `counts` by its own accepted packets; `identity` by the list and by which fields were carried;
+-- `changed` by the values in two tables.
 use Rattle.words.specs.Kit.{_≡_, ℕ, _+_, _%_, _^_, _≤_, _<_, Bool, true, false, not, List, [], _∷_, _++_, length, drop}
 use mathlib.Core.List.{map}
 use mathlib.Core.Option.{Option, none, some}
