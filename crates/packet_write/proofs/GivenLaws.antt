@@ -15,7 +15,8 @@ use Rattle.packet.specs.Parts.{bodyAt}
 use Rattle.packet.specs.declared.Parts.{Parts}
 use Rattle.packet_write.specs.Write.{flagBit, headerWord, sizeFor, prologueWords, trailerWords, packetWords}
 use Rattle.packet_write.specs.inner.Steps.{partsChecks, writeChecks}
-use Rattle.packet_write.specs.inner.Given.{partsIn, HeaderFor}
+use Rattle.packet_write.specs.AsWords.{partsIn}
+use Rattle.packet_write.specs.inner.Given.{HeaderFor}
 use Rattle.packet_write.proofs.FitLaws.{Fits, Writable, writable, parts-passed, parts-fit}
 use Rattle.packet_write.proofs.HeaderLaws.{header-size, header-small, classed-is, trailed-is, size-for-is}
 use Rattle.packet_write.proofs.LayLaws.{prologue-length, trailer-length, laid-packet}

@@ -2,5 +2,7 @@
 
 -- what it answers and leaves
 pub mod Write
+-- a packet's parts as words
+pub mod AsWords
 -- what only the contracts inside cite
 pub mod inner

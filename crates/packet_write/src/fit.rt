@@ -9,7 +9,8 @@ ghost use Rattle.packet.specs.Header.{typeOf};
 ghost use Rattle.packet.specs.Read.{timeOver};
 ghost use Rattle.packet_write.specs.Write.{headerWord, sizeFor, codesFit, flagsFit, classFits};
 ghost use Rattle.packet_write.specs.inner.Steps.{partsChecks, roomChecks};
-ghost use Rattle.packet_write.specs.inner.Given.{partsIn, contentChecks};
+ghost use Rattle.packet_write.specs.AsWords.{partsIn};
+ghost use Rattle.packet_write.specs.inner.Given.{contentChecks};
 
 // Whether TSI, TSF and the count fit their bits.
 fn codes_fit(tsi: u32, tsf: u32, count: u32) -> bool

@@ -7,7 +7,8 @@ ghost use Rattle.words.specs.Part.{part, put};
 ghost use Rattle.words.specs.Laid.{Laid};
 ghost use Rattle.packet_write.specs.Write.{headerWord, sizeFor, given, leadingWords, classWords, timeWords, prologueWords, trailerWords, packetWords};
 ghost use Rattle.packet_write.specs.inner.Steps.{partsChecks, writeChecks};
-ghost use Rattle.packet_write.specs.inner.Given.{partsIn, HeaderFor};
+ghost use Rattle.packet_write.specs.AsWords.{partsIn};
+ghost use Rattle.packet_write.specs.inner.Given.{HeaderFor};
 
 // The header word of parts that are not refused, with a size of 0: its fields from the left, each shifted by the widths of those after it.
 pub fn header_word(q: &[u32]) -> u32

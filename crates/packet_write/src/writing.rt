@@ -2,7 +2,7 @@
 ghost use Rattle.words.specs.Kit.{_≡_, length};
 ghost use Rattle.words.specs.Outcome.{measured, Meets};
 ghost use Rattle.packet_write.specs.Write.{writeOf};
-ghost use Rattle.packet_write.specs.inner.Given.{partsIn};
+ghost use Rattle.packet_write.specs.AsWords.{partsIn};
 
 // Writes a packet whose parts are fifteen words q, as `write` does.
 pub fn write_parts(q: &[u32], body: &[u32], out: &mut [u32], at: usize) -> words::Length

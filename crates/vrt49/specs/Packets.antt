@@ -1,14 +1,13 @@
 -- Packets, trailers and the fields of a body: the values of each answer in the order of include/vrt49.h, and a packet's parts as words.
-use Rattle.words.specs.Kit.{ℕ, _/_, _%_, _^_, Bool, not, List, [], _∷_, _++_, eqb, ltb, length, getD}
+use Rattle.words.specs.Kit.{ℕ, _/_, _%_, _^_, Bool, not, List, [], _∷_, _++_, ltb, length, getD}
 use Rattle.words.specs.Numbers.{TYPE, VALUE}
 use Rattle.words.specs.Tests.{when, either}
-use Rattle.words.specs.Word.{highFirst}
 use Rattle.words.specs.Outcome.{Outcome, accepted, Done}
 use Rattle.words.specs.Refusals.{Refusals, firstGiven}
-use Rattle.packet.specs.declared.Parts.{Parts}
 use Rattle.packet.specs.declared.Packet.{Packet}
 use Rattle.packet.specs.Read.{bodyList}
 use Rattle.packet_trailer.specs.declared.Trailer.{Trailer}
+use Rattle.packet_write.specs.AsWords.{partsIn}
 use Rattle.packet_write.specs.Write.{sizeFor, partsFit, measureList, roomList, writtenDone}
 
 -- ---- the values
@@ -31,26 +30,7 @@ abbrev pub foundValues : List ℕ → List ℕ
 foundValues [] = 0 ∷ 0 ∷ 0 ∷ []
 foundValues (at ∷ rest) = 1 ∷ at ∷ rest
 
--- ---- a packet's parts as words: type, C, T, TSM, TSI, TSF, count, identifier, OUI, information class, packet class, seconds, fraction high, fraction low,
--- trailer word
-
-unfoldable pub partsOf : List ℕ → Parts
-partsOf ws = record {
-  kind = getD ws 0 0;
-  classed = eqb (getD ws 1 0) 1;
-  trailed = eqb (getD ws 2 0) 1;
-  tsm = eqb (getD ws 3 0) 1;
-  tsi = getD ws 4 0;
-  tsf = getD ws 5 0;
-  count = getD ws 6 0;
-  identifier = getD ws 7 0;
-  oui = getD ws 8 0;
-  information = getD ws 9 0;
-  code = getD ws 10 0;
-  seconds = getD ws 11 0;
-  fraction = highFirst (getD ws 12 0) (getD ws 13 0);
-  trailer = getD ws 14 0;
-}
+-- ---- a packet's parts as fifteen words (`partsIn`)
 
 -- a word for C, T or TSM that "does not fit its bits"
 abbrev pub flagsOver : List ℕ → Bool
@@ -66,11 +46,11 @@ wordsChecks ws = firstGiven (wordsList ws) (accepted tt)
 -- "Write: TYPE, VALUE, SHORT, SIZE, TIME, INDICATOR, LAYOUT, FIELD, ROOM": as `writeList` has them, and VALUE of the flags too
 abbrev pub writeWordsList : List ℕ → List ℕ → ℕ → ℕ → Refusals
 writeWordsList ws body room at =
-    let p = partsOf ws in
+    let p = partsIn ws in
     let n = length body in
     ((TYPE, ltb 5 (p .kind)) ∷ (VALUE, either (flagsOver ws) (not (partsFit p))) ∷ [])
     ++ measureList p n ++ bodyList (p .kind) body ++ roomList room at (sizeFor p n)
 
 -- what writing a packet whose parts are words answers and leaves
 unfoldable pub writeWordsOf : List ℕ → List ℕ → List ℕ → ℕ → Outcome (Done ℕ (List ℕ))
-writeWordsOf ws body out at = firstGiven (writeWordsList ws body (length out) at) (accepted (writtenDone (partsOf ws) body out at))
+writeWordsOf ws body out at = firstGiven (writeWordsList ws body (length out) at) (accepted (writtenDone (partsIn ws) body out at))

@@ -4,7 +4,7 @@ use Rattle.words.specs.declared.Length.{Length}
 use Rattle.words.specs.Outcome.{measured, Meets}
 use Rattle.packet.specs.declared.Parts.{Parts}
 use Rattle.packet_write.specs.Write.{flagBit, writeOf}
-use Rattle.packet_write.specs.inner.Given.{partsIn}
+use Rattle.packet_write.specs.AsWords.{partsIn}
 use Rattle.packet_write.proofs.GivenLaws.{parts-again}
 use Rattle.packet_write.proofs.write.Statement.{statement}
 use Rattle.packet_write.proofs.write.Tie as tie

@@ -7,7 +7,7 @@ use Rattle.words.proofs.Cases.{both-assoc}
 use Rattle.packet.specs.declared.Parts.{Parts}
 use Rattle.packet_write.specs.Write.{codesFit, flagsFit, classFits, partsFit}
 use Rattle.packet_write.specs.inner.Steps.{partsChecks}
-use Rattle.packet_write.specs.inner.Given.{partsIn}
+use Rattle.packet_write.specs.AsWords.{partsIn}
 use Rattle.packet_write.proofs.fit.check_parts.Statement.{statement}
 use Rattle.packet_write.proofs.fit.check_parts.Tie as tie
 

@@ -1,7 +1,7 @@
 -- `time_over` meets its promise: a fraction is TIME only where TSF is 2.
 use Rattle.words.proofs.Cases.{cases}
 use Rattle.packet.specs.Read.{timeOver}
-use Rattle.packet_write.specs.inner.Given.{partsIn}
+use Rattle.packet_write.specs.AsWords.{partsIn}
 use borrow.Author.Needs.{needs}
 use Rattle.packet_write.proofs.fit.time_over.Statement.{statement}
 use Rattle.packet_write.proofs.fit.time_over.Tie as tie

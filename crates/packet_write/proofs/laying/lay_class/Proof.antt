@@ -1,5 +1,5 @@
 -- `lay_class` meets its promise: where there is a class, its second word is the join of the two codes.
-use Rattle.packet_write.specs.inner.Given.{partsIn}
+use Rattle.packet_write.specs.AsWords.{partsIn}
 use Rattle.packet_write.proofs.LayLaws.{class-room, class-laid}
 use borrow.Author.Needs.{needs}
 use Rattle.packet_write.proofs.laying.lay_class.Statement.{statement}

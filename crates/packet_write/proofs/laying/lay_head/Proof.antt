@@ -1,5 +1,5 @@
 -- `lay_head` meets its promise: the header, and then the identifier where the first call ended.
-use Rattle.packet_write.specs.inner.Given.{partsIn}
+use Rattle.packet_write.specs.AsWords.{partsIn}
 use Rattle.packet_write.proofs.LayLaws.{head-first, head-second, head-laid}
 use borrow.Author.Needs.{needs}
 use Rattle.packet_write.proofs.laying.lay_head.Statement.{statement}

@@ -1,6 +1,6 @@
 -- `lay_time` meets its promise: the seconds, and then the fraction where the first call ended.
 use Rattle.words.proofs.Kit.{_^_, _<_, arith, getD, needs}
-use Rattle.packet_write.specs.inner.Given.{partsIn}
+use Rattle.packet_write.specs.AsWords.{partsIn}
 use Rattle.packet_write.proofs.GivenLaws.{high-given, low-given}
 use Rattle.packet_write.proofs.LayLaws.{seconds-room, fraction-room, time-laid}
 use Rattle.packet_write.proofs.laying.lay_time.Statement.{statement}

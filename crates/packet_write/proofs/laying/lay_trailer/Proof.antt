@@ -1,5 +1,5 @@
 -- `lay_trailer` meets its promise.
-use Rattle.packet_write.specs.inner.Given.{partsIn}
+use Rattle.packet_write.specs.AsWords.{partsIn}
 use Rattle.packet_write.proofs.LayLaws.{trailer-room, trailer-laid}
 use borrow.Author.Needs.{needs}
 use Rattle.packet_write.proofs.laying.lay_trailer.Statement.{statement}

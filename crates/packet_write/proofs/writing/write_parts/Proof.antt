@@ -12,7 +12,8 @@ use Rattle.packet.specs.Header.{typeOf}
 use Rattle.packet.specs.declared.Parts.{Parts}
 use Rattle.packet_write.specs.Write.{headerWord, sizeFor, packetWords, writeList, writeOf}
 use Rattle.packet_write.specs.inner.Steps.{partsChecks, roomChecks, writeChecks}
-use Rattle.packet_write.specs.inner.Given.{partsIn, contentChecks}
+use Rattle.packet_write.specs.AsWords.{partsIn}
+use Rattle.packet_write.specs.inner.Given.{contentChecks}
 use Rattle.packet_write.proofs.FitLaws.{parts-fit, parts-passed, write-groups, nothing-found}
 use Rattle.packet_write.proofs.HeaderLaws.{type-is}
 use Rattle.packet_write.proofs.writing.write_parts.Statement.{statement}
