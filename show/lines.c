@@ -438,5 +438,5 @@ void tell_summary(const survey *all, const recording *from)
     if (all->stopped_by != VRT49_OK)
         printf("stopped: refused %" PRIu32 " %s: %s\n", all->stopped_by,
                vrt49_name(all->stopped_by), reason(all->stopped_by));
-    printf("end %" PRIu64 " tail %d\n", all->stopped_at, (int)(from->bytes % 4));
+    printf("end %" PRIu64 " tail %d\n", all->stopped_at, tail_of(from));
 }

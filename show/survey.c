@@ -250,9 +250,10 @@ void play(survey *all, recording *from)
     static vrt49_entry entries[RUN];
     size_t packets, next, looked;
     all->stopped_by = start(all, from);
-    if (all->stopped_by != VRT49_OK)
+    if (all->stopped_by != VRT49_OK && !from->failed)
         tell_refused(all, NULL, all->stopped_by);
-    while (all->stopped_by == VRT49_OK && !(from->ended && from->at == from->have)) {
+    while (all->stopped_by == VRT49_OK && !from->failed &&
+           !(from->ended && from->at == from->have)) {
         accepted(vrt49_play_entries(all->table, all->layout, from->words, from->have, from->at,
                                     entries, RUN, &packets, &next), "vrt49_play_run");
         looked = look_at(all, from, entries, packets);

@@ -18,8 +18,9 @@ typedef struct {
     int little;         /* 1 where its words are little-endian */
     int ended;          /* 1 where no byte comes any more */
     int failed;         /* errno of a read that failed, or 0 */
-    int live;           /* 1 where its bytes may come slowly: it is no file */
-    uint64_t expected;  /* its bytes, where it is shown how far it is, else 0 */
+    int live;           /* 1 where its bytes may come slowly: it is no regular file */
+    int shown;          /* 1 where it is shown how far it is */
+    uint64_t size;      /* the bytes of a regular file, from where it is read; else 0 */
     uint64_t bytes;     /* that were read so far */
     uint64_t before;    /* words that came before words[0] */
     size_t have;        /* words that are there, */
@@ -30,6 +31,10 @@ typedef struct {
 
 /* Moves the words that were not played to the front, and reads what there is behind them. */
 void refill(recording *from);
+
+/* How many bytes stand behind the recording's last whole word, 0 to 3. Of a regular file that was
+   not read to its end its size says it; else those that were read. */
+int tail_of(const recording *from);
 
 /* ---- the survey: what happened so far */
 
@@ -111,7 +116,8 @@ typedef struct {
     size_t words_n;
 } packet;
 
-/* Plays the whole recording, and prints what happens in the survey's manner. */
+/* Plays the whole recording, and prints what happens in the survey's manner. Where a read fails it
+   ends there, and no refusal is printed. */
 void play(survey *all, recording *from);
 
 /* A call that cannot be refused here, since it is handed what the library made or accepted. */
