@@ -5,6 +5,7 @@
 
 #include "vrtshow.h"
 
+/* The smaller and the larger of two numbers. */
 static double smaller(double a, double b) { return a < b ? a : b; }
 static double larger(double a, double b) { return a > b ? a : b; }
 
@@ -38,17 +39,29 @@ static void halve(column *columns)
     memset(columns + COLUMNS / 2, 0, COLUMNS / 2 * sizeof columns[0]);
 }
 
+/* Makes one column of each two of what is refused. */
+static void halve_refused(uint32_t *refused)
+{
+    size_t c;
+    for (c = 0; c < COLUMNS / 2; c++)
+        refused[c] = refused[2 * c] + refused[2 * c + 1];
+    memset(refused + COLUMNS / 2, 0, COLUMNS / 2 * sizeof refused[0]);
+}
+
+/* Makes one column of each two of all. */
+static void halve_all(survey *all)
+{
+    size_t s;
+    for (s = 0; s < all->streams_n; s++)
+        halve(all->streams[s].columns);
+    halve_refused(all->refused_in);
+    all->shift++;
+}
+
 size_t column_now(survey *all)
 {
-    size_t i;
-    if (all->packets >> all->shift >= COLUMNS) {
-        for (i = 0; i < all->streams_n; i++)
-            halve(all->streams[i].columns);
-        for (i = 0; i < COLUMNS; i++)
-            all->refused_in[i] = i >= COLUMNS / 2 ? 0 :
-                                 all->refused_in[2 * i] + all->refused_in[2 * i + 1];
-        all->shift++;
-    }
+    if (all->packets >> all->shift >= COLUMNS)
+        halve_all(all);
     return (size_t)(all->packets >> all->shift);
 }
 
@@ -67,8 +80,7 @@ void note_band(survey *all, stream *of, band now)
 
 void note_unsure(survey *all, stream *of)
 {
-    size_t c, past = (size_t)((all->packets - 1) >> all->shift);
-    for (c = (size_t)(of->context >> all->shift); c <= past; c++)
+    size_t c, last = (size_t)((all->packets - 1) >> all->shift);
+    for (c = (size_t)(of->doubt.since >> all->shift); c <= last; c++)
         of->columns[c].unsure = 1;
-    of->unsure += of->since;
 }

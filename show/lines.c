@@ -42,12 +42,10 @@ static const struct {
 };
 enum { OTHERS_N = sizeof OTHERS / sizeof OTHERS[0] };
 
+/* The types of packets by name. */
 static const char *const TYPES[] = {"data without identifier", "data",
                                     "extension data without identifier", "extension data",
                                     "Context", "extension Context"};
-static const uint32_t COUNTED[] = {VRT49_TYPE_DATA, VRT49_TYPE_EXTENSION_DATA, VRT49_TYPE_CONTEXT,
-                                   VRT49_TYPE_EXTENSION_CONTEXT};
-enum { COUNTED_N = sizeof COUNTED / sizeof COUNTED[0] };
 
 const char *reason(uint32_t number)
 {
@@ -65,12 +63,6 @@ const char *reason(uint32_t number)
     case VRT49_LIST: return "it does not begin with 1 to 32 identifiers, each once";
     default: return "";
     }
-}
-
-/* Whether a packet that was read has an identifier. */
-static int has_identifier(const vrt49_packet *read)
-{
-    return read->type != VRT49_TYPE_DATA_NO_ID && read->type != VRT49_TYPE_EXTENSION_DATA_NO_ID;
 }
 
 /* ---- numbers as text */
@@ -152,30 +144,56 @@ static void put_stream(const survey *all, const stream *of)
     printf(" stream %d (0x%08" PRIX32 ")", (int)(of - all->streams), of->identifier);
 }
 
-/* The values of the fields of the set bits, each behind its value before where it had one; then the
-   names of the others that changed. */
-static void put_fields(const vrt49_panel *now, const vrt49_panel *before, uint32_t bits)
+/* The value of a field that the panel shows, behind its value before where it had one. */
+static void put_change(size_t i, const vrt49_panel *now, const vrt49_panel *before)
+{
+    vrt49_shown shown = vrt49_shown_of(now, VALUES[i].bit);
+    vrt49_shown old = vrt49_shown_of(before ? before : now, VALUES[i].bit);
+    printf("%s ", VALUES[i].text);
+    if (before && old.kind != VRT49_KIND_ABSENT) {
+        put_value(&old);
+        printf(" -> ");
+    }
+    put_value(&shown);
+    printf(" %s", VALUES[i].unit);
+}
+
+/* The values of the fields of the set bits; gives what stands before the next name. */
+static const char *put_values(const vrt49_panel *now, const vrt49_panel *before, uint32_t bits)
 {
     const char *between = "";
     size_t i;
-    for (i = 0; i < VALUES_N; i++) {
-        vrt49_shown shown = vrt49_shown_of(now, VALUES[i].bit);
-        vrt49_shown old = vrt49_shown_of(before ? before : now, VALUES[i].bit);
-        if ((bits >> VALUES[i].bit & 1) == 0 || shown.kind == VRT49_KIND_ABSENT)
-            continue;
-        printf("%s%s ", between, VALUES[i].text);
-        if (before && old.kind != VRT49_KIND_ABSENT) {
-            put_value(&old);
-            printf(" -> ");
+    for (i = 0; i < VALUES_N; i++)
+        if (bits >> VALUES[i].bit & 1) {
+            printf("%s", between);
+            put_change(i, now, before);
+            between = ", ";
         }
-        put_value(&shown);
-        printf(" %s", VALUES[i].unit);
-        between = ", ";
-    }
-    between = between[0] ? "; also " : "";
+    return between[0] ? "; also " : "";
+}
+
+/* The values of the fields of the set bits, then the names of those that have none; and the line's
+   end. */
+static void put_fields(const vrt49_panel *now, const vrt49_panel *before, uint32_t bits)
+{
+    const char *between = put_values(now, before, bits);
+    size_t i;
     for (i = 0; i < OTHERS_N; i++)
         if (bits >> OTHERS[i].bit & 1) {
             printf("%s%s", between, OTHERS[i].text);
+            between = ", ";
+        }
+    puts("");
+}
+
+/* Which fields are still in doubt, where some are; and the line's end. */
+static void put_doubt(uint32_t bits)
+{
+    const char *between = "; still in doubt: ";
+    size_t i;
+    for (i = 0; i < VALUES_N; i++)
+        if (bits >> VALUES[i].bit & 1) {
+            printf("%s%s", between, VALUES[i].text);
             between = ", ";
         }
     puts("");
@@ -203,8 +221,8 @@ static void line_refused(const packet *at, uint32_t number)
 void tell_columns(void)
 {
     puts("packet,word,event,stream,identifier,type,missing,unsure_since,refusal,name,changed,"
-         "tsi,seconds,tsf,fraction,rf_hz,if_hz,rf_offset_hz,if_band_offset_hz,bandwidth_hz,"
-         "sample_rate_hz,level_dbm,gain_1_db,gain_2_db,temperature_c");
+         "in_doubt,tsi,seconds,tsf,fraction,rf_hz,if_hz,rf_offset_hz,if_band_offset_hz,"
+         "bandwidth_hz,sample_rate_hz,level_dbm,gain_1_db,gain_2_db,temperature_c");
 }
 
 /* The value of a row's field, of a gain both; nothing where it is absent or there is no stream. */
@@ -260,7 +278,8 @@ static void put_when(const vrt49_packet *read)
         printf("%" PRIu64, vrt49_fraction(read));
 }
 
-/* A row; what: its cells missing,unsure_since,refusal,name,changed. */
+/* A row; what: its cells missing,unsure_since,refusal,name,changed. The one behind them is
+   in_doubt. */
 static void row(const survey *all, const stream *of, const packet *at, const char *event,
                 const char *what)
 {
@@ -268,7 +287,9 @@ static void row(const survey *all, const stream *of, const packet *at, const cha
     int good = at && vrt49_read(at->words, at->words_n, &read) == VRT49_OK;
     size_t i;
     put_who(all, of, at, good ? &read : NULL, event);
-    printf(",%s", what);
+    printf(",%s,", what);
+    if (of)
+        printf("0x%08" PRIX32, of->doubt.fields);
     put_when(good ? &read : NULL);
     for (i = 0; i < VALUES_N; i++)
         put_cell(of, VALUES[i].bit);
@@ -293,26 +314,52 @@ void tell_tuning(const survey *all, const stream *of, const packet *at, uint32_t
     put_fields(&of->panel, before, changed);
 }
 
-void tell_missing(const survey *all, const stream *of, const packet *at)
+/* The row of missing packets. */
+static void row_missing(const survey *all, const stream *of, const packet *at, uint32_t doubted)
 {
-    int context = at->said->type == VRT49_TYPE_CONTEXT;
-    char what[80];
-    if (all->manner == CSV && context)
-        snprintf(what, sizeof what, "%" PRIu32 ",%" PRIu64 ",,,", at->said->missing, of->context);
-    else if (all->manner == CSV)
-        snprintf(what, sizeof what, "%" PRIu32 ",,,,", at->said->missing);
-    if (all->manner == CSV)
-        row(all, of, at, "missing", what);
-    if (all->manner != LINES)
-        return;
+    char since[24] = "", what[80];
+    if (doubted != 0)
+        snprintf(since, sizeof since, "%" PRIu64, of->doubt.since);
+    snprintf(what, sizeof what, "%" PRIu32 ",%s,,,", at->said->missing, since);
+    row(all, of, at, "missing", what);
+}
+
+/* The line of missing packets. */
+static void line_missing(const survey *all, const stream *of, const packet *at, uint32_t doubted)
+{
     put_front(at);
     put_stream(all, of);
     printf(" missing %" PRIu32 " of type %" PRIu32 " (%s)", at->said->missing, at->said->type,
            TYPES[at->said->type]);
-    if (context)
-        printf(": tuning not to be trusted since packet %" PRIu64 ", for %" PRIu64 " data packets",
-               of->context, of->since);
-    puts("");
+    if (doubted == 0) {
+        puts("");
+        return;
+    }
+    printf(": tuning not to be trusted since packet %" PRIu64 ", for %" PRIu64 " data packets",
+           of->doubt.since, of->doubt.packets);
+    put_doubt(of->doubt.fields);
+}
+
+void tell_missing(const survey *all, const stream *of, const packet *at, uint32_t doubted)
+{
+    if (all->manner == CSV)
+        row_missing(all, of, at, doubted);
+    if (all->manner == LINES)
+        line_missing(all, of, at, doubted);
+}
+
+void tell_trusted(const survey *all, const stream *of, const packet *at)
+{
+    char what[80];
+    snprintf(what, sizeof what, ",%" PRIu64 ",,,", of->doubt.since);
+    if (all->manner == CSV)
+        row(all, of, at, "trusted", what);
+    if (all->manner != LINES)
+        return;
+    put_front(at);
+    put_stream(all, of);
+    printf(" tuning trusted again: it was not since packet %" PRIu64 ", for %" PRIu64
+           " data packets\n", of->doubt.since, of->doubt.packets);
 }
 
 void tell_refused(const survey *all, const packet *at, uint32_t number)
@@ -354,10 +401,11 @@ static void put_strangers(const survey *all)
         printf("not declared: no identifier, packets %s\n", grouped(all->unnamed));
 }
 
-/* What a stream did: its packets by type, and its last tuning. */
+/* What a stream did: its packets by type, its last tuning, and where it had none or cannot be
+   trusted. */
 static void put_summary(const survey *all, const stream *of)
 {
-    uint32_t held = held_bits(all, of) & VALUE_FIELDS;
+    uint32_t held = of->held & VALUE_FIELDS;
     printf("%6d 0x%08" PRIX32, (int)(of - all->streams), of->identifier);
     put_counts(all, of);
     printf("       last tuning: ");
@@ -365,8 +413,12 @@ static void put_summary(const survey *all, const stream *of)
         put_fields(&of->panel, NULL, held);
     else
         puts("none");
-    if (of->unsure != 0)
-        printf("       tuning not to be trusted for %s data packets\n", grouped(of->unsure));
+    if (of->untuned != 0)
+        printf("       without a tuning: %s data packets\n", grouped(of->untuned));
+    if (of->doubt.total == 0 && of->doubt.fields == 0)
+        return;
+    printf("       tuning not to be trusted for %s data packets", grouped(of->doubt.total));
+    put_doubt(of->doubt.fields);
 }
 
 void tell_summary(const survey *all, const recording *from)
@@ -386,5 +438,5 @@ void tell_summary(const survey *all, const recording *from)
     if (all->stopped_by != VRT49_OK)
         printf("stopped: refused %" PRIu32 " %s: %s\n", all->stopped_by,
                vrt49_name(all->stopped_by), reason(all->stopped_by));
-    printf("end %" PRIu64 " tail %d\n", all->stopped_at, (int)(from->bytes % 4));
+    printf("end %" PRIu64 " tail %d\n", all->stopped_at, tail_of(from));
 }

@@ -8,8 +8,9 @@
 
 #include "vrtshow.h"
 
-enum { PAGE = 1400, LEFT = 160, WIDE = 1024, RIGHT = LEFT + WIDE, TOP = 100, LANE = 17, GAP = 7 };
+enum { PAGE = 1468, LEFT = 184, WIDE = 1024, RIGHT = LEFT + WIDE, TOP = 100, LANE = 22, GAP = 7 };
 enum { LOW_ROW = 80, DENSE = 400 }; /* units of height, and changes of the band */
+enum { NAME_ROOM = 64 };            /* characters of the recording's name that are shown */
 
 /* What is drawn on, and the row that is drawn. */
 typedef struct {
@@ -19,6 +20,11 @@ typedef struct {
     double top, height; /* of the row */
     double low, scale;  /* the frequency at the bottom of its plot, MHz, and units for each MHz */
 } sheet;
+
+/* How many packets of a stream were seen, and how many are missing, of all types together. */
+typedef struct {
+    uint64_t seen, missing, contexts_missing;
+} sums;
 
 /* Where a packet stands, of all packets. */
 static double x_of(const sheet *on, uint64_t number)
@@ -75,18 +81,24 @@ static void title(const sheet *on, size_t from, size_t to)
         fprintf(on->out, "<title>packet %s: ", grouped(last));
 }
 
+/* How many digits the numbers of an axis have behind the point. */
+static int digits_of(double step)
+{
+    int digits = 0;
+    for (; step < 0.999; step *= 10)
+        digits++;
+    return digits;
+}
+
 /* The step of an axis: 1, 2 or 5 times a power of ten, at least so much, that gives at most so many
-   marks; digits: how many it has behind the point. */
-static double step_of(double range, double marks, double least, int *digits)
+   marks. */
+static double step_of(double range, double marks, double least)
 {
     static const double FACTORS[] = {2, 2.5, 2};
-    double step = least, whole;
+    double step = least;
     int i;
     for (i = 0; range / step > marks; i++)
         step *= FACTORS[i % 3];
-    *digits = 0;
-    for (whole = step; whole < 0.999; whole *= 10)
-        ++*digits;
     return step;
 }
 
@@ -106,7 +118,6 @@ static void draw_level(const sheet *on, double mhz, int digits)
 static void draw_scale(const sheet *on, const stream *of)
 {
     double room = on->height - LANE, range = room / on->scale, step;
-    int digits;
     int64_t i;
     if (on->height < LOW_ROW) {
         draw_level(on, of->least, -1);
@@ -114,26 +125,40 @@ static void draw_scale(const sheet *on, const stream *of)
             draw_level(on, of->greatest, -1);
         return;
     }
-    step = step_of(range, room / (on->height < 100 ? 16 : 24), 1e-6, &digits);
+    step = step_of(range, room / (on->height < 100 ? 16 : 24), 1e-6);
     for (i = (int64_t)(on->low / step) - 1; (double)i * step <= on->low + range; i++)
         if ((double)i * step >= on->low)
-            draw_level(on, (double)i * step, digits);
+            draw_level(on, (double)i * step, digits_of(step));
 }
 
-/* Where the tuning cannot be trusted: a span for columns that follow each other. */
+/* The last of the columns that follow each other in which the tuning cannot be trusted. */
+static size_t end_of_span(const sheet *on, const stream *of, size_t c)
+{
+    while (c + 1 < on->columns && of->columns[c + 1].unsure)
+        c++;
+    return c;
+}
+
+/* A span of columns in which the tuning cannot be trusted. */
+static void draw_span(const sheet *on, size_t from, size_t to)
+{
+    double x = x_of(on, first_of(on, from)), wide = x_of(on, first_of(on, to + 1)) - x;
+    fprintf(on->out, "<rect class='unsure' x='%.1f' y='%.1f' width='%.1f' height='%.1f'>", x,
+            on->top, wide < 2 ? 2 : wide, on->height);
+    title(on, from, to);
+    fputs("tuning not to be trusted</title></rect>\n", on->out);
+}
+
+/* Where the tuning cannot be trusted. */
 static void draw_unsure(const sheet *on, const stream *of)
 {
-    size_t c, from;
-    for (c = 0; c < on->columns; c++) {
+    size_t c, last;
+    for (c = 0; c < on->columns; c = last + 1) {
+        last = c;
         if (!of->columns[c].unsure)
             continue;
-        for (from = c; c + 1 < on->columns && of->columns[c + 1].unsure; c++)
-            ;
-        double x = x_of(on, first_of(on, from)), wide = x_of(on, first_of(on, c + 1)) - x;
-        fprintf(on->out, "<rect class='unsure' x='%.1f' y='%.1f' width='%.1f' height='%.1f'>", x,
-                on->top, wide < 2 ? 2 : wide, on->height);
-        title(on, from, c);
-        fputs("tuning not to be trusted</title></rect>\n", on->out);
+        last = end_of_span(on, of, c);
+        draw_span(on, c, last);
     }
 }
 
@@ -218,8 +243,7 @@ static void draw_mark(const sheet *on, size_t c, double y, const char *kind, con
 }
 
 /* What stands left and right of the row. */
-static void draw_labels(const sheet *on, const stream *of, uint64_t seen, uint64_t missing,
-                        uint64_t contexts)
+static void draw_labels(const sheet *on, const stream *of, const sums *sum)
 {
     double wide = of->last.high - of->last.low;
     text(on, 12, on->top + 13, "bold", "stream %d", (int)(of - on->all->streams));
@@ -231,14 +255,14 @@ static void draw_labels(const sheet *on, const stream *of, uint64_t seen, uint64
              mhz_text(wide));
     else
         text(on, RIGHT + 10, on->top + 12, "small", "%s MHz", mhz_text(of->last.centre));
-    text(on, RIGHT + 10, on->top + 25, "small", "packets %s, retunings %s", grouped(seen),
-         grouped(of->tunings ? of->tunings - 1 : 0));
-    if (contexts != 0)
+    text(on, RIGHT + 10, on->top + 25, "small", "packets %s, retunings %s",
+         grouped(sum->seen), grouped(of->tunings ? of->tunings - 1 : 0));
+    if (sum->contexts_missing != 0)
         text(on, RIGHT + 10, on->top + 38, "small red bold", "missing %s (Context %s)",
-             grouped(missing), grouped(contexts));
+             grouped(sum->missing), grouped(sum->contexts_missing));
     else
-        text(on, RIGHT + 10, on->top + 38, missing ? "small red" : "small", "missing %s",
-             grouped(missing));
+        text(on, RIGHT + 10, on->top + 38, sum->missing ? "small red" : "small", "missing %s",
+             grouped(sum->missing));
 }
 
 /* The frequencies that the row's plot reaches over. */
@@ -257,21 +281,45 @@ static void draw_back(const sheet *on, double height)
             on->top, WIDE, height);
 }
 
+/* Where Context packets are missing. */
+static void draw_contexts(const sheet *on, const stream *of)
+{
+    size_t c;
+    for (c = 0; c < on->columns; c++)
+        draw_mark(on, c, floor_of(on), "context", "l5 6l-5 6l-5 -6z",
+                  of->columns[c].contexts_missing, "missing Context");
+}
+
+/* Where other packets are missing. These marks reach from the middle of the diamonds to below them,
+   and are drawn over them: so both are seen, however close they stand. */
+static void draw_missing(const sheet *on, const stream *of)
+{
+    size_t c;
+    for (c = 0; c < on->columns; c++)
+        draw_mark(on, c, floor_of(on) + 6, "missing", "v13", of->columns[c].missing, "missing");
+}
+
+/* The stream's packets of all types. */
+static sums add_up(const survey *all, const stream *of)
+{
+    sums sum = {0, 0, 0};
+    size_t i;
+    sum.contexts_missing = counted(all, of, VRT49_TYPE_CONTEXT).missing;
+    for (i = 0; i < COUNTED_N; i++) {
+        vrt49_count count = counted(all, of, COUNTED[i]);
+        sum.seen += count.seen;
+        sum.missing += count.missing;
+    }
+    return sum;
+}
+
 /* The row of a stream. */
 static void draw_stream(sheet *on, const stream *of)
 {
-    static const uint32_t TYPES[] = {1, 3, 4, 5};
-    uint64_t seen = 0, missing = 0;
-    vrt49_count count;
-    size_t i;
-    for (i = 0; i < 4; i++) {
-        count = counted(on->all, of, TYPES[i]);
-        seen += count.seen;
-        missing += count.missing;
-    }
+    sums sum = add_up(on->all, of);
     fprintf(on->out, "<g id='stream%d'>\n", (int)(of - on->all->streams));
     draw_back(on, on->height);
-    draw_labels(on, of, seen, missing, counted(on->all, of, VRT49_TYPE_CONTEXT).missing);
+    draw_labels(on, of, &sum);
     if (of->tunings <= DENSE)
         draw_unsure(on, of);
     if (of->tunings != 0) {
@@ -282,12 +330,9 @@ static void draw_stream(sheet *on, const stream *of)
     }
     if (of->tunings > DENSE) /* above what covers the row */
         draw_unsure(on, of);
-    draw_sends(on, of, seen);
-    for (i = 0; i < on->columns; i++)
-        draw_mark(on, i, floor_of(on) + 2, "missing", "v11", of->columns[i].missing, "missing");
-    for (i = 0; i < on->columns; i++)
-        draw_mark(on, i, floor_of(on), "context", "l5 7l-5 7l-5 -7z",
-                  of->columns[i].contexts_missing, "missing Context");
+    draw_sends(on, of, sum.seen);
+    draw_contexts(on, of);
+    draw_missing(on, of);
     fputs("</g>\n", on->out);
 }
 
@@ -300,27 +345,32 @@ static const char STYLE[] =
     ".band{fill:#3b82c4;fill-opacity:.33}.centre{fill:none;stroke:#12508f;stroke-width:1.6}"
     ".dense{stroke-width:.7;stroke-opacity:.5}.sends{stroke:#7f9bb8;stroke-width:3}"
     ".missing{stroke:#d00000;stroke-width:2}"
-    ".unsure{fill:#ffb020;fill-opacity:.4}.context{fill:#ff9800;stroke:#000;stroke-width:.8}"
+    ".unsure{fill:#ffb020;fill-opacity:.4}.context{fill:#ff9800;stroke:#b35900;stroke-width:.8}"
     ".refused{stroke:#222;stroke-width:1.5}"
     ".stop{stroke:#c00;stroke-width:2;stroke-dasharray:5 3}"
     "</style>\n<rect width='100%' height='100%' fill='#fff'/>\n";
 
 static const char LEGEND[] =
-    "<g transform='translate(160 76)'><path class='band' d='M0 -7h26v14h-26z'/>"
-    "<path class='centre' d='M0 0h26'/>"
+    "<path class='band' d='M0 -7h26v14h-26z'/><path class='centre' d='M0 0h26'/>"
     "<text class='small' x='32' y='4'>centre frequency and bandwidth, MHz</text>"
     "<path class='sends' d='M256 1h26'/><text class='small' x='288' y='4'>stream sends</text>"
-    "<path class='missing' d='M382 -5v11'/><text class='small' x='390' y='4'>packets missing</text>"
-    "<rect class='unsure' x='492' y='-7' width='26' height='14'/>"
-    "<path class='context' d='M518 -7l5 7l-5 7l-5 -7z'/><text class='small' x='530' y='4'>"
-    "Context packet missing: the tuning before it is not to be trusted</text>"
-    "<path class='refused' d='M906 -6v13'/><text class='small' x='914' y='4'>packet refused</text>"
-    "</g>\n";
+    "<path class='missing' d='M382 -6v13'/><text class='small' x='390' y='4'>packets missing</text>"
+    "<rect class='unsure' x='492' y='-7' width='32' height='14'/>"
+    "<path class='context' d='M502 -6l5 6l-5 6l-5 -6z'/><text class='small' x='530' y='4'>"
+    "Context packet missing; in the span the tuning is not to be trusted</text>"
+    "<path class='refused' d='M914 -7v14'/><text class='small' x='922' y='4'>packet refused</text>"
+    "<path class='stop' d='M1018 0h29'/><text class='small' x='1053' y='4'>"
+    "ended by a refusal</text></g>\n";
 
-/* The recording's name without its folders, fit for SVG. */
+/* The recording's name without its folders, fit for SVG; of a long one only the end. */
 static void put_name(FILE *out, const char *name)
 {
     const char *at = strrchr(name, '/') ? strrchr(name, '/') + 1 : name;
+    size_t length = strlen(at);
+    if (length > NAME_ROOM) {
+        fputs("..", out);
+        at += length - (NAME_ROOM - 2);
+    }
     for (; *at; at++) {
         if (*at == '&')
             fputs("&amp;", out);
@@ -350,10 +400,21 @@ static void draw_head(const sheet *on, const char *name)
         fprintf(on->out, "stopped at word %s, refused %" PRIu32 " %s: %s</text>\n",
                 grouped(all->stopped_at), all->stopped_by, vrt49_name(all->stopped_by),
                 reason(all->stopped_by));
-    fputs(LEGEND, on->out);
+    fprintf(on->out, "<g transform='translate(%d 76)'>%s", LEFT, LEGEND);
 }
 
-/* The row of refused packets, and where the recording stopped. */
+/* Where a refusal ended the recording: a line through all rows. */
+static void draw_stop(const sheet *on)
+{
+    const survey *all = on->all;
+    if (all->stopped_by == VRT49_OK || all->packets == 0)
+        return;
+    fprintf(on->out, "<path class='stop' d='M%.1f %dV%.1f'><title>packet %s: ended by refusal "
+            "%" PRIu32 " %s</title></path>\n", x_of(on, all->packets - 1), TOP, on->top + 20,
+            grouped(all->packets - 1), all->stopped_by, vrt49_name(all->stopped_by));
+}
+
+/* The row of refused packets. */
 static void draw_refused(const sheet *on)
 {
     const survey *all = on->all;
@@ -366,17 +427,14 @@ static void draw_refused(const sheet *on)
          vrt49_name(all->stopped_by));
     for (c = 0; c < on->columns; c++)
         draw_mark(on, c, on->top + 3, "refused", "v14", all->refused_in[c], "refused");
-    if (all->stopped_by != VRT49_OK && all->packets != 0)
-        fprintf(on->out, "<path class='stop' d='M%.1f %dV%.1f'/>\n",
-                x_of(on, all->packets - 1), TOP, on->top + 20);
+    draw_stop(on);
     fputs("</g>\n", on->out);
 }
 
 /* The numbers of the packets. */
 static void draw_axis(const sheet *on)
 {
-    int digits;
-    uint64_t step = (uint64_t)step_of((double)on->all->packets, 10, 1, &digits), number;
+    uint64_t step = (uint64_t)step_of((double)on->all->packets, 10, 1), number;
     for (number = 0; number <= on->all->packets; number += step) {
         fprintf(on->out, "<path class='tick' d='M%.1f %.1fv5'/>", x_of(on, number), on->top + 20);
         text(on, x_of(on, number), on->top + 38, "small middle", "%s", grouped(number));
@@ -391,7 +449,7 @@ static void draw_axis(const sheet *on)
 void draw(FILE *out, const survey *all, const char *name)
 {
     uint32_t n = all->streams_n, s;
-    double height = n == 1 ? 320 : n <= 3 ? 180 : n <= 6 ? 130 : n <= 12 ? 90 : n <= 20 ? 64 : 52;
+    double height = n == 1 ? 320 : n <= 3 ? 180 : n <= 6 ? 130 : n <= 12 ? 95 : n <= 20 ? 69 : 57;
     sheet on = {out, all, 0, TOP, height, 0, 1};
     double tall = TOP + n * (on.height + GAP) + 90;
     on.columns = (size_t)((all->packets + (UINT64_C(1) << all->shift) - 1) >> all->shift);

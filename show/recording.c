@@ -7,7 +7,7 @@
 
 #include "vrtshow.h"
 
-/* Puts the bytes of words into the host's order. */
+/* Puts the bytes of little-endian words into the host's order. */
 static void from_little(uint32_t *words, size_t n)
 {
     const unsigned char *b = (const unsigned char *)words;
@@ -16,6 +16,7 @@ static void from_little(uint32_t *words, size_t n)
         words[i] = (uint32_t)b[3] << 24 | (uint32_t)b[2] << 16 | (uint32_t)b[1] << 8 | b[0];
 }
 
+/* Puts the bytes of big-endian words into the host's order. */
 static void from_big(uint32_t *words, size_t n)
 {
     const unsigned char *b = (const unsigned char *)words;
@@ -27,8 +28,8 @@ static void from_big(uint32_t *words, size_t n)
 /* Before more is waited for: how far it is, where it is shown, and what was printed so far. */
 static void tell_progress(const recording *from)
 {
-    if (from->expected != 0)
-        fprintf(stderr, "\rvrtshow: %3d %% ", (int)(100 * from->bytes / from->expected));
+    if (from->shown)
+        fprintf(stderr, "\rvrtshow: %3d %% ", (int)(100 * from->bytes / from->size));
     if (from->live)
         fflush(stdout);
 }
@@ -54,4 +55,9 @@ void refill(recording *from)
     from->have = used / 4;
     from->loose = used % 4;
     (from->little ? from_little : from_big)(from->words + left, from->have - left);
+}
+
+int tail_of(const recording *from)
+{
+    return (int)((from->live || from->ended ? from->bytes : from->size) % 4);
 }

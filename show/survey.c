@@ -15,8 +15,11 @@ static const uint32_t BAND = 1u << VRT49_BIT_BANDWIDTH | 1u << VRT49_BIT_IF_REFE
                              1u << VRT49_BIT_RF_REFERENCE_FREQUENCY_OFFSET |
                              1u << VRT49_BIT_IF_BAND_OFFSET;
 
-/* A call that cannot be refused here: the tables are those that the library made. */
-static void accepted(uint32_t number, const char *call)
+/* All types that have an identifier. */
+const uint32_t COUNTED[COUNTED_N] = {VRT49_TYPE_DATA, VRT49_TYPE_EXTENSION_DATA,
+                                     VRT49_TYPE_CONTEXT, VRT49_TYPE_EXTENSION_CONTEXT};
+
+void accepted(uint32_t number, const char *call)
 {
     if (number == VRT49_OK)
         return;
@@ -29,12 +32,9 @@ vrt49_shown shown_of(const stream *of, uint32_t bit)
     return vrt49_shown_of(&of->panel, bit);
 }
 
-uint32_t held_bits(const survey *all, const stream *of)
+int has_identifier(const vrt49_packet *read)
 {
-    uint32_t identifier, held;
-    accepted(vrt49_identity(all->table, all->layout, (size_t)(of - all->streams), &identifier,
-                            &held), "vrt49_identity");
-    return held;
+    return read->type != VRT49_TYPE_DATA_NO_ID && read->type != VRT49_TYPE_EXTENSION_DATA_NO_ID;
 }
 
 vrt49_count counted(const survey *all, const stream *of, uint32_t type)
@@ -47,30 +47,48 @@ vrt49_count counted(const survey *all, const stream *of, uint32_t type)
 
 /* ---- the list */
 
+/* Whether more has to come before the list is all there, or cannot be one. */
+static int is_open(const recording *from)
+{
+    return from->have == 0 ||
+           (from->words[0] <= VRT49_STREAMS_MAX && from->have <= from->words[0]);
+}
+
+/* Asks the stream's own table what it holds, and what the panel shows of it. */
+static void show(stream *of)
+{
+    accepted(vrt49_identity(of->table, VRT49_TABLE_WORDS(1), 0, &of->identifier, &of->held),
+             "vrt49_identity");
+    accepted(vrt49_show_all(of->table, VRT49_TABLE_WORDS(1), 0, &of->panel), "vrt49_show_all");
+}
+
+/* Starts the own tables of the streams from the table of all. */
+static void start_streams(survey *all)
+{
+    size_t s, length;
+    for (s = 0; s < all->streams_n; s++) {
+        stream *of = &all->streams[s];
+        accepted(vrt49_own_table(all->table, all->layout, s, of->table, VRT49_TABLE_WORDS(1),
+                                 &length), "vrt49_own_table");
+        show(of);
+    }
+}
+
 /* Starts the tables from the list at the front: 0 or LIST. */
 static uint32_t start(survey *all, recording *from)
 {
-    uint32_t number, held;
-    size_t s, length;
+    uint32_t number;
     do
         refill(from);
-    while (!from->ended && (from->have == 0 || (from->words[0] <= VRT49_STREAMS_MAX &&
-                                                from->have <= from->words[0])));
-    if (from->have == 0 || from->words[0] > VRT49_STREAMS_MAX || from->have <= from->words[0])
+    while (!from->ended && is_open(from));
+    if (is_open(from) || from->words[0] > VRT49_STREAMS_MAX)
         return VRT49_LIST;
     number = vrt49_start(from->words + 1, from->words[0], all->table,
                          VRT49_TABLE_WORDS(VRT49_STREAMS_MAX), &all->layout);
     if (number != VRT49_OK)
         return number;
     all->streams_n = from->words[0];
-    for (s = 0; s < all->streams_n; s++) {
-        stream *of = &all->streams[s];
-        accepted(vrt49_identity(all->table, all->layout, s, &of->identifier, &held),
-                 "vrt49_identity");
-        accepted(vrt49_own_table(all->table, all->layout, s, of->table, VRT49_TABLE_WORDS(1),
-                                 &length), "vrt49_own_table");
-        accepted(vrt49_show_all(of->table, length, 0, &of->panel), "vrt49_show_all");
-    }
+    start_streams(all);
     from->at = 1 + all->streams_n;
     return VRT49_OK;
 }
@@ -119,25 +137,34 @@ static void look(survey *all, stream *of, const packet *at)
     of->since = 0;
     if (changed == 0)
         return;
-    accepted(vrt49_show_all(of->table, VRT49_TABLE_WORDS(1), 0, &of->panel), "vrt49_show_all");
+    show(of);
     if (changed & BAND)
         band_changed(all, of);
     if (changed & TUNING_FIELDS || all->every)
         tell_tuning(all, of, at, changed, &before);
 }
 
-/* Packets are missing before this one. */
-static void miss(survey *all, stream *of, column *now, const packet *at)
+/* Counts the packets that are missing before this one. */
+static void count_missing(survey *all, column *now, const packet *at)
 {
     all->missing += at->said->missing;
     if (at->said->type == VRT49_TYPE_CONTEXT) {
         now->contexts_missing += at->said->missing;
         all->contexts_missing += at->said->missing;
-        note_unsure(all, of);
     } else {
         now->missing += at->said->missing;
     }
-    tell_missing(all, of, at);
+}
+
+/* A Context packet that was accepted. */
+static void hear_context(survey *all, stream *of, const packet *at)
+{
+    uint32_t doubted = doubt_at(all, of, at);
+    if (at->said->missing != 0)
+        tell_missing(all, of, at, doubted);
+    look(all, of, at);
+    if (at->said->missing == 0 && doubted != 0 && of->doubt.fields == 0)
+        tell_trusted(all, of, at);
 }
 
 /* A packet that was accepted. */
@@ -146,12 +173,15 @@ static void hear(survey *all, const packet *at)
     stream *of = &all->streams[at->said->stream];
     column *now = &of->columns[column_now(all)];
     now->seen++;
+    count_missing(all, now, at);
+    if (at->said->type == VRT49_TYPE_CONTEXT) {
+        hear_context(all, of, at);
+        return;
+    }
     if (at->said->missing != 0)
-        miss(all, of, now, at);
-    if (at->said->type == VRT49_TYPE_CONTEXT)
-        look(all, of, at);
-    else if (at->said->type != VRT49_TYPE_EXTENSION_CONTEXT)
-        of->since++;
+        tell_missing(all, of, at, 0);
+    if (at->said->type != VRT49_TYPE_EXTENSION_CONTEXT)
+        count_data(of);
 }
 
 /* ---- packets that are refused */
@@ -162,7 +192,7 @@ static void count_stranger(survey *all, const packet *at)
     vrt49_packet read;
     size_t i = 0;
     accepted(vrt49_read(at->words, at->words_n, &read), "vrt49_read");
-    if (read.type == VRT49_TYPE_DATA_NO_ID || read.type == VRT49_TYPE_EXTENSION_DATA_NO_ID) {
+    if (!has_identifier(&read)) {
         all->unnamed++;
         return;
     }
@@ -220,14 +250,16 @@ void play(survey *all, recording *from)
     static vrt49_entry entries[RUN];
     size_t packets, next, looked;
     all->stopped_by = start(all, from);
-    if (all->stopped_by != VRT49_OK)
+    if (all->stopped_by != VRT49_OK && !from->failed)
         tell_refused(all, NULL, all->stopped_by);
-    while (all->stopped_by == VRT49_OK && !(from->ended && from->at == from->have)) {
+    while (all->stopped_by == VRT49_OK && !from->failed &&
+           !(from->ended && from->at == from->have)) {
         accepted(vrt49_play_entries(all->table, all->layout, from->words, from->have, from->at,
                                     entries, RUN, &packets, &next), "vrt49_play_run");
         looked = look_at(all, from, entries, packets);
         if (!from->ended && (looked < packets || from->at == from->have))
             refill(from);
     }
+    end_doubts(all);
     all->stopped_at = from->before + from->at;
 }

@@ -17,14 +17,15 @@ static const char USAGE[] =
     "\n"
     "Plays a recording of any length: 32-bit words, S, S identifiers, packets. Without RECORDING,\n"
     "or with -, it is standard input. A line is printed where a stream's tuning changes, where\n"
-    "packets are missing and where one is refused; then a summary of each stream. Words, packets\n"
-    "and streams are numbered from 0.\n"
+    "packets are missing, where the tuning is trusted again after that, and where a packet is\n"
+    "refused; then a summary of each stream. Words, packets and streams are numbered from 0.\n"
     "\n"
     "  -l          words are little-endian; else they are big-endian\n"
     "  -a          a line also where other held fields change alone: temperature, state, ..\n"
     "  -q          the summary alone\n"
     "  --csv       CSV instead of lines and summary; frequencies are in hertz, exactly\n"
-    "  --svg FILE  a picture besides: the tuning of each stream over the packets\n"
+    "  --svg FILE  a picture besides: the tuning of each stream over the packets; it is written\n"
+    "              over a picture, and over no other file\n"
     "  --help      this text\n"
     "\n"
     "In lines ~ stands before a frequency that is rounded, to a millihertz.\n"
@@ -34,9 +35,15 @@ static const char USAGE[] =
 enum { REFUSED = 1, TROUBLE = 2 };
 enum { LARGE = 1 << 26 }; /* bytes of a recording whose progress is shown */
 
+/* The first words of captures: pcap in micro- and in nanoseconds, in both byte orders, and
+   pcapng. */
+static const uint32_t CAPTURES[] = {0xD4C3B2A1, 0xA1B2C3D4, 0x4D3CB2A1, 0xA1B23C4D, 0x0A0D0D0A};
+enum { CAPTURES_N = sizeof CAPTURES / sizeof CAPTURES[0] };
+
 static survey all;
 static recording from;
-static const char *name = "standard input", *svg_name;
+static const char *path, *svg_path;
+static const char *name = "standard input";
 
 /* Says what is wrong with a file, and ends. */
 static void trouble(const char *file, const char *what)
@@ -45,40 +52,66 @@ static void trouble(const char *file, const char *what)
     exit(TROUBLE);
 }
 
-/* Says how it is used, and ends. */
-static void wrong_use(void)
+/* ---- the arguments */
+
+/* Says what is wrong with an argument, and how the program is used, and ends. */
+static void wrong_use(const char *argument, const char *what)
 {
-    fputs(USAGE, stderr);
+    fprintf(stderr, "vrtshow: %s: %s\n%s", argument, what, USAGE);
     exit(TROUBLE);
 }
 
-/* Takes one argument, and gives how many it used. */
+/* Takes what is printed in place of lines; it is said once. */
+static void take_manner(const char *argument, enum manner manner)
+{
+    if (all.manner != LINES)
+        wrong_use(argument, "one too many");
+    all.manner = manner;
+}
+
+/* Takes a file's name; each file is named once. */
+static void take_file(const char *argument, const char **into, const char *file)
+{
+    if (*into)
+        wrong_use(argument, "one too many");
+    *into = file;
+}
+
+/* Takes one argument, and the file behind it where it has one: gives how many it took. */
 static int take(int left, char **argument)
 {
     const char *a = argument[0];
+    if (strcmp(a, "--help") == 0) {
+        fputs(USAGE, stdout);
+        exit(0);
+    }
+    if (strcmp(a, "--svg") == 0) {
+        if (left < 2)
+            wrong_use(a, "has no file behind it");
+        take_file(a, &svg_path, argument[1]);
+        return 2;
+    }
     if (strcmp(a, "-l") == 0)
         from.little = 1;
     else if (strcmp(a, "-a") == 0)
         all.every = 1;
-    else if (strcmp(a, "-q") == 0 && all.manner == LINES)
-        all.manner = SUMMARY;
-    else if (strcmp(a, "--csv") == 0 && all.manner == LINES)
-        all.manner = CSV;
-    else if (strcmp(a, "--svg") == 0 && left > 1 && !svg_name) {
-        svg_name = argument[1];
-        return 2;
-    } else if (strcmp(a, "--help") == 0) {
-        fputs(USAGE, stdout);
-        exit(0);
-    } else
-        return 0;
+    else if (strcmp(a, "-q") == 0)
+        take_manner(a, SUMMARY);
+    else if (strcmp(a, "--csv") == 0)
+        take_manner(a, CSV);
+    else if (a[0] == '-' && a[1] != 0)
+        wrong_use(a, "no such option");
+    else
+        take_file(a, &path, a);
     return 1;
 }
 
-/* Opens the recording; - is standard input, which is open. */
-static void open_recording(const char *path)
+/* ---- the files */
+
+/* Opens the recording; standard input, also named -, is open. */
+static void open_recording(void)
 {
-    if (strcmp(path, "-") == 0)
+    if (!path || strcmp(path, "-") == 0)
         return;
     name = path;
     from.file = open(path, O_RDONLY);
@@ -86,44 +119,110 @@ static void open_recording(const char *path)
         trouble(name, "cannot be opened");
 }
 
-/* How far it is, is shown of a large file where standard error is a terminal, unless lines go there
-   too. */
+/* Looks at what the recording is. How far it is, is shown of a large file where standard error is a
+   terminal, unless lines go there too. */
 static void look_at_recording(void)
 {
     struct stat status;
+    off_t at = lseek(from.file, 0, SEEK_CUR);
     from.live = fstat(from.file, &status) != 0 || !S_ISREG(status.st_mode);
-    if (!from.live && status.st_size > LARGE && isatty(2) && (all.manner == SUMMARY || !isatty(1)))
-        from.expected = (uint64_t)status.st_size;
+    if (!from.live && status.st_size > at)
+        from.size = (uint64_t)(status.st_size - at);
+    from.shown = from.size > LARGE && isatty(2) && (all.manner == SUMMARY || !isatty(1));
+}
+
+/* Whether two files are the same one. */
+static int is_same(const struct stat *a, const struct stat *b)
+{
+    return a->st_dev == b->st_dev && a->st_ino == b->st_ino;
+}
+
+/* Whether a file that is there may be written over: it is empty, or a picture, or no regular
+   file. */
+static int is_picture(const struct stat *there)
+{
+    char first = '<';
+    int file;
+    if (!S_ISREG(there->st_mode) || there->st_size == 0)
+        return 1;
+    file = open(svg_path, O_RDONLY);
+    if (file < 0 || read(file, &first, 1) < 0)
+        trouble(svg_path, "cannot be read");
+    close(file);
+    return first == '<';
+}
+
+/* Why the picture is not written, where it would destroy a file; else nothing. */
+static const char *destroyed(void)
+{
+    struct stat there, recorded;
+    if (stat(svg_path, &there) != 0)
+        return NULL;
+    if (fstat(from.file, &recorded) == 0 && is_same(&there, &recorded))
+        return "is the recording";
+    return is_picture(&there) ? NULL : "is not a picture";
+}
+
+/* Opens the picture. What it has stays until it is drawn. */
+static FILE *open_picture(void)
+{
+    const char *why = destroyed();
+    FILE *svg;
+    int file;
+    if (why) {
+        fprintf(stderr, "vrtshow: %s: %s: not written over\n", svg_path, why);
+        exit(TROUBLE);
+    }
+    file = open(svg_path, O_WRONLY | O_CREAT, 0666);
+    svg = file < 0 ? NULL : fdopen(file, "w");
+    if (!svg)
+        trouble(svg_path, "cannot be written");
+    return svg;
+}
+
+/* Draws the picture in place of what its file has; a pipe or a terminal has nothing to take off. */
+static void write_picture(FILE *svg)
+{
+    int failed;
+    if (ftruncate(fileno(svg), 0) != 0 && errno != EINVAL)
+        trouble(svg_path, "cannot be written");
+    draw(svg, &all, name);
+    failed = ferror(svg);
+    if (fclose(svg) != 0 || failed)
+        trouble(svg_path, "cannot be written");
+}
+
+/* ---- the end */
+
+/* Says what a recording looks like that does not begin with a list. */
+static void tell_likeness(uint32_t first)
+{
+    size_t i;
+    if (first != 0 && (first & 0xFFFFFF) == 0 && first >> 24 <= VRT49_STREAMS_MAX)
+        fprintf(stderr, "vrtshow: its words look as if they were %s-endian: try it %s -l\n",
+                from.little ? "big" : "little", from.little ? "without" : "with");
+    for (i = 0; i < CAPTURES_N; i++)
+        if (first == CAPTURES[i])
+            fputs("vrtshow: it looks like a capture: tools/capture makes a recording of it\n",
+                  stderr);
 }
 
 /* Says on standard error why the recording ended before its end. */
 static void tell_end(void)
 {
-    uint32_t swapped = all.stopped_by == VRT49_LIST && from.have != 0 ? from.words[0] : 0;
     fprintf(stderr, "vrtshow: %s: stopped at word %" PRIu64 ": refused %" PRIu32 " %s: %s\n", name,
             all.stopped_at, all.stopped_by, vrt49_name(all.stopped_by), reason(all.stopped_by));
-    if (swapped != 0 && (swapped & 0xFFFFFF) == 0 && swapped >> 24 <= VRT49_STREAMS_MAX)
-        fprintf(stderr, "vrtshow: its words look as if they were %s-endian: try it %s -l\n",
-                from.little ? "big" : "little", from.little ? "without" : "with");
+    if (all.stopped_by == VRT49_LIST && from.have != 0)
+        tell_likeness(from.words[0]);
 }
 
-int main(int argc, char **argv)
+/* Plays the recording, and says all that is printed. */
+static void show_recording(void)
 {
-    FILE *svg = NULL;
-    int i, used;
-    for (i = 1; i < argc && (used = take(argc - i, argv + i)) != 0; i += used)
-        ;
-    if (i < argc - 1 || (i < argc && argv[i][0] == '-' && argv[i][1] != 0))
-        wrong_use();
-    if (i < argc)
-        open_recording(argv[i]);
-    look_at_recording();
-    if (svg_name && !(svg = fopen(svg_name, "w")))
-        trouble(svg_name, "cannot be written");
     if (all.manner == CSV)
         tell_columns();
     play(&all, &from);
-    if (from.expected != 0)
+    if (from.shown)
         fprintf(stderr, "\r                \r");
     if (from.failed) {
         errno = from.failed;
@@ -133,11 +232,23 @@ int main(int argc, char **argv)
         tell_summary(&all, &from);
     if (fflush(stdout) != 0 || ferror(stdout))
         trouble("standard output", "cannot be written");
+}
+
+int main(int argc, char **argv)
+{
+    FILE *svg = NULL;
+    int i;
+    for (i = 1; i < argc; i += take(argc - i, argv + i))
+        ;
+    open_recording();
+    look_at_recording();
+    if (svg_path)
+        svg = open_picture();
+    show_recording();
     if (svg)
-        draw(svg, &all, name);
-    if (svg && (ferror(svg) | fclose(svg)) != 0)
-        trouble(svg_name, "cannot be written");
-    if (all.stopped_by != VRT49_OK)
-        tell_end();
-    return all.stopped_by != VRT49_OK ? REFUSED : 0;
+        write_picture(svg);
+    if (all.stopped_by == VRT49_OK)
+        return 0;
+    tell_end();
+    return REFUSED;
 }

@@ -1,7 +1,7 @@
 /* vrtshow.h: what the files of vrtshow share. recording.c hands over a recording's words, survey.c
-   plays them and sees what happens, columns.c gathers it for the picture, lines.c says it as lines,
-   as CSV and as a summary, picture.c draws it, and vrtshow.c is the program. Nothing is allocated:
-   all memory is fixed. */
+   plays them and sees what happens, doubt.c knows which fields of a tuning are in doubt, columns.c
+   gathers it all for the picture, lines.c says it as lines, as CSV and as a summary, picture.c
+   draws it, and vrtshow.c is the program. Nothing is allocated: all memory is fixed. */
 #ifndef VRTSHOW_H
 #define VRTSHOW_H
 #include <stdint.h>
@@ -18,8 +18,9 @@ typedef struct {
     int little;         /* 1 where its words are little-endian */
     int ended;          /* 1 where no byte comes any more */
     int failed;         /* errno of a read that failed, or 0 */
-    int live;           /* 1 where its bytes may come slowly: it is no file */
-    uint64_t expected;  /* its bytes, where it is shown how far it is, else 0 */
+    int live;           /* 1 where its bytes may come slowly: it is no regular file */
+    int shown;          /* 1 where it is shown how far it is */
+    uint64_t size;      /* the bytes of a regular file, from where it is read; else 0 */
     uint64_t bytes;     /* that were read so far */
     uint64_t before;    /* words that came before words[0] */
     size_t have;        /* words that are there, */
@@ -30,6 +31,10 @@ typedef struct {
 
 /* Moves the words that were not played to the front, and reads what there is behind them. */
 void refill(recording *from);
+
+/* How many bytes stand behind the recording's last whole word, 0 to 3. Of a regular file that was
+   not read to its end its size says it; else those that were read. */
+int tail_of(const recording *from);
 
 /* ---- the survey: what happened so far */
 
@@ -56,13 +61,23 @@ typedef struct {
     double least, greatest;    /* the centres of all these bands */
 } column;
 
+/* What is in doubt of a stream's tuning. */
+typedef struct {
+    uint32_t fields;  /* those that are in doubt now */
+    uint64_t since;   /* the packet at which the doubt began; the last doubt, where none is now */
+    uint64_t packets; /* the stream's data packets in it so far */
+    uint64_t total;   /* and in all doubts so far */
+} doubt;
+
 typedef struct {
     uint32_t identifier;
     uint32_t table[VRT49_TABLE_WORDS(1)]; /* its own: the tuning at its last Context packet */
-    vrt49_panel panel;                    /* what the panel shows of that */
+    uint32_t held;                        /* the fields that it holds there */
+    vrt49_panel panel;                    /* and what the panel shows of them */
     uint64_t context;                     /* the number of its last Context packet */
     uint64_t since;                       /* its data packets since then */
-    uint64_t unsure;                      /* its data packets whose tuning cannot be trusted */
+    uint64_t untuned;                     /* those before it held a field of the tuning */
+    doubt doubt;
     uint64_t tunings;                     /* how often its band changed, the first time included */
     band last;                            /* its band; it has one where tunings is not 0 */
     double low, high, least, greatest;    /* the edges and centres of all its bands */
@@ -101,17 +116,35 @@ typedef struct {
     size_t words_n;
 } packet;
 
-/* Plays the whole recording, and prints what happens in the survey's manner. */
+/* Plays the whole recording, and prints what happens in the survey's manner. Where a read fails it
+   ends there, and no refusal is printed. */
 void play(survey *all, recording *from);
+
+/* A call that cannot be refused here, since it is handed what the library made or accepted. */
+void accepted(uint32_t number, const char *call);
 
 /* What the panel shows of a field of the stream. */
 vrt49_shown shown_of(const stream *of, uint32_t bit);
 
-/* The fields that the stream holds. */
-uint32_t held_bits(const survey *all, const stream *of);
+/* Whether a packet that was read has an identifier. */
+int has_identifier(const vrt49_packet *read);
 
-/* What the stream counted of a type. */
+/* The types that a stream counts, and what it counted of one of them. */
+enum { COUNTED_N = 4 };
+extern const uint32_t COUNTED[COUNTED_N];
 vrt49_count counted(const survey *all, const stream *of, uint32_t type);
+
+/* ---- what is in doubt */
+
+/* Notes a Context packet, before it is looked at. Gives the fields that are in doubt by it, before
+   those that it carries are taken off. */
+uint32_t doubt_at(survey *all, stream *of, const packet *at);
+
+/* Counts a data packet of the stream. */
+void count_data(stream *of);
+
+/* Notes that the recording has ended. */
+void end_doubts(survey *all);
 
 /* ---- columns of the picture */
 
@@ -121,7 +154,8 @@ size_t column_now(survey *all);
 /* Notes that the stream has another band from this packet on. */
 void note_band(survey *all, stream *of, band now);
 
-/* Notes that the stream's tuning cannot be trusted from its last Context packet to this packet. */
+/* Notes that the stream's tuning cannot be trusted since its doubt began, up to the packet before
+   the one that is looked at. */
 void note_unsure(survey *all, stream *of);
 
 /* ---- what is printed */
@@ -133,8 +167,12 @@ void tell_columns(void);
 void tell_tuning(const survey *all, const stream *of, const packet *at, uint32_t changed,
                  const vrt49_panel *before);
 
-/* That packets are missing before this one. */
-void tell_missing(const survey *all, const stream *of, const packet *at);
+/* That packets are missing before this one; doubted: the fields that are in doubt by it, before
+   those that it carries are taken off. */
+void tell_missing(const survey *all, const stream *of, const packet *at, uint32_t doubted);
+
+/* That nothing is in doubt any more from this packet on. */
+void tell_trusted(const survey *all, const stream *of, const packet *at);
 
 /* That the packet is refused; or the list, where there is no packet. */
 void tell_refused(const survey *all, const packet *at, uint32_t number);
