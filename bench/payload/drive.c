@@ -42,6 +42,8 @@ static u64 sum(const u64 *items, const u8 *events, const u16 *channels, size_t n
     return s;
 }
 int main(int argc, char **argv) {
+    if (argc != 8)
+        return 2;
     int mode = atoi(argv[1]);
     u32 link = atoi(argv[2]), field = atoi(argv[3]), item = atoi(argv[4]), event = atoi(argv[5]), channel = atoi(argv[6]);
     size_t n = atol(argv[7]), m = words_of(link, field, n);
