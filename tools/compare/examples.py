@@ -1,7 +1,7 @@
 """Holds the examples for C to the reference's text of each recording of samples/recordings: examples.py FOLDER [COMMAND ..]. FOLDER has them as
 tools/try_install leaves them, COMMAND runs them. `stream` must count what the text has, whether it takes 1, 7 or 65,535 words at a time;
 `tuning` must print a line for each Context packet; both must end with the text's refusal; and where there is none, `resume`, stopped after every few
-packets, must save the page of a play that was never stopped."""
+packets, must save the page of a play that was never stopped. What `resume` cannot read or write it must name, and leave as it is."""
 import glob
 import os
 import re
@@ -78,7 +78,47 @@ def wrong(recording):
         yield 'resume: another page'
 
 
+def tree(folder):
+    """The files and folders in a folder, and what the files hold."""
+    found = {}
+    for path in sorted(glob.glob(f'{folder}/**', recursive=True)):
+        with open(os.devnull if os.path.isdir(path) else path, 'rb') as file:
+            found[path] = file.read()
+    return found
+
+
+def wrong_files():
+    """What `resume` does with wrong arguments and with files that it cannot read, write or take: a line on standard error, a status, and nothing else."""
+    survey, usage = os.path.join(ROOT, 'samples/recordings/survey.vrt'), 'resume RECORDING SAVED PACKETS: two files, and how many packets\n'
+    with tempfile.TemporaryDirectory() as at:
+        saved, damaged, blocked, fresh, none = (f'{at}/{name}' for name in ('saved', 'damaged', 'blocked', 'fresh', 'none'))
+        run('resume', survey, saved, '17')
+        with open(saved, 'rb') as file, open(damaged, 'wb') as cut:
+            cut.write(file.read()[:-4])
+        place = int.from_bytes(tree(at)[saved][:4], 'big')
+        os.mkdir(f'{blocked}.new')
+        cases = [((), 2, usage), ((survey, fresh), 2, usage), ((survey, fresh, '1', '2'), 2, usage),
+                 *(((survey, fresh, number), 2, usage) for number in ('', 'many', '-1', '1x', ' 1')),
+                 *(((none, page, '1'), 2, f'resume: {none} cannot be read: No such file or directory\n') for page in (saved, fresh)),
+                 ((at, fresh, '1'), 2, f'resume: {at} cannot be read: Is a directory\n'),
+                 ((survey, at, '1'), 2, f'resume: {at} cannot be read: Is a directory\n'),
+                 ((survey, f'{none}/saved', '1'), 2, f'resume: {none}/saved cannot be written: No such file or directory\n'),
+                 ((survey, blocked, '1'), 2, f'resume: {blocked} cannot be written: Is a directory\n'),
+                 ((survey, fresh + 300 * 'x', '1'), 2, f'resume: {fresh + 300 * "x"} cannot be read: File name too long\n'),
+                 ((os.devnull, fresh, '1'), 1, 'at word 1 refused: LIST\n'), ((survey, damaged, '1'), 1, f'at word {place} refused: PAGE\n')]
+        before = tree(at)
+        for arguments, status, says in cases:
+            have = run('resume', *arguments)
+            if have != (status, '', says):
+                yield f'resume {" ".join(arguments)}: {have}'
+            if tree(at) != before:
+                yield f'resume {" ".join(arguments)}: the files are not as they were'
+
+
 found = tried = 0
+for line in wrong_files():
+    found += 1
+    print(line)
 for recording in sorted(glob.glob(os.path.join(ROOT, 'samples/recordings/*.vrt'))):
     if os.path.getsize(recording) > LONGEST:
         continue
