@@ -90,10 +90,18 @@ static uint32_t play(size_t n, size_t layout, size_t most, size_t *at)
     return VRT49_OK;
 }
 
+/* Where stream 0 is tuned, if that is known. */
+static void print_tuning(size_t layout)
+{
+    vrt49_shown shown;
+    if (vrt49_show(table, layout, 0, VRT49_BIT_RF_REFERENCE_FREQUENCY, &shown) == VRT49_OK &&
+        shown.kind == VRT49_KIND_FREQUENCY)
+        printf(", stream 0 at %.6f MHz", vrt49_hertz(&shown) / 1e6);
+}
+
 int main(int argc, char **argv)
 {
     size_t n, at = 0, from, layout = 0, length = 0;
-    vrt49_shown shown;
     uint32_t number;
     if (argc != 4 || !*argv[3] || argv[3][strspn(argv[3], "0123456789")]) {
         fputs("resume RECORDING SAVED PACKETS: two files, and how many packets\n", stderr);
@@ -117,9 +125,7 @@ int main(int argc, char **argv)
     if (!write_file(argv[2], saved, 1 + length))
         return failed(argv[2], "written");
     printf("words %zu to %zu, a page of %zu words", from, at, length);
-    if (vrt49_show(table, layout, 0, VRT49_BIT_RF_REFERENCE_FREQUENCY, &shown) == VRT49_OK &&
-        shown.kind == VRT49_KIND_FREQUENCY)
-        printf(", stream 0 at %.6f MHz", vrt49_hertz(&shown) / 1e6);
+    print_tuning(layout);
     puts("");
     return 0;
 }

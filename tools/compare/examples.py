@@ -87,25 +87,31 @@ def tree(folder):
     return found
 
 
-def wrong_files():
-    """What `resume` does with wrong arguments and with files that it cannot read, write or take: a line on standard error, a status, and nothing else."""
+def wrong_files(at):
+    """Wrong arguments of `resume`, and files that it cannot read, write or take, some of them made in a folder: what it is given, its status, and what it says."""
     survey, usage = os.path.join(ROOT, 'samples/recordings/survey.vrt'), 'resume RECORDING SAVED PACKETS: two files, and how many packets\n'
+    saved, damaged, blocked, fresh, none = (f'{at}/{name}' for name in ('saved', 'damaged', 'blocked', 'fresh', 'none'))
+    run('resume', survey, saved, '17')
+    with open(saved, 'rb') as file, open(damaged, 'wb') as cut:
+        words = file.read()
+        cut.write(words[:-4])
+    os.mkdir(f'{blocked}.new')
+    for arguments in (), (survey, fresh), (survey, fresh, '1', '2'), *((survey, fresh, number) for number in ('', 'many', '-1', '1x', ' 1')):
+        yield arguments, 2, usage
+    for recording, page, name, what in ((none, saved, none, 'read: No such file or directory'), (none, fresh, none, 'read: No such file or directory'),
+                                        (at, fresh, at, 'read: Is a directory'), (survey, at, at, 'read: Is a directory'),
+                                        (survey, f'{none}/saved', f'{none}/saved', 'written: No such file or directory'),
+                                        (survey, blocked, blocked, 'written: Is a directory'),
+                                        (survey, fresh + 300 * 'x', fresh + 300 * 'x', 'read: File name too long')):
+        yield (recording, page, '1'), 2, f'resume: {name} cannot be {what}\n'
+    yield (os.devnull, fresh, '1'), 1, 'at word 1 refused: LIST\n'
+    yield (survey, damaged, '1'), 1, f'at word {int.from_bytes(words[:4], "big")} refused: PAGE\n'
+
+
+def wrong_with_files():
+    """Where `resume` says something else of these, or a file is afterwards not as it was."""
     with tempfile.TemporaryDirectory() as at:
-        saved, damaged, blocked, fresh, none = (f'{at}/{name}' for name in ('saved', 'damaged', 'blocked', 'fresh', 'none'))
-        run('resume', survey, saved, '17')
-        with open(saved, 'rb') as file, open(damaged, 'wb') as cut:
-            cut.write(file.read()[:-4])
-        place = int.from_bytes(tree(at)[saved][:4], 'big')
-        os.mkdir(f'{blocked}.new')
-        cases = [((), 2, usage), ((survey, fresh), 2, usage), ((survey, fresh, '1', '2'), 2, usage),
-                 *(((survey, fresh, number), 2, usage) for number in ('', 'many', '-1', '1x', ' 1')),
-                 *(((none, page, '1'), 2, f'resume: {none} cannot be read: No such file or directory\n') for page in (saved, fresh)),
-                 ((at, fresh, '1'), 2, f'resume: {at} cannot be read: Is a directory\n'),
-                 ((survey, at, '1'), 2, f'resume: {at} cannot be read: Is a directory\n'),
-                 ((survey, f'{none}/saved', '1'), 2, f'resume: {none}/saved cannot be written: No such file or directory\n'),
-                 ((survey, blocked, '1'), 2, f'resume: {blocked} cannot be written: Is a directory\n'),
-                 ((survey, fresh + 300 * 'x', '1'), 2, f'resume: {fresh + 300 * "x"} cannot be read: File name too long\n'),
-                 ((os.devnull, fresh, '1'), 1, 'at word 1 refused: LIST\n'), ((survey, damaged, '1'), 1, f'at word {place} refused: PAGE\n')]
+        cases = list(wrong_files(at))
         before = tree(at)
         for arguments, status, says in cases:
             have = run('resume', *arguments)
@@ -116,7 +122,7 @@ def wrong_files():
 
 
 found = tried = 0
-for line in wrong_files():
+for line in wrong_with_files():
     found += 1
     print(line)
 for recording in sorted(glob.glob(os.path.join(ROOT, 'samples/recordings/*.vrt'))):
