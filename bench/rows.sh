@@ -4,6 +4,8 @@ CC=${CC:-x86_64-linux-gnu-gcc}
 INSNCOUNT=${INSNCOUNT:-tools/insncount}
 LIB=${LIB:-target/staticlib/libvrt49.a}
 work=${WORK:-$(mktemp -d)}
+[ -n "${WORK:-}" ] || trap 'rm -rf "$work"' EXIT
+trap 'exit 1' HUP INT TERM
 n=1000
 built() { # FILE ..: those of C by hand
     $CC -O2 -static -DSIDE=c "$here/drive.c" "$@" -o "$work/c"

@@ -9,6 +9,8 @@ CC=${CC:-x86_64-linux-gnu-gcc}
 INSNCOUNT=${INSNCOUNT:-tools/insncount}
 case $INSNCOUNT in /*) ;; *) INSNCOUNT=$PWD/$INSNCOUNT ;; esac
 work=${WORK:-$(mktemp -d)}
+[ -n "${WORK:-}" ] || trap 'rm -rf "$work"' EXIT
+trap 'exit 1' HUP INT TERM
 mkdir -p "$work/crates/payload_c/src"
 for c in words fields bitstream payload_format payload_pack payload_unpack; do rm -rf "$work/crates/$c"; cp -R "crates/$c" "$work/crates/"; rm -rf "$work/crates/$c/must-fail"; done
 cp "$here/calls.txt" "$work/crates/payload_c/src/lib.rt"
@@ -16,9 +18,9 @@ printf 'words:\nfields: words\nbitstream: words\npayload_format: words fields bi
 (cd "$work" && rt staticlib payload_c >"$work/log" 2>&1) || { tail -5 "$work/log"; exit 1; }
 for side in by_hand by_hand_tighter; do
     $CC -O2 -c "$here/$side.c" -o "$work/$side.o"
-    $CC -O2 -static -DFU=c_unpack -DFP=c_pack "$here/drive.c" "$work/$side.o" -o "$work/$side"
+    $CC -O2 -static -DUNPACK=c_unpack -DPACK=c_pack "$here/drive.c" "$work/$side.o" -o "$work/$side"
 done
-$CC -O2 -static -DFU=r_unpack -DFP=r_pack "$here/drive.c" "$work/target/staticlib/libpayload_c.a" -o "$work/proved"
+$CC -O2 -static -DUNPACK=r_unpack -DPACK=r_pack "$here/drive.c" "$work/target/staticlib/libpayload_c.a" -o "$work/proved"
 counted() { "$INSNCOUNT" "$@" 2>&1 | sed -n 's/^instructions //p'; }
 count() { # PROGRAM MODE FORMAT.. N: the call's instructions, without the same program's set-up
     p=$1 m=$2; shift 2

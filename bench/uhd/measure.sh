@@ -9,6 +9,8 @@ here=$(cd "$(dirname "$0")" && pwd)
 CXX=${CXX:-x86_64-linux-gnu-g++}
 INSNCOUNT=${INSNCOUNT:-tools/insncount}
 work=${WORK:-$(mktemp -d)}
+[ -n "${WORK:-}" ] || trap 'rm -rf "$work"' EXIT
+trap 'exit 1' HUP INT TERM
 mkdir -p "$work"
 library=${LIBRARY:-target/staticlib/libvrt49.a}
 [ -n "${LIBRARY:-}" ] || rt staticlib vrt49 >"$work/log" 2>&1 || { tail -5 "$work/log"; exit 1; }

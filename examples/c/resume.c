@@ -1,55 +1,66 @@
 /* resume RECORDING SAVED PACKETS: plays so many packets of a recording, saves the table's page in a
    file, and stops. Where the file is there, it first puts the page back, and goes on where the last
    one stopped: the tuning and the counts are those of a play that was never stopped.
-   SAVED has big-endian words: the place in the recording, then the page. */
+   SAVED has big-endian words: the place in the recording, then the page. The exit status is 1 for a
+   refusal, 2 for wrong arguments and for a file that cannot be read or written. */
+#include <errno.h>
 #include <inttypes.h>
 #include <stdio.h>
 #include <stdlib.h>
+#include <string.h>
 
 #include "vrt49.h"
 
-enum { WORDS = 1 << 20 };
+enum { WORDS = 1 << 20, SAVED = 1 + VRT49_PAGE_WORDS(VRT49_STREAMS_MAX) };
 
 static uint32_t words[WORDS], table[VRT49_TABLE_WORDS(VRT49_STREAMS_MAX)];
-static uint32_t saved[1 + VRT49_PAGE_WORDS(VRT49_STREAMS_MAX)];
+static uint32_t saved[SAVED];
 
-/* The words of a file, at most so many; none where there is no such file. */
-static size_t read_file(const char *name, uint32_t *to, size_t most)
+/* Reads the words of a file, at most so many; 0 where it cannot be read. */
+static int read_file(const char *name, uint32_t *to, size_t most, size_t *n)
 {
     FILE *file = fopen(name, "rb");
     unsigned char b[4];
-    size_t n = 0;
-    while (file && n < most && fread(b, 1, 4, file) == 4)
-        to[n++] = (uint32_t)b[0] << 24 | (uint32_t)b[1] << 16 | (uint32_t)b[2] << 8 | b[3];
+    int good;
+    for (*n = 0; file && *n < most && fread(b, 1, 4, file) == 4; (*n)++)
+        to[*n] = (uint32_t)b[0] << 24 | (uint32_t)b[1] << 16 | (uint32_t)b[2] << 8 | b[3];
+    good = file && !ferror(file);
     if (file)
         fclose(file);
-    return n;
+    return good;
 }
 
-/* Writes a file beside the old one, and puts it in its place when it is whole. */
+/* Writes a file beside the old one, and puts it in its place when it is whole; 0 if it cannot. */
 static int write_file(const char *name, const uint32_t *from, size_t n)
 {
     char beside[4096];
     FILE *file;
     size_t i;
-    int good = snprintf(beside, sizeof beside, "%s.new", name) < (int)sizeof beside;
+    int shift, good = snprintf(beside, sizeof beside, "%s.new", name) < (int)sizeof beside;
+    errno = ENAMETOOLONG;
     file = good ? fopen(beside, "wb") : NULL;
     if (!file)
         return 0;
-    for (i = 0; i < n; i++) {
-        putc(from[i] >> 24 & 255, file);
-        putc(from[i] >> 16 & 255, file);
-        putc(from[i] >> 8 & 255, file);
-        putc(from[i] & 255, file);
-    }
+    for (i = 0; i < n; i++)
+        for (shift = 24; shift >= 0; shift -= 8)
+            putc((int)(from[i] >> shift & 255), file);
     good = !ferror(file);
-    return (fclose(file) == 0) & good && rename(beside, name) == 0;
+    good = fclose(file) == 0 && good && rename(beside, name) == 0;
+    if (!good)
+        remove(beside);
+    return good;
 }
 
-/* A table to go on with, and the place: of the saved page, or fresh. */
-static uint32_t begin(const char *name, size_t n, size_t *layout, size_t *at)
+/* Says why a file is not read or not written; gives the exit status. */
+static int failed(const char *name, const char *what)
 {
-    size_t length = read_file(name, saved, sizeof saved / sizeof saved[0]);
+    fprintf(stderr, "resume: %s cannot be %s: %s\n", name, what, strerror(errno));
+    return 2;
+}
+
+/* A table to go on with, and the place: of the words saved, or fresh where there are none. */
+static uint32_t begin(size_t length, size_t n, size_t *layout, size_t *at)
+{
     size_t room = sizeof table / sizeof table[0], streams = n ? words[0] : 0;
     *at = length ? saved[0] : 1 + streams;
     if (length)
@@ -79,31 +90,42 @@ static uint32_t play(size_t n, size_t layout, size_t most, size_t *at)
     return VRT49_OK;
 }
 
+/* Where stream 0 is tuned, if that is known. */
+static void print_tuning(size_t layout)
+{
+    vrt49_shown shown;
+    if (vrt49_show(table, layout, 0, VRT49_BIT_RF_REFERENCE_FREQUENCY, &shown) == VRT49_OK &&
+        shown.kind == VRT49_KIND_FREQUENCY)
+        printf(", stream 0 at %.6f MHz", vrt49_hertz(&shown) / 1e6);
+}
+
 int main(int argc, char **argv)
 {
     size_t n, at = 0, from, layout = 0, length = 0;
-    vrt49_shown shown;
     uint32_t number;
-    if (argc != 4)
+    if (argc != 4 || !*argv[3] || argv[3][strspn(argv[3], "0123456789")]) {
+        fputs("resume RECORDING SAVED PACKETS: two files, and how many packets\n", stderr);
         return 2;
-    n = read_file(argv[1], words, WORDS);
-    number = begin(argv[2], n, &layout, &at);
+    }
+    if (!read_file(argv[1], words, WORDS, &n))
+        return failed(argv[1], "read");
+    if (!read_file(argv[2], saved, SAVED, &length) && errno != ENOENT)
+        return failed(argv[2], "read");
+    number = begin(length, n, &layout, &at);
     from = at;
     if (number == VRT49_OK)
         number = play(n, layout, strtoul(argv[3], NULL, 10), &at);
     if (number == VRT49_OK)
-        number = vrt49_save(table, layout, saved + 1, sizeof saved / sizeof saved[0] - 1, &length);
+        number = vrt49_save(table, layout, saved + 1, SAVED - 1, &length);
     if (number != VRT49_OK) {
         fprintf(stderr, "at word %zu refused: %s\n", at, vrt49_name(number));
         return 1;
     }
     saved[0] = (uint32_t)at;
     if (!write_file(argv[2], saved, 1 + length))
-        return 1;
+        return failed(argv[2], "written");
     printf("words %zu to %zu, a page of %zu words", from, at, length);
-    if (vrt49_show(table, layout, 0, VRT49_BIT_RF_REFERENCE_FREQUENCY, &shown) == VRT49_OK &&
-        shown.kind == VRT49_KIND_FREQUENCY)
-        printf(", stream 0 at %.6f MHz", vrt49_hertz(&shown) / 1e6);
+    print_tuning(layout);
     puts("");
     return 0;
 }

@@ -420,6 +420,22 @@ def files():
         expect(f"{what} without a frame", capture, None, says=["frames 0, UDP datagrams 0, packets 0"])
 
 
+def over_itself():
+    """A recording in the place of its capture, by the same name and by others, is refused, and the capture stays."""
+    capture, data = Path(folder.name, "capture"), plain(A)
+    capture.write_bytes(data)
+    Path(folder.name, "linked").symlink_to(capture)
+    os.link(capture, Path(folder.name, "twice"))
+    for name in ("capture", "linked", "twice", "./capture"):
+        out = f"{folder.name}/{name}"
+        said = f"error: {out} is the capture itself; name another file with -o"
+        expect(f"over itself: {name}", data, None, says=[said], arguments=["-o", out])
+        if capture.read_bytes() != data:
+            differs(f"over itself: {name}", "the capture has changed")
+    for name in ("linked", "twice"):
+        Path(folder.name, name).unlink()
+
+
 def outside():
     """What the tool does with files."""
     out = Path(folder.name, "recording")
@@ -429,6 +445,7 @@ def outside():
     expect("nothing into a file", plain(b"no"), None, [f"frame 1: {WORDS}"], arguments=["-o", str(out)])
     if out.read_bytes() != recording_of([7], A):
         differs("nothing into a file", "the file has changed")
+    over_itself()
     done = subprocess.run([tool, Path(folder.name, "nothing")], capture_output=True)
     if done.returncode != 2 or b"No such file" not in done.stderr or done.stdout:
         differs("no such file", f"status {done.returncode}", done.stderr.decode())

@@ -83,6 +83,7 @@ spoilt 2 python3 $here/peers.py uhd "$work/uhd_packets" -- $run "$work/drive"
 spoilt 2 python3 $here/peers.py tshark "$work" -- $run "$work/drive"
 step 'the comparison itself' python3 $here/test_cases.py $run "$work/drive"
 step 'vrtshow with faults' env LIBRARY="$library" python3 -B $here/test_show.py $run
+step 'what is left behind' $here/test_folders.sh
 step 'tools/capture with faults' python3 $here/test_capture.py "$work/uhd_packets"
 echo
 cat "$summary"

@@ -1,7 +1,7 @@
 """Holds the examples for C to the reference's text of each recording of samples/recordings: examples.py FOLDER [COMMAND ..]. FOLDER has them as
 tools/try_install leaves them, COMMAND runs them. `stream` must count what the text has, whether it takes 1, 7 or 65,535 words at a time;
 `tuning` must print a line for each Context packet; both must end with the text's refusal; and where there is none, `resume`, stopped after every few
-packets, must save the page of a play that was never stopped."""
+packets, must save the page of a play that was never stopped. What `resume` cannot read or write it must name, and leave as it is."""
 import glob
 import os
 import re
@@ -78,7 +78,53 @@ def wrong(recording):
         yield 'resume: another page'
 
 
+def tree(folder):
+    """The files and folders in a folder, and what the files hold."""
+    found = {}
+    for path in sorted(glob.glob(f'{folder}/**', recursive=True)):
+        with open(os.devnull if os.path.isdir(path) else path, 'rb') as file:
+            found[path] = file.read()
+    return found
+
+
+def wrong_files(at):
+    """Wrong arguments of `resume`, and files that it cannot read, write or take, some of them made in a folder: what it is given, its status, and what it says."""
+    survey, usage = os.path.join(ROOT, 'samples/recordings/survey.vrt'), 'resume RECORDING SAVED PACKETS: two files, and how many packets\n'
+    saved, damaged, blocked, fresh, none = (f'{at}/{name}' for name in ('saved', 'damaged', 'blocked', 'fresh', 'none'))
+    run('resume', survey, saved, '17')
+    with open(saved, 'rb') as file, open(damaged, 'wb') as cut:
+        words = file.read()
+        cut.write(words[:-4])
+    os.mkdir(f'{blocked}.new')
+    for arguments in (), (survey, fresh), (survey, fresh, '1', '2'), *((survey, fresh, number) for number in ('', 'many', '-1', '1x', ' 1')):
+        yield arguments, 2, usage
+    for recording, page, name, what in ((none, saved, none, 'read: No such file or directory'), (none, fresh, none, 'read: No such file or directory'),
+                                        (at, fresh, at, 'read: Is a directory'), (survey, at, at, 'read: Is a directory'),
+                                        (survey, f'{none}/saved', f'{none}/saved', 'written: No such file or directory'),
+                                        (survey, blocked, blocked, 'written: Is a directory'),
+                                        (survey, fresh + 300 * 'x', fresh + 300 * 'x', 'read: File name too long')):
+        yield (recording, page, '1'), 2, f'resume: {name} cannot be {what}\n'
+    yield (os.devnull, fresh, '1'), 1, 'at word 1 refused: LIST\n'
+    yield (survey, damaged, '1'), 1, f'at word {int.from_bytes(words[:4], "big")} refused: PAGE\n'
+
+
+def wrong_with_files():
+    """Where `resume` says something else of these, or a file is afterwards not as it was."""
+    with tempfile.TemporaryDirectory() as at:
+        cases = list(wrong_files(at))
+        before = tree(at)
+        for arguments, status, says in cases:
+            have = run('resume', *arguments)
+            if have != (status, '', says):
+                yield f'resume {" ".join(arguments)}: {have}'
+            if tree(at) != before:
+                yield f'resume {" ".join(arguments)}: the files are not as they were'
+
+
 found = tried = 0
+for line in wrong_with_files():
+    found += 1
+    print(line)
 for recording in sorted(glob.glob(os.path.join(ROOT, 'samples/recordings/*.vrt'))):
     if os.path.getsize(recording) > LONGEST:
         continue

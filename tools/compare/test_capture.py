@@ -63,7 +63,11 @@ FAULTS = {
         ("    if len(body) < place + count:", "    if len(body) < place:"),
         ("    if count > MOST_FRAME:", "    if False:"),
     ],
-    "outside": [("asked.out or sys.stdout.fileno()", "sys.stdout.fileno()")],
+    "outside": [
+        ("asked.out or sys.stdout.fileno()", "sys.stdout.fileno()"),
+        ("if asked.out and same_file(asked.capture, asked.out):", "if asked.out == asked.capture:"),
+        ("os.path.samefile(one, other)", "False"),
+    ],
     "samples": [("HIGHEST_TYPE = 5", "HIGHEST_TYPE = 15")],
     "survey": [("asked.stream or streams", "streams")],
     "uhd": [("MOST_STREAMS = 32", "MOST_STREAMS = 31")],
