@@ -455,7 +455,15 @@ def rows(story, everything=False):
 # The picture.
 
 SPACE = "{http://www.w3.org/2000/svg}"
-LEFT, WIDE, LEAST = 160, 1024, 2  # a span is as wide as its packets, but can be seen
+LEAST = 2  # a span is as wide as its packets, and at least so that it can be seen
+
+
+def frame(what, root):
+    """Where the rows begin, and how wide they are: all packets."""
+    rows = {(back.get("x"), back.get("width")) for back in root.iter(SPACE + "rect") if back.get("class") == "back"}
+    if len(rows) != 1:
+        differs(what, f"rows of {rows}")
+    return map(float, rows.pop())
 
 
 def columns_of(story):
@@ -507,6 +515,7 @@ def spanned(what, title, story):
 
 def found_marks(what, story, root):
     width, marks = columns_of(story), {}
+    left, wide = frame(what, root)
     for group in root.iter(SPACE + "g"):
         for drawn in group:
             kind = drawn.get("class")
@@ -514,16 +523,16 @@ def found_marks(what, story, root):
                 continue
             first, last, said = spanned(what, drawn.findtext(SPACE + "title"), story)
             x = float(drawn.get("x") or re.match(r"M([\d.]+) ", drawn.get("d")).group(1))
-            if abs(x - LEFT - WIDE * first / story.packets) > 0.051 or first % width:
+            if abs(x - left - wide * first / story.packets) > 0.051 or first % width:
                 differs(what, f"{kind} of packet {first} stands at {x}")
             if kind == "context" and not drawn.get("d").endswith("z"):
                 differs(what, "a missing Context packet has not a mark of its own")
             key = (group.get("id"), kind)
             if kind == "unsure":
                 end = min(last + 1, story.packets)
-                wide, exactly = float(drawn.get("width")), WIDE * (end - first) / story.packets
-                if not exactly - 0.11 < wide < max(exactly, LEAST) + 0.11:
-                    differs(what, f"the span from {first} to {last} is {wide} wide, not {exactly}")
+                span, exactly = float(drawn.get("width")), wide * (end - first) / story.packets
+                if not exactly - 0.11 < span < max(exactly, LEAST) + 0.11:
+                    differs(what, f"the span from {first} to {last} is {span} wide, not {exactly}")
                 if said != "tuning not to be trusted":
                     differs(what, f"the span from {first} to {last} says: {said}")
                 marks.setdefault(key, set()).update(range(first, last + 1, width))
@@ -542,7 +551,7 @@ def close(what, got, wanted, most=0.11):
             differs(what, f"drawn {one}", f"expected {two}")
 
 
-def check_bands(what, story, stream, group):
+def check_bands(what, story, stream, group, left, wide):
     """Bands and centres, where no column has two changes: their places, and their heights,
     which must follow from the frequencies by one scale."""
     width, bands = columns_of(story), story.bands[stream]
@@ -558,7 +567,7 @@ def check_bands(what, story, stream, group):
     scale = [float(y) for y in re.findall(r"V([\d.]+)", drawn["centre"])]
     scale.insert(0, float(re.match(r"M[\d.]+ ([\d.]+)", drawn["centre"]).group(1)))
     edges = [*starts, story.packets]
-    x = [LEFT + WIDE * start / story.packets for start in edges]
+    x = [left + wide * start / story.packets for start in edges]
     rects = re.findall(r"M([\d.]+) ([\d.]+)H([\d.]+)V([\d.]+)H[\d.]+z", drawn["band"])
     low, high = min(band[1] for band in bands), max(band[3] for band in bands)
     tops = [float(top) for _, top, _, _ in rects]
@@ -581,13 +590,14 @@ def check_seen(what, group):
     for drawn in reversed(group):
         if drawn.get("class") not in ("missing", "context"):
             continue
-        x, y = map(float, re.match(r"M([\d.]+) ([\d.]+)", drawn.get("d")).groups())
+        x, y, *shape = map(float, re.findall(r"[\d.]+", drawn.get("d")))
         if drawn.get("class") == "context":
-            insort(diamonds, (x, y + 7))
+            insort(diamonds, (x, y, *shape[:2]))
             continue
-        ends = y, y + float(drawn.get("d").partition("v")[2])
-        for at, middle in diamonds[bisect_left(diamonds, (x - 5,)) : bisect_left(diamonds, (x + 5,))]:
-            if all(abs(x - at) / 5 + abs(end - middle) / 7 < 1 for end in ends):
+        near = diamonds[bisect_left(diamonds, (x - 9,)) : bisect_left(diamonds, (x + 9,))]
+        for at, top, wide, high in near:
+            ends = [abs(end - top - high) / high for end in (y, y + shape[0])]
+            if all(abs(x - at) / wide + end < 1 for end in ends):
                 title = drawn.findtext(SPACE + "title")
                 differs(what, f"the mark of {title} lies under the diamond at {at}")
 
@@ -631,10 +641,15 @@ def check_picture(what, story, path):
     for place, name in enumerate(names):
         check_labels(what, story, place, groups[name])
         check_seen(what, groups[name])
-        check_bands(what, story, place, groups[name])
+        check_bands(what, story, place, groups[name], *frame(what, root))
     stops = [path for path in root.iter(SPACE + "path") if path.get("class") == "stop"]
-    if len(stops) != (story.stopped is not None and story.packets > 0):
-        differs(what, f"{len(stops)} marks where it stopped")
+    stops = [path.findtext(SPACE + "title") for path in stops if path.find(SPACE + "title") is not None]
+    wanted = []
+    if story.stopped is not None and story.packets > 0:
+        stop = f"ended by refusal {story.stopped} {NAMES[story.stopped]}"
+        wanted.append(f"packet {story.packets - 1:,}: {stop}")
+    if stops != wanted:
+        differs(what, f"expected {wanted}", f"marks where it stopped {stops}")
     tried["pictures"] += 1
     tried["marks"] += sum(len(marks) for marks in found.values())
 
@@ -755,7 +770,8 @@ def surveys():
 def columns():
     """Around the numbers of packets where columns are joined."""
     for packets in (1, 2, 2047, 2048, 2049, 2050, 4095, 4096, 4097, 8191, 8193, 70000):
-        data = make_survey.survey(packets, 3, packets, 7, payload=1, loss=0.03, sparing=2)
+        end = "bits" if packets in (1, 4096, 8191) else None
+        data = make_survey.survey(packets, 3, packets, 7, payload=1, loss=0.03, sparing=2, end=end)
         hold(f"{packets} packets", data, orders=("big",), everything=(False,))
 
 
