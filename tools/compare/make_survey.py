@@ -1,14 +1,16 @@
 """Makes a survey: receivers that retune, warm up, lose packets and fall silent.
 
     python3 tools/compare/make_survey.py [--packets N] [--streams S] [--seed K] [--dwell D]
-        [--payload W] [--loss P] [--end cut|type|bits|class|field] FILE
+        [--payload W] [--loss P] [--sparing R] [--end cut|type|bits|class|field] FILE
 
 FILE is a recording as vrtplay and vrtshow take it.  Each receiver hops through the channels
 of its band and sends a Context packet at every hop, a whole one now and then, some that
-change nothing, some that change the temperature or the state alone; data follows.  Packets
-are lost, single and in bursts, Context packets among them.  The last receiver is silent for
-a while.  Streams that are not declared join for a while, and a few packets have no
-identifier.  --end spoils the last packet.  The same arguments make the same recording.
+change nothing, some that change the temperature or the state alone; data follows.  The first
+R receivers are sparing: they send what changed alone, now and then in several packets, all of
+it at every sixteenth hop, and every third of them never again.  Packets are lost, single and
+in bursts, Context packets among them.  The last receiver is silent for a while.  Streams that
+are not declared join for a while, and a few packets have no identifier.  --end spoils the
+last packet.  The same arguments make the same recording.
 """
 
 import argparse
@@ -52,8 +54,9 @@ class Receiver:
     """A receiver; every eighth from the fourth on says its IF alone, from the sixth on sends
     Extension packets too, and from the eighth on says no tuning."""
 
-    def __init__(self, number, identifier, dwell, chance):
+    def __init__(self, number, identifier, dwell, chance, sparing=False):
         self.number, self.identifier, self.chance = number, identifier, chance
+        self.sparing, self.told, self.late = sparing, {}, 0
         self.first, self.spacing, self.channels, self.usual, self.narrow = BANDS[number % len(BANDS)]
         self.first += 7 * self.spacing * (number // len(BANDS))
         self.dwell = max(2, dwell + chance.randrange(-(dwell // 4), dwell // 4 + 1))
@@ -85,9 +88,19 @@ class Receiver:
         return fields
 
     def sent(self, clock, fields):
+        self.told |= fields
         indicator = 1 << 31 | sum(1 << bit for bit in fields)
         words = [word for bit in sorted(fields, reverse=True) for word in fields[bit]]
         return self.made(4, clock, [indicator, *words], m=1)
+
+    def spare(self, clock):
+        """What differs from what it sent last; at times one field of that, and the rest soon."""
+        changed = {bit: words for bit, words in self.tuning(True).items() if self.told.get(bit) != words}
+        if len(changed) > 1 and self.chance.random() < 0.4:
+            self.late = self.chance.randrange(1, 6)
+            bit = self.chance.choice(sorted(changed))
+            changed = {bit: changed[bit]}
+        return self.sent(clock, changed)
 
     def hop(self):
         self.channel += self.direction
@@ -101,7 +114,9 @@ class Receiver:
 
     def next(self, clock, payload):
         """The next packet: a Context packet at a hop, now and then one between, else data."""
-        self.left -= 1
+        self.left, self.late = self.left - 1, self.late - 1
+        if self.late == 0:
+            return self.spare(clock)
         if self.left >= 0 or self.number % 8 == 7:
             draw = self.chance.random()
             if draw < 0.01 and self.number % 8 != 7:
@@ -121,7 +136,9 @@ class Receiver:
             whole |= self.hop()
         self.left, self.hops = self.dwell, self.hops + 1
         self.temperature += self.chance.choice((0, 0.25, 0.5)) * (45 - self.temperature) / 30
-        return self.sent(clock, self.tuning(whole))
+        if self.sparing and self.hops > 1 and (self.number % 3 == 2 or self.hops % 16):
+            return self.spare(clock)
+        return self.sent(clock, self.tuning(whole or self.sparing))
 
 
 def spoilt(words, end):
@@ -137,10 +154,12 @@ def spoilt(words, end):
     return context(1 << 24, [ONES])
 
 
-def survey(packets=20000, streams=3, seed=49, dwell=160, payload=24, loss=0.0015, end=None):
+def survey(
+    packets=20000, streams=3, seed=49, dwell=160, payload=24, loss=0.0015, sparing=0, end=None
+):
     """The bytes of a recording."""
     chance = random.Random(seed)
-    receivers = [Receiver(n, 0xA01 + 0x101 * n, dwell, chance) for n in range(streams)]
+    receivers = [Receiver(n, 0xA01 + 0x101 * n, dwell, chance, n < sparing) for n in range(streams)]
     strangers = [Receiver(n, 0xD0000 + n, dwell, chance) for n in range(11)]
     parts, clock, made = [struct.pack(">I", streams)], 0, 0
     parts += [struct.pack(">I", receiver.identifier) for receiver in receivers]
@@ -168,7 +187,7 @@ def main():
     parser = argparse.ArgumentParser(description=__doc__.split("\n")[0])
     for name, kind, usual in (
         ("packets", int, 20000), ("streams", int, 3), ("seed", int, 49), ("dwell", int, 160),
-        ("payload", int, 24), ("loss", float, 0.0015),
+        ("payload", int, 24), ("loss", float, 0.0015), ("sparing", int, 0),
     ):
         parser.add_argument(f"--{name}", type=kind, default=usual, help=f"{usual} if not said")
     parser.add_argument("--end", choices=ENDS)

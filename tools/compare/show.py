@@ -4,11 +4,12 @@
 
 COMMAND runs vrtshow; a group is one of those at the end, and without one all are tried.
 What happens in a recording is worked out with tools/reference (table.py, panel.py,
-vrt49.py), and the lines and rows are put together here from that.  The picture is parsed:
-every column with packets missing, with Context packets missing, with packets refused, and
-every span whose tuning cannot be trusted must have its mark, with the right packets and
-number, and nothing else has one; the bands and the centres must be those of the reference.
-The first difference ends the program with status 1.
+vrt49.py), and the lines and rows are put together here from that.  What is in doubt is
+worked out twice: packet by packet, and for each field and each loss by itself; both must say
+the same.  The picture is parsed: every column with packets missing, with Context packets
+missing, with packets refused, and every span whose tuning cannot be trusted must have its
+mark, with the right packets and number, and nothing else has one; the bands and the centres
+must be those of the reference.  The first difference ends the program with status 1.
 """
 
 import os
@@ -17,7 +18,9 @@ import re
 import subprocess
 import sys
 import tempfile
+import tty
 import xml.etree.ElementTree as tree
+from bisect import bisect_left, insort
 from collections import Counter
 from fractions import Fraction
 from itertools import zip_longest
@@ -76,11 +79,14 @@ OTHERS = {
     11: "relative ephemeris", 10: "ephemeris reference",
 }
 CSV_HEAD = (
-    "packet,word,event,stream,identifier,type,missing,unsure_since,refusal,name,changed,tsi,"
-    "seconds,tsf,fraction,rf_hz,if_hz,rf_offset_hz,if_band_offset_hz,bandwidth_hz,"
+    "packet,word,event,stream,identifier,type,missing,unsure_since,refusal,name,changed,in_doubt,"
+    "tsi,seconds,tsf,fraction,rf_hz,if_hz,rf_offset_hz,if_band_offset_hz,bandwidth_hz,"
     "sample_rate_hz,level_dbm,gain_1_db,gain_2_db,temperature_c"
 )
 MOST_COLUMNS, STRANGERS = 2048, 8
+# The first bytes of captures: pcap in both orders, to microseconds and nanoseconds; pcapng.
+CAPTURES = [bytes.fromhex(text) for text in "D4C3B2A1 A1B2C3D4 4D3CB2A1 A1B23C4D 0A0D0D0A".split()]
+CAPTURE_HINT = "vrtshow: it looks like a capture: tools/capture makes a recording of it"
 
 
 def differs(what, *lines):
@@ -134,16 +140,80 @@ def shown(held, bit):
 
 
 class Event:
-    """One thing that happens.  kind is tuning, other, missing or refused; held is what the
-    stream holds then, read what its packet says of itself, where it can be read."""
+    """One thing that happens.  kind is tuning, other, missing, trusted or refused; held is what
+    the stream holds then, read what its packet says of itself, where it can be read; in_doubt
+    are the fields in doubt after the packet, unsure_since the packet since which the tuning is
+    not, or was not, to be trusted, and unsure the data packets since then."""
 
     def __init__(self, kind, number, place, words=(), stream=None, held=None, **more):
         self.kind, self.number, self.place = kind, number, place
         self.stream, self.held = stream, held
         answer, read = vrt49.read(words) if words else ("refused", None)
         self.read = read if answer == "accepted" else None
-        self.missing = self.since = self.unsure_since = self.refusal = self.changed = None
+        self.missing = self.unsure_since = self.unsure = self.refusal = self.changed = None
+        self.in_doubt = None
         self.__dict__.update(more)
+
+
+class Trust:
+    """What of a stream's tuning is in doubt, packet by packet."""
+
+    def __init__(self):
+        self.fields, self.since, self.data = set(), None, 0  # in doubt, since when, data packets
+        self.context, self.after = None, 0  # the last Context packet, data packets after it
+        self.total, self.untuned = 0, 0  # data packets of all doubts that ended; before a tuning
+        self.numbers, self.contexts, self.losses = [], [], []  # for intervals()
+
+    def data_comes(self, number, held):
+        self.numbers.append(number)
+        self.after += 1
+        self.data += bool(self.fields)
+        self.untuned += not TUNING & set(held)
+
+    def context_comes(self, number, carried, held, missing):
+        """held is before the packet.  Since when the tuning is not trusted and how many data
+        packets came, where it is in doubt as the packet comes; and whether that ends by it."""
+        if missing:
+            self.losses.append((self.context, number, TUNING & set(held)))
+            if not self.fields:
+                self.since, self.data = self.context, self.after
+            self.fields |= TUNING & set(held)
+        self.contexts.append((number, carried))
+        self.context, self.after = number, 0
+        if not self.fields:
+            return (None, None), False
+        self.fields = self.fields - carried
+        if not self.fields:
+            self.total += self.data
+        return (self.since, self.data), not self.fields
+
+    def in_all(self):
+        return self.total + (self.data if self.fields else 0)
+
+    def intervals(self, packets):
+        """The first packet and the one past the last, where a field is in doubt by a loss, for
+        each field of each loss: from the Context packet before it to the next that carries it."""
+        sent = {bit: [at for at, carried in self.contexts if bit in carried] for bit in TUNING}
+        found = []
+        for before, number, fields in self.losses:
+            for bit in fields:
+                at = bisect_left(sent[bit], number)
+                found.append((before, sent[bit][at] if at < len(sent[bit]) else packets))
+        return found
+
+    def unsure_packets(self, packets):
+        """The spans of packets in which some field is in doubt, by intervals()."""
+        spans = []
+        for first, past in sorted(self.intervals(packets)):
+            if spans and first <= spans[-1][1]:
+                spans[-1][1] = max(past, spans[-1][1])
+            else:
+                spans.append([first, past])
+        return spans
+
+    def data_in(self, spans):
+        at = self.numbers
+        return sum(bisect_left(at, past) - bisect_left(at, first) for first, past in spans)
 
 
 class Story:
@@ -155,10 +225,8 @@ class Story:
         self.table = vrtplay.started(words) or []
         self.seen = [[] for _ in self.table]  # the numbers of the packets of each stream
         self.bands = [[] for _ in self.table]  # packet, low, centre and high, where they change
-        self.context = [None for _ in self.table]  # the last Context packet
-        self.since = [0 for _ in self.table]  # data packets since then
-        self.unsure = [0 for _ in self.table]
-        self.stopped = None
+        self.trust = [Trust() for _ in self.table]
+        self.stopped, self.capture = None, data[:4] in CAPTURES
         if not self.table:
             self.stopped = LIST
             self.events.append(Event("refused", None, 0, refusal=LIST))
@@ -167,6 +235,10 @@ class Story:
         while self.place < len(words) and self.stopped is None:
             self.next(words[self.place : self.place + max(1, vrt49.size_of(words[self.place]))])
             self.packets += 1
+        for place, trust in enumerate(self.trust):
+            by_field = trust.data_in(trust.unsure_packets(self.packets))
+            if by_field != trust.in_all():
+                differs(f"the check itself, stream {place}", by_field, trust.in_all())
 
     def add(self, kind, words, **more):
         self.events.append(Event(kind, self.packets, self.place, words, **more))
@@ -183,32 +255,36 @@ class Story:
             return
         _, size, kind, stream, missing = answer
         self.seen[stream].append(self.packets)
-        held = before[stream] if kind == 4 else self.table[stream]["held"]
+        trust, after = self.trust[stream], self.table[stream]["held"]
+        held = before[stream] if kind == 4 else after
+        unsure, ended = (None, None), False
+        if kind == 4:
+            carried = set(vrt49.carried_bits(words[vrt49.body_place(words[0])]))
+            unsure, ended = trust.context_comes(self.packets, carried, held, missing)
+        elif kind != 5:
+            trust.data_comes(self.packets, held)
         if missing:
-            self.miss(words, kind, stream, missing, dict(held))
+            self.say("missing", words, stream, held, unsure, missing=missing)
         if kind == 4:
             self.look(words, stream, held)
-        elif kind != 5:
-            self.since[stream] += 1
+        if ended and not missing:
+            self.say("trusted", words, stream, after, unsure)
         self.place += size
 
-    def miss(self, words, kind, stream, missing, held):
-        unsure = (self.context[stream], self.since[stream]) if kind == 4 else (None, None)
-        self.unsure[stream] += unsure[1] or 0
+    def say(self, kind, words, stream, held, unsure=(None, None), **more):
         self.add(
-            "missing", words, stream=stream, held=held, missing=missing,
-            unsure_since=unsure[0], since=unsure[1],
+            kind, words, stream=stream, held=dict(held), in_doubt=set(self.trust[stream].fields),
+            unsure_since=unsure[0], unsure=unsure[1], **more,
         )
 
     def look(self, words, stream, before):
         after = self.table[stream]["held"]
         changed = {bit for bit in table.HELD_BITS if before.get(bit) != after.get(bit)}
-        self.context[stream], self.since[stream] = self.packets, 0
         if changed & {29, 28, 27, 26, 25}:
             self.band(stream, after)
         if changed:
             kind = "tuning" if changed & TUNING else "other"
-            self.add(kind, words, stream=stream, held=dict(after), before=before, changed=changed)
+            self.say(kind, words, stream, after, before=before, changed=changed)
 
     def band(self, stream, held):
         hertz = {bit: values_of(held, bit)[0] for bit in (29, 28, 27, 26, 25) if bit in held}
@@ -258,6 +334,11 @@ def fields_text(event):
     return text + ("; also " if parts and named else "") + ", ".join(named)
 
 
+def in_doubt_text(fields):
+    """What a line says behind it, where fields are still in doubt."""
+    return "; still in doubt: " + ", ".join(VALUES[b][0] for b in VALUES if b in fields) if fields else ""
+
+
 def line_of(story, event):
     if event.kind == "refused":
         if event.refusal != STREAM:
@@ -268,12 +349,14 @@ def line_of(story, event):
             why = f"type {event.read.type} ({TYPES[event.read.type]})"
         return f"{front(event)} refused {event.refusal} {NAMES[event.refusal]}: {why}"
     text = f"{front(event)} stream {event.stream} ({identifier(story, event.stream)})"
+    unsure = f"since packet {event.unsure_since}, for {event.unsure} data packets"
+    if event.kind == "trusted":
+        return f"{text} tuning trusted again: it was not {unsure}"
     if event.kind != "missing":
         return f"{text} {'tuned' if event.kind == 'tuning' else 'changed'}: {fields_text(event)}"
     text += f" missing {event.missing} of type {event.read.type} ({TYPES[event.read.type]})"
     if event.unsure_since is not None:
-        text += f": tuning not to be trusted since packet {event.unsure_since}"
-        text += f", for {event.since} data packets"
+        text += f": tuning not to be trusted {unsure}{in_doubt_text(event.in_doubt)}"
     return text
 
 
@@ -317,8 +400,12 @@ def summary(story):
         held = stream["held"]
         tuning = [f"{VALUES[b][0]} {shown(held, b)} {VALUES[b][1]}" for b in VALUES if b in held]
         said.append(f"       last tuning: {', '.join(tuning) or 'none'}")
-        if story.unsure[place]:
-            said.append(f"       tuning not to be trusted for {story.unsure[place]:,} data packets")
+        trust = story.trust[place]
+        if trust.untuned:
+            said.append(f"       without a tuning: {trust.untuned:,} data packets")
+        if trust.in_all() or trust.fields:
+            line = f"       tuning not to be trusted for {trust.in_all():,} data packets"
+            said.append(line + in_doubt_text(trust.fields))
     contexts = story.missing((4,))
     of_them = f" (Context {contexts:,})" if contexts else ""
     said.append("")
@@ -333,6 +420,10 @@ def summary(story):
 # The rows.
 
 
+def mask(fields):
+    return f"0x{sum(1 << bit for bit in fields):08X}"
+
+
 def row_of(event):
     def cell(value):
         return "" if value is None else str(value)
@@ -343,7 +434,8 @@ def row_of(event):
     row += [f"0x{read.identifier:08X}" if named else "", read.type if read else ""]
     row += [cell(event.missing), cell(event.unsure_since)]
     row += [cell(event.refusal), NAMES.get(event.refusal, "")]
-    row.append(f"0x{sum(1 << bit for bit in event.changed):08X}" if event.changed else "")
+    row.append(mask(event.changed) if event.changed else "")
+    row.append("" if event.in_doubt is None else mask(event.in_doubt))
     row += [read.tsi, read.seconds if read.tsi else ""] if read else ["", ""]
     row += [read.tsf, read.fraction if read.tsf else ""] if read else ["", ""]
     for bit in VALUES:
@@ -363,7 +455,15 @@ def rows(story, everything=False):
 # The picture.
 
 SPACE = "{http://www.w3.org/2000/svg}"
-LEFT, WIDE = 160, 1024
+LEAST = 2  # a span is as wide as its packets, and at least so that it can be seen
+
+
+def frame(what, root):
+    """Where the rows begin, and how wide they are: all packets."""
+    rows = {(back.get("x"), back.get("width")) for back in root.iter(SPACE + "rect") if back.get("class") == "back"}
+    if len(rows) != 1:
+        differs(what, f"rows of {rows}")
+    return map(float, rows.pop())
 
 
 def columns_of(story):
@@ -386,14 +486,15 @@ def expected_marks(story):
         elif event.kind == "missing":
             kind = "context" if event.read.type == 4 else "missing"
             key, many = (f"stream{event.stream}", kind), event.missing
-            if kind == "context":
-                spans = marks.setdefault((f"stream{event.stream}", "unsure"), Counter())
-                at = event.unsure_since // width
-                spans.update({c * width: 1 for c in range(at, (event.number - 1) // width + 1)})
         else:
             continue
         marks.setdefault(key, Counter())[first] += many
-    return {key: set(found) if key[1] == "unsure" else dict(found) for key, found in marks.items()}
+    marks = {key: dict(found) for key, found in marks.items()}
+    for place, trust in enumerate(story.trust):
+        for first, past in trust.unsure_packets(story.packets):
+            spans = marks.setdefault((f"stream{place}", "unsure"), set())
+            spans.update(range(first // width * width, past, width))
+    return marks
 
 
 WHAT = {"missing": "missing", "context": "missing Context", "refused": "refused"}
@@ -414,6 +515,7 @@ def spanned(what, title, story):
 
 def found_marks(what, story, root):
     width, marks = columns_of(story), {}
+    left, wide = frame(what, root)
     for group in root.iter(SPACE + "g"):
         for drawn in group:
             kind = drawn.get("class")
@@ -421,15 +523,18 @@ def found_marks(what, story, root):
                 continue
             first, last, said = spanned(what, drawn.findtext(SPACE + "title"), story)
             x = float(drawn.get("x") or re.match(r"M([\d.]+) ", drawn.get("d")).group(1))
-            if abs(x - LEFT - WIDE * first / story.packets) > 0.051 or first % width:
+            if abs(x - left - wide * first / story.packets) > 0.051 or first % width:
                 differs(what, f"{kind} of packet {first} stands at {x}")
             if kind == "context" and not drawn.get("d").endswith("z"):
                 differs(what, "a missing Context packet has not a mark of its own")
             key = (group.get("id"), kind)
             if kind == "unsure":
                 end = min(last + 1, story.packets)
-                if float(drawn.get("width")) < WIDE * (end - first) / story.packets - 0.11:
-                    differs(what, f"the span from {first} to {last} is too narrow")
+                span, exactly = float(drawn.get("width")), wide * (end - first) / story.packets
+                if not exactly - 0.11 < span < max(exactly, LEAST) + 0.11:
+                    differs(what, f"the span from {first} to {last} is {span} wide, not {exactly}")
+                if said != "tuning not to be trusted":
+                    differs(what, f"the span from {first} to {last} says: {said}")
                 marks.setdefault(key, set()).update(range(first, last + 1, width))
                 continue
             many = whole(said.removeprefix(WHAT[kind] + " "))
@@ -446,7 +551,7 @@ def close(what, got, wanted, most=0.11):
             differs(what, f"drawn {one}", f"expected {two}")
 
 
-def check_bands(what, story, stream, group):
+def check_bands(what, story, stream, group, left, wide):
     """Bands and centres, where no column has two changes: their places, and their heights,
     which must follow from the frequencies by one scale."""
     width, bands = columns_of(story), story.bands[stream]
@@ -462,7 +567,7 @@ def check_bands(what, story, stream, group):
     scale = [float(y) for y in re.findall(r"V([\d.]+)", drawn["centre"])]
     scale.insert(0, float(re.match(r"M[\d.]+ ([\d.]+)", drawn["centre"]).group(1)))
     edges = [*starts, story.packets]
-    x = [LEFT + WIDE * start / story.packets for start in edges]
+    x = [left + wide * start / story.packets for start in edges]
     rects = re.findall(r"M([\d.]+) ([\d.]+)H([\d.]+)V([\d.]+)H[\d.]+z", drawn["band"])
     low, high = min(band[1] for band in bands), max(band[3] for band in bands)
     tops = [float(top) for _, top, _, _ in rects]
@@ -477,6 +582,24 @@ def check_bands(what, story, stream, group):
     close(f"{what}, centres of stream {stream}", [(one,) for one in scale], centres)
     wanted = [(x[i], one[2], x[i + 1], one[0]) for i, one in enumerate(y) if x[i + 1] > x[i]]
     close(f"{what}, bands of stream {stream}", [tuple(map(float, rect)) for rect in rects], wanted)
+
+
+def check_seen(what, group):
+    """A mark of missing packets does not lie under a diamond that is drawn after it."""
+    diamonds = []
+    for drawn in reversed(group):
+        if drawn.get("class") not in ("missing", "context"):
+            continue
+        x, y, *shape = map(float, re.findall(r"[\d.]+", drawn.get("d")))
+        if drawn.get("class") == "context":
+            insort(diamonds, (x, y, *shape[:2]))
+            continue
+        near = diamonds[bisect_left(diamonds, (x - 9,)) : bisect_left(diamonds, (x + 9,))]
+        for at, top, wide, high in near:
+            ends = [abs(end - top - high) / high for end in (y, y + shape[0])]
+            if all(abs(x - at) / wide + end < 1 for end in ends):
+                title = drawn.findtext(SPACE + "title")
+                differs(what, f"the mark of {title} lies under the diamond at {at}")
 
 
 def check_labels(what, story, stream, group):
@@ -494,6 +617,22 @@ def check_labels(what, story, stream, group):
     wanted.append(f"missing {lost:,}" + (f" (Context {contexts:,})" if contexts else ""))
     if texts[:5] != wanted:
         differs(what, f"expected {wanted}", f"drawn {texts[:5]}")
+
+
+def check_stop(what, story, root):
+    """The mark where a refusal ended the recording; the one that explains it has no title."""
+    left, wide = frame(what, root)
+    wanted, found = [], []
+    if story.stopped is not None and story.packets > 0:
+        at = f"{left + wide * (story.packets - 1) / story.packets:.1f}"
+        stop = f"ended by refusal {story.stopped} {NAMES[story.stopped]}"
+        wanted.append((at, f"packet {story.packets - 1:,}: {stop}"))
+    for path in root.iter(SPACE + "path"):
+        title = path.findtext(SPACE + "title")
+        if path.get("class") == "stop" and title:
+            found.append((re.match(r"M([\d.]+) ", path.get("d")).group(1), title))
+    if found != wanted:
+        differs(what, f"expected {wanted}", f"marks where it stopped {found}")
 
 
 def parsed(what, path):
@@ -517,10 +656,9 @@ def check_picture(what, story, path):
         differs(what, f"groups {list(groups)}")
     for place, name in enumerate(names):
         check_labels(what, story, place, groups[name])
-        check_bands(what, story, place, groups[name])
-    stops = [path for path in root.iter(SPACE + "path") if path.get("class") == "stop"]
-    if len(stops) != (story.stopped is not None and story.packets > 0):
-        differs(what, f"{len(stops)} marks where it stopped")
+        check_seen(what, groups[name])
+        check_bands(what, story, place, groups[name], *frame(what, root))
+    check_stop(what, story, root)
     tried["pictures"] += 1
     tried["marks"] += sum(len(marks) for marks in found.values())
 
@@ -528,8 +666,14 @@ def check_picture(what, story, path):
 # Running it.
 
 
-def run(*arguments, data=None):
-    return subprocess.run([*COMMAND, *map(str, arguments)], input=data, capture_output=True)
+def run(*arguments, data=None, file=None, skip=0):
+    """Standard input is data, by a pipe, or a file from some byte on."""
+    command = [*COMMAND, *map(str, arguments)]
+    if file is None:
+        return subprocess.run(command, input=data, capture_output=True)
+    with open(file, "rb", buffering=0) as given:
+        given.seek(skip)
+        return subprocess.run(command, stdin=given, capture_output=True)
 
 
 def same(what, done, wanted, story, name="standard input"):
@@ -542,9 +686,11 @@ def same(what, done, wanted, story, name="standard input"):
     if story.stopped:
         says = f"vrtshow: {name}: stopped at word {story.place}: refused {story.stopped} "
         says += f"{NAMES[story.stopped]}: {WHY[story.stopped]}"
-    error = done.stderr.decode().split("\n")[0]
+    error, *hints = done.stderr.decode().split("\n")
     if done.returncode != (1 if story.stopped else 0) or error != says:
         differs(what, f"status {done.returncode}", f"expected {says}", f"printed  {error}")
+    if hints.count(CAPTURE_HINT) != (story.capture and story.stopped == LIST):
+        differs(what, "that it looks like a capture is said wrongly", done.stderr.decode())
     tried["runs"] += 1
 
 
@@ -599,6 +745,20 @@ def samples():
         hold(path.name, path.read_bytes(), everything=(False,))
 
 
+def pictures():
+    """The pictures of the manual are those that are drawn of their recordings."""
+    for name, data in (
+        ("survey", (ROOT / "samples/recordings/survey.vrt").read_bytes()),
+        ("hops", make_survey.survey(seed=12)),
+        ("streams_32", make_survey.survey(60000, 32)),
+    ):
+        svg = Path(folder.name, "svg")
+        run("-q", "--svg", svg, file_of(data, f"{name}.vrt"))
+        if svg.read_bytes() != (ROOT / f"docs/pictures/{name}.svg").read_bytes():
+            differs(f"docs/pictures/{name}.svg", f"it is not what is drawn now of {name}.vrt")
+        tried["runs"] += 1
+
+
 def surveys():
     for streams, packets, dwell, seed in (
         (1, 3000, 40, 1), (2, 10, 2, 2), (3, 20000, 160, 3), (5, 2100, 30, 4), (8, 3000, 20, 5),
@@ -606,21 +766,27 @@ def surveys():
     ):
         data = make_survey.survey(packets, streams, seed, dwell, payload=6, loss=0.01)
         hold(f"survey of {streams} streams", data, orders=("big",))
+    for streams, packets, dwell, seed in (
+        (1, 2000, 10, 21), (3, 4000, 20, 22), (3, 30000, 60, 23), (9, 6000, 8, 24), (32, 9000, 12, 25),
+    ):
+        data = make_survey.survey(packets, streams, seed, dwell, 3, 0.015, (streams + 1) * 2 // 3)
+        hold(f"survey of {streams} streams, sparing ones among them", data, orders=("big",))
     for end in make_survey.ENDS:
-        data = make_survey.survey(800, 4, 8, 10, payload=3, loss=0.02, end=end)
+        data = make_survey.survey(800, 4, 8, 10, payload=3, loss=0.02, sparing=2, end=end)
         hold(f"survey that ends with {end}", data)
 
 
 def columns():
     """Around the numbers of packets where columns are joined."""
     for packets in (1, 2, 2047, 2048, 2049, 2050, 4095, 4096, 4097, 8191, 8193, 70000):
-        data = make_survey.survey(packets, 3, packets, 7, payload=1, loss=0.03)
+        end = "bits" if packets in (1, 4096, 8191) else None
+        data = make_survey.survey(packets, 3, packets, 7, payload=1, loss=0.03, sparing=2, end=end)
         hold(f"{packets} packets", data, orders=("big",), everything=(False,))
 
 
 def million():
     """A million packets; what is missing, refused and unsure has its mark."""
-    data = make_survey.survey(1_000_000, 4, 11, 300, payload=1, loss=0.0004)
+    data = make_survey.survey(1_000_000, 4, 11, 300, payload=1, loss=0.0004, sparing=2)
     hold("a million packets", data, orders=("big",), everything=(False,))
 
 
@@ -664,6 +830,171 @@ def seams():
     packets += [of(1, 5), of(4, 10, 9), of(4, 0)]
     for many in (1, 120, 250):
         hold(f"seams, {many} times", recording_of([9, 7], *packets * many), everything=(False,))
+
+
+class Sender:
+    """Makes the packets of a stream, each with the next count of its type."""
+
+    def __init__(self, name=7):
+        self.name, self.counts = name, Counter()
+
+    def sends(self, kind, body=(1, 2), many=1):
+        made = []
+        for _ in range(many):
+            made.append(packet(kind, list(body), identifier=self.name, count=self.counts[kind] % 16))
+            self.counts[kind] += 1
+        return made
+
+    def data(self, many=1):
+        return self.sends(1, many=many)
+
+    def tells(self, **fields):
+        """A Context packet: rf=100 is 100 MHz, and so on; level, gain and warm are words."""
+        bits = {BIT_OF[name]: value for name, value in fields.items()}
+        words = [1 << 31 | sum(1 << bit for bit in bits)]
+        for bit in sorted(bits, reverse=True):
+            megahertz = bit in panel.FREQUENCY_BITS
+            words += make_survey.frequency(bits[bit]) if megahertz else [bits[bit]]
+        return self.sends(4, words)
+
+    def loses(self, many=1, kind=4):
+        self.counts[kind] += many
+        return []
+
+
+BIT_OF = {"rf": 27, "if_": 28, "off": 26, "if_off": 25, "wide": 29, "rate": 21, "level": 24, "gain": 23}
+BIT_OF |= {"warm": 18, "state": 16}
+EIGHT = {"rf": 100, "if_": 10, "off": 1, "if_off": 2, "wide": 5, "rate": 6, "level": 640, "gain": 128}
+EIGHT_NAMES = "RF, IF, RF offset, IF band offset, bandwidth, sample rate, level, gain"
+
+
+def doubt_cases():
+    """What a case is, its streams, its packets, and all that is to be said of doubt and of
+    missing Context packets, as the manual has it: lines without place, then the summary."""
+    def unsure(at, since, data, still="", stream=0, name=7, many=1):
+        text = f"packet {at} stream {stream} (0x{name:08X}) missing {many} of type 4 (Context): tuning"
+        text += f" not to be trusted since packet {since}, for {data} data packets"
+        return text + (f"; still in doubt: {still}" if still else "")
+
+    def again(at, since, data, stream=0, name=7):
+        text = f"packet {at} stream {stream} (0x{name:08X}) tuning trusted again: it was not since"
+        return text + f" packet {since}, for {data} data packets"
+
+    def total(data, still=""):
+        text = f"tuning not to be trusted for {data} data packets"
+        return text + (f"; still in doubt: {still}" if still else "")
+
+    s = Sender()
+    sent = [*s.tells(rf=100), *s.loses(), *s.tells(warm=64), *s.data(20), *s.tells(rf=300), *s.data(3)]
+    said = [unsure(1, 0, 0, "RF"), again(22, 0, 20), total(20)]
+    yield "RF is lost, and the temperature comes alone", [7], sent, said
+    s = Sender()
+    sent = [*s.tells(rf=100), *s.data(2), *s.loses(), *s.tells(), *s.data(), *s.tells(rf=100), *s.data()]
+    said = [unsure(3, 0, 2, "RF"), again(5, 0, 3), total(3)]
+    yield "a Context packet without fields; RF comes again as it was", [7], sent, said
+    s = Sender()
+    sent = [*s.tells(rf=100, wide=5), *s.data(2), *s.loses(), *s.tells(warm=1), *s.data(3)]
+    sent += [*s.loses(2), *s.tells(rf=101), *s.data(), *s.tells(wide=6), *s.data(4)]
+    said = [unsure(3, 0, 2, "RF, bandwidth"), unsure(7, 0, 5, "bandwidth", many=2)]
+    yield "a second loss in a doubt", [7], sent, [*said, again(9, 0, 6), total(6)]
+    s = Sender()
+    sent = [*s.tells(rf=100, wide=5), *s.data(), *s.loses(), *s.tells(rf=101), *s.data(2)]
+    sent += [*s.tells(level=7), *s.data(), *s.loses(), *s.tells(wide=6), *s.data(4), *s.tells(rf=99)]
+    sent += [*s.data(8), *s.tells(wide=7), *s.tells(level=7), *s.data(16)]
+    said = [unsure(2, 0, 1, "bandwidth"), unsure(7, 0, 4, "RF, level"), again(22, 0, 16), total(16)]
+    yield "a field that was sent comes into doubt again, and one that came meanwhile", [7], sent, said
+    s = Sender()
+    sent = [*s.tells(**EIGHT), *s.data(), *s.loses(), *s.tells(**EIGHT), *s.data(), *s.loses(15)]
+    sent += [*s.tells(**EIGHT), *s.data(), *s.tells(warm=2), *s.data(2), *s.loses(), *s.tells(**EIGHT)]
+    said = [unsure(2, 0, 1), unsure(4, 2, 1, many=15), unsure(9, 6, 2), total(4)]
+    yield "the packet itself sends all fields, three times", [7], sent, said
+    s = Sender()
+    sent = [*s.tells(warm=64), *s.data(2), *s.loses(), *s.tells(warm=70), *s.data(3), *s.loses()]
+    sent += [*s.tells(rf=100, gain=128), *s.data(5), *s.loses(), *s.tells(rf=100, gain=128)]
+    said = [f"packet {at} stream 0 (0x00000007) missing 1 of type 4 (Context)" for at in (3, 7)]
+    said += [unsure(13, 7, 5), "without a tuning: 5 data packets", total(5)]
+    yield "no field of the tuning is held at the loss", [7], sent, said
+    s = Sender()
+    sent = [*s.data(), *s.sends(3), *s.sends(5), *s.loses(2, 1), *s.data(), *s.tells(), *s.loses(), *s.tells()]
+    said = ["packet 5 stream 0 (0x00000007) missing 1 of type 4 (Context)"]
+    said += ["without a tuning: 3 data packets"]
+    yield "nothing is ever tuned", [7], sent, said
+    for order in (list(EIGHT), list(EIGHT)[::-1], "gain rf off rate if_off level wide if_".split()):
+        s = Sender()
+        sent, left = [*s.tells(**EIGHT), *s.loses(), *s.tells(state=1 << 31), *s.data()], 1
+        for name in order:
+            sent += [*s.tells(**{name: EIGHT[name] + left % 2}), *s.data(left), *s.tells(warm=left)]
+            left += 1
+        said = [unsure(1, 0, 0, EIGHT_NAMES), again(45, 0, 29), total(29)]
+        yield f"fields come again one by one, {order[0]} first", [7], sent, said
+    s = Sender()
+    sent = [*s.tells(**EIGHT), *s.loses(), *s.tells(rf=1, off=1, wide=1, level=1), *s.data(2)]
+    sent += [*s.tells(if_=1, rate=1), *s.data(2), *s.tells(rf=2, if_off=1), *s.data(2)]
+    said = [unsure(1, 0, 0, "IF, IF band offset, sample rate, gain"), total(6, "gain")]
+    yield "fields come again over three packets, one never", [7], sent, said
+    s = Sender()
+    sent = [*s.tells(rf=100, rate=6), *s.data(3), *s.loses(3), *s.tells(rate=6), *s.data(1233)]
+    said = [unsure(4, 0, 3, "RF", many=3), total("1,236", "RF")]
+    yield "doubt to the end", [7], sent, said
+    yield "doubt to the end, in columns of two packets", [7], sent + s.data(1000), [
+        said[0], total("2,236", "RF")
+    ]
+    s = Sender()
+    sent = [*s.data(1002), *s.tells(rf=100), *s.data(2), *s.loses(), *s.tells(warm=9)]
+    said = [unsure(1005, 1002, 2, "RF"), "without a tuning: 1,002 data packets", total(2, "RF")]
+    yield "doubt by the last packet", [7], sent, said
+    s, o = Sender(), Sender(9)
+    sent = [*s.tells(rf=100), *s.loses(), *s.tells(warm=9), *o.tells(rf=7), *o.data(3)]
+    said = [unsure(1, 0, 0, "RF"), total(0, "RF")]
+    yield "doubt without data packets, to the end", [7, 9], sent, said
+    sent = [*sent, *s.data(2), packet(4, [1 << 24, ONES], identifier=7, count=3)]
+    yield "doubt to a packet that ends it all", [7, 9], sent, [said[0], total(2, "RF")]
+    s, x = Sender(), Sender(8)
+    sent = [*s.tells(rf=100), *s.loses(), *s.tells(warm=9), *x.tells(rf=7), *x.data(3), *s.data()]
+    sent += [*s.tells(rf=1), *s.data()]
+    said = [unsure(1, 0, 0, "RF"), again(7, 0, 1), total(1)]
+    yield "refused packets in a doubt", [7], sent, said
+    s = Sender()
+    sent = [*s.tells(rf=100), *s.sends(3, many=2), *s.sends(5, many=3), *s.loses(), *s.tells(warm=9)]
+    sent += [*s.sends(5, [0x08000000, 0, 0]), *s.sends(3), *s.data(), *s.loses(4, 5), *s.sends(5), *s.sends(3)]
+    sent += [*s.loses(2, 3), *s.sends(3), *s.tells(rf=1), *s.sends(3, many=4), *s.loses(1, 5), *s.sends(5)]
+    said = [unsure(6, 0, 2, "RF"), again(13, 0, 6), total(6)]
+    yield "Extension packets in a doubt", [7], sent, said
+    s, o = Sender(), Sender(9)
+    sent = [*s.tells(rf=100, gain=1), *o.tells(if_=5, rate=2), *s.data(), *o.data(2), *s.loses()]
+    sent += [*s.tells(gain=2), *o.data(), *o.loses(4), *o.tells(if_=5), *s.data(3), *o.data(5)]
+    sent += [*s.tells(rf=1), *o.data(7), *s.data(11), *s.loses(), *s.tells(gain=1), *s.data(13)]
+    sent += [*o.tells(rate=2), *s.data(), *o.data()]
+    said = [unsure(5, 0, 1, "RF", 1), unsure(7, 1, 3, "sample rate", 0, 9, 4), again(16, 0, 4, 1)]
+    said += [unsure(35, 16, 11, "RF", 1), again(49, 1, 15, 0, 9), total(15), total(29, "RF")]
+    yield "two streams in doubt at once", [9, 7], sent, said
+    for many in (1, 800):
+        s, sent, said, at = Sender(), [*Sender().tells(rf=5)], [], 0
+        s.loses()
+        for turn in range(many):
+            sent += [*s.data(1 + turn % 2), *s.loses(3, 1), *s.loses(), *s.data(), *s.tells(rf=1 + turn % 9)]
+            said.append(unsure(at + 3 + turn % 2, at, 2 + turn % 2))
+            at += 3 + turn % 2
+        said.append(total(f"{at - many:,}"))
+        yield f"{many} bursts that lose data and Context packets", [7], sent, said
+    s, sent = Sender(), [*Sender().tells(rf=100)]
+    s.loses()
+    sent += [*s.data(2), sent[0], *s.data(3), sent[0], *s.data()]
+    said = [unsure(3, 0, 2, many=15), unsure(7, 3, 3, many=15), total(5)]
+    yield "a Context packet that comes three times", [7], sent, said
+
+
+def doubts():
+    """What is in doubt after lost Context packets, with all that is to be said of it."""
+    for what, ids, packets, said in doubt_cases():
+        story = hold(what, recording_of(ids, *packets), orders=("big",))
+        told = [re.sub(r"^at \d+ ", "", line) for line in lines(story)]
+        told = [line for line in told if "type 4" in line or "trusted" in line]
+        ends = "       tuning not", "       without"
+        told += [line.strip() for line in summary(story) if line.startswith(ends)]
+        for one, two in zip_longest(told, said):
+            if one != two:
+                differs(f"{what}: the check itself", one, two)
 
 
 def pieces():
@@ -718,23 +1049,33 @@ def live():
 
 def outside():
     """Wrong use, files that cannot be had, help, names, progress."""
-    survey = ROOT / "samples/recordings/survey.vrt"
-    for arguments in (
-        ["-x"], ["--svg"], ["-q", "--csv"], ["--csv", "-q"], [survey, survey], [survey, "-q"],
-        ["--svg", "a", "--svg", "b"],
+    survey, never = ROOT / "samples/recordings/survey.vrt", Path(folder.name, "never")
+    for arguments, says in (
+        (["-x"], "-x: no such option"), (["-lq"], "-lq: no such option"),
+        (["--svg=a", survey], "--svg=a: no such option"), ([survey, "-x"], "-x: no such option"),
+        (["--svg"], "--svg: has no file behind it"), ([survey, "--svg"], "--svg: has no file behind it"),
+        ([survey, survey], f"{survey}: one too many"), (["-", survey], f"{survey}: one too many"),
+        ([survey, "-"], "-: one too many"), ([survey, "-q", "b"], "b: one too many"),
+        (["-q", "--csv"], "--csv: one too many"), (["--csv", survey, "-q"], "-q: one too many"),
+        (["--svg", never, "--svg", never], "--svg: one too many"),
+        (["--svg", never, survey, survey], f"{survey}: one too many"),
     ):
         done = run(*arguments)
-        if done.returncode != 2 or done.stdout or not done.stderr.startswith(b"vrtshow [-l]"):
-            differs(f"wrong use {arguments}", done)
+        first, _, usage = done.stderr.decode().partition("\n")
+        wrong = first != f"vrtshow: {says}" or not usage.startswith("vrtshow [-l]")
+        if done.returncode != 2 or done.stdout or wrong or never.exists():
+            differs(f"wrong use {arguments}", f"expected {says}", done)
+        tried["runs"] += 1
     for arguments, says in (
         (["nothing/there"], "nothing/there: cannot be opened: No such file"),
         (["--svg", "nothing/there", survey], "nothing/there: cannot be written: No such file"),
+        (["--svg", folder.name, survey], f"{folder.name}: cannot be written: Is a directory"),
         (["--svg", "/dev/full", survey], "/dev/full: cannot be written: No space"),
-        ([folder.name], "cannot be read: Is a directory"),
     ):
         done = run(*arguments)
         if done.returncode != 2 or says not in done.stderr.decode():
             differs(f"trouble {arguments}", done)
+        tried["runs"] += 1
     with open("/dev/full", "wb") as out:
         full = subprocess.run([*COMMAND, survey], stdout=out, stderr=subprocess.PIPE)
     if full.returncode != 2 or b"standard output: cannot be written" not in full.stderr:
@@ -751,7 +1092,161 @@ def outside():
     title = parsed("a name that SVG cannot have", svg).find(SPACE + "text").text
     if not re.fullmatch(r"a<b&c>\?+\.vrt: tuning of 3 streams over 52 packets", title):
         differs("a name that SVG cannot have", title)
-    tried["runs"] += 14
+    tried["runs"] += 5
+
+
+def behind():
+    """Options behind the recording are as those before it."""
+    data, svg = (ROOT / "samples/recordings/survey.vrt").read_bytes(), Path(folder.name, "svg")
+    story, path, swapped = Story(data), file_of(data), file_of(little(data), "little")
+    every = [*lines(story, True), *summary(story)]
+    for arguments, said in (
+        ([path, "-q"], summary(story)), ([path, "-a"], every), ([path, "--csv"], rows(story)),
+        (["-a", path, "--csv"], rows(story, True)), ([swapped, "-l", "-q"], summary(story)),
+        ([path, "-q", "--svg", svg], summary(story)), (["--svg", svg, path, "-q"], summary(story)),
+    ):
+        svg.unlink(missing_ok=True)
+        same(f"options behind, {arguments}", run(*arguments), said, story)
+        if svg in arguments:
+            check_picture(f"options behind, {arguments}", story, svg)
+    same("options behind -", run("-", "-q", data=data), summary(story), story)
+
+
+def kept():
+    """A picture is written over a picture, and over no other file."""
+    data = (ROOT / "samples/recordings/survey.vrt").read_bytes()
+    path, svg = file_of(data), Path(folder.name, "svg")
+    run("-q", "--svg", svg, path)
+    drawn, at = svg.read_bytes(), Path(folder.name, "at")
+    link = Path(folder.name, "link")
+    link.symlink_to(at)
+
+    def refused(what, text, *arguments, **more):
+        kept, stamp = at.read_bytes(), at.stat().st_mtime_ns
+        done = run(*arguments, **more)
+        said = done.stderr.decode()
+        if done.returncode != 2 or done.stdout or said not in [f"vrtshow: {one}\n" for one in text]:
+            differs(f"--svg, {what}", f"expected {text}", done)
+        if at.read_bytes() != kept or at.stat().st_mtime_ns != stamp:
+            differs(f"--svg, {what}", "the file is changed")
+        tried["runs"] += 1
+
+    no_picture = [f"{at}: is not a picture: not written over"]
+    for what, content in (
+        ("a recording", data), ("a recording in the other order", little(data)), ("a text", b"text"),
+        ("a zero byte", b"\0"), ("a space", b" <svg/>"), ("an end of line", b"\n<svg/>"),
+        ("a mark of UTF-8", b"\xef\xbb\xbf<svg/>"), ("a long file", bytes(10**7)),
+    ):
+        at.write_bytes(content)
+        for arguments in (
+            ["--svg", at, path], [path, "-q", "--svg", at], ["--csv", "--svg", at, path],
+            ["--svg", at, "-l", path],
+        ):
+            refused(what, no_picture, *arguments)
+        refused(what, no_picture, "--svg", at, "-", data=data)
+        refused(what, [f"{link}: is not a picture: not written over"], "--svg", link, path)
+    # the recording's own place: it is no picture, or it begins as one, or it is empty
+    other = Path(folder.name, "other")
+    for what, content in (("a recording", data), ("<", b"<svg/>"), ("nothing", b"")):
+        at.write_bytes(content)
+        other.unlink(missing_ok=True)
+        os.link(at, other)
+        ends = ["is the recording"] + ["is not a picture"] * (content == data)
+        for name in (at, link, other):
+            text = [f"{name}: {end}: not written over" for end in ends]
+            for recording in (at, link, other):
+                refused(f"{what} is the recording", text, "--svg", name, recording)
+            refused(f"{what} is the recording", text, "--csv", "--svg", name, file=at)
+            refused(f"{what} is the recording", text, "-", "-q", "--svg", name, file=at)
+    other.unlink()
+    # what may be written over is the picture afterwards, and no byte more
+    for what, content in (
+        ("no file", None), ("nothing", b""), ("<", b"<"), ("a picture", drawn),
+        ("a longer picture", drawn + b"<!-- -->" * 10**5), ("a longer text", b"<" * 10**6),
+    ):
+        for name in (at, link):
+            at.unlink(missing_ok=True)
+            if content is not None:
+                at.write_bytes(content)
+            done = run("-q", "--svg", name, path)
+            if done.returncode or done.stderr or at.read_bytes() != drawn:
+                differs(f"--svg over {what}", done)
+            tried["runs"] += 1
+    for name in ("/dev/null", "/dev/stdout"):
+        done = run("-q", "--svg", name, path)
+        if done.returncode or done.stderr or (name != "/dev/null") != (drawn in done.stdout):
+            differs(f"--svg {name}", done)
+        tried["runs"] += 1
+
+
+def failing():
+    """A read that fails is no refusal: of a folder, of a file that gives an error, and of a
+    line that breaks inside a packet, after others."""
+    def fails(what, done, says, may_say):
+        said = done.stdout.decode().splitlines()
+        wrong = [line for line in said if line not in may_say]
+        if done.returncode != 2 or wrong or done.stderr.decode() != f"vrtshow: {says}\n":
+            differs(what, f"expected {says}", f"not to be said: {wrong[:3]}", done)
+        tried["runs"] += 1
+
+    svg = Path(folder.name, "svg")
+    for name, why in ((folder.name, "Is a directory"), ("/proc/self/mem", "Input/output error")):
+        for more in ([], ["-q"], ["-a"], ["--csv"], ["-l"], ["--svg", svg]):
+            done = run(*more, name)
+            fails(f"{name} {more}", done, f"{name}: cannot be read: {why}", [CSV_HEAD])
+    data = recording_of(
+        [7], context(0x08000000, [0, 1 << 20], identifier=7), packet(1, [1] * 20, identifier=7)
+    )
+    for length in (0, 2, 4, 8, 10, 12, 28, 30, 50, 112, len(data)):
+        for more in ([], ["-q"], ["--csv"]):
+            ours, theirs = pty.openpty()
+            tty.setraw(theirs)
+            os.write(theirs, data[:length])
+            os.close(theirs)
+            done = subprocess.run([*COMMAND, *more], stdin=ours, capture_output=True)
+            os.close(ours)
+            story = Story(data[:28])
+            may_say = [*(lines(story) if length >= 28 else []), *rows(story)]
+            says = "standard input: cannot be read: Input/output error"
+            fails(f"a line that breaks after {length} bytes {more}", done, says, may_say)
+
+
+def captures():
+    """A capture is no recording, and it is said what it may be."""
+    for first in CAPTURES:
+        for many in (0, 2, 20, 100_000):
+            hold(f"a capture, {first.hex()}", first + bytes(many), everything=(False,))
+        for length in range(4):
+            hold(f"{length} bytes of a capture", first[:length], everything=(False,))
+        hold("a capture behind", recording_of([7]) + first, everything=(False,))
+        hold("a capture behind", first[1:] + first, everything=(False,))
+        hold("nearly a capture", first[:3] + b"\x00" + bytes(9), everything=(False,))
+
+
+def tails():
+    """The tail is that of the whole recording, where a refusal ended it early too."""
+    good = [packet(1, [i] * 20, identifier=7, count=i % 16) for i in range(30)]
+    bad = packet(1, [1], identifier=7, reserved=1 << 25)
+    for what, start, lengths in (
+        ("a refused packet", recording_of([7], *good, bad), (0, 65536, 2**20, 1_500_000)),
+        ("no list", to_bytes([33]), (0, 2**20, 3_000_000)),
+        ("a refused packet, far behind", recording_of([7], *good * 450, bad), (0, 3_000_000)),
+    ):
+        for length in lengths:
+            for tail in range(4):
+                data = start + bytes(max(0, length - len(start)) // 4 * 4 + tail)
+                story, path = Story(data), file_of(data)
+                said = [*lines(story), *summary(story)]
+                known = f"{what}, {len(data)} bytes"
+                same(known, run(path), said, story, path)
+                same(f"{known}, standard input", run(file=path), said, story)
+                done = run("-", file=file_of(b"skip it" + data), skip=7)
+                same(f"{known}, standard input from a byte on", done, said, story)
+        # by a pipe the bytes that were read are known to the program alone
+        found = run(data=data).stdout.decode().splitlines()
+        if found[:-1] != said[:-1] or not re.fullmatch(f"end {story.place} tail [0-3]", found[-1]):
+            differs(f"{what}, by a pipe", found[-1])
+        tried["runs"] += 1
 
 
 def progress():
@@ -780,7 +1275,8 @@ def progress():
 GROUPS = {
     group.__name__: group
     for group in (
-        samples, surveys, columns, million, values, seams, pieces, cut, live, outside, progress,
+        samples, pictures, surveys, columns, million, values, seams, doubts, pieces, cut, live,
+        outside, behind, kept, failing, captures, tails, progress,
     )
 }
 
