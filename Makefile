@@ -49,7 +49,7 @@ show:
 	@$(MAKE) -s lib
 	@tools/show --svg target/survey.svg samples/recordings/survey.vrt
 
-# the library, static and shared, its header, its pkg-config file, vrtplay and vrtshow: make install PREFIX=/usr DESTDIR=/tmp/package
+# the library, static and shared, its header, its pkg-config file, vrtplay, vrtshow and vrtcapture: make install PREFIX=/usr DESTDIR=/tmp/package
 PREFIX ?= /usr/local
 LIBDIR ?= $(PREFIX)/lib
 install: python

@@ -66,7 +66,7 @@ step 'recordings' $here/recordings.sh
 step 'captures' python3 $here/capture.py tools/capture "$work/uhd_packets"
 step 'the examples over an installed copy' env LIBRARY="$library" tools/try_install
 step 'the examples over the recordings' python3 -B $here/examples.py target/try_install $run
-LIBRARY=$library show/build "$work/vrtshow"
+LIBRARY=$library CFLAGS=-Werror show/build "$work/vrtshow"
 step 'vrtshow, some minutes' python3 -B $here/show.py -- $run "$work/vrtshow"
 
 # each comparison must fail when drive.c spoils an answer

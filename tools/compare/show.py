@@ -86,7 +86,7 @@ CSV_HEAD = (
 MOST_COLUMNS, STRANGERS = 2048, 8
 # The first bytes of captures: pcap in both orders, to microseconds and nanoseconds; pcapng.
 CAPTURES = [bytes.fromhex(text) for text in "D4C3B2A1 A1B2C3D4 4D3CB2A1 A1B23C4D 0A0D0D0A".split()]
-CAPTURE_HINT = "vrtshow: it looks like a capture: tools/capture makes a recording of it"
+CAPTURE_HINT = "vrtshow: it looks like a capture: vrtcapture (tools/capture) makes a recording of it"
 
 
 def differs(what, *lines):
