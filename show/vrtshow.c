@@ -203,8 +203,8 @@ static void tell_likeness(uint32_t first)
                 from.little ? "big" : "little", from.little ? "without" : "with");
     for (i = 0; i < CAPTURES_N; i++)
         if (first == CAPTURES[i])
-            fputs("vrtshow: it looks like a capture: vrtcapture (tools/capture) makes a recording of "
-                  "it\n", stderr);
+            fputs("vrtshow: it looks like a capture: vrtcapture (tools/capture) makes a "
+                  "recording of it\n", stderr);
 }
 
 /* Says on standard error why the recording ended before its end. */
