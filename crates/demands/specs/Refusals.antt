@@ -1,7 +1,7 @@
 -- Document 01, 'Numbers given back': "The first that applies is given, in these orders." For each call the numbers in the document's order, and that the call
 -- gives the first of its list that applies. The list of a call, each number with the test that says when it is given, stands with the call's definition.
 use Rattle.words.specs.Kit.{_≡_, ℕ, List, [], _∷_, _++_, length, getD, drop}
-use Rattle.words.specs.Numbers.{EMPTY, TYPE, BITS, SHORT, CUT, CLASS, TIME, INDICATOR, LAYOUT, FIELD}
+use Rattle.words.specs.Numbers.{TYPE, SHORT, TIME, INDICATOR, LAYOUT, FIELD}
 use Rattle.words.specs.Numbers.{STREAM, LIST, ROOM, VALUE, SIZE, FORMAT, COUNT, TABLE, PAGE}
 use Rattle.words.specs.Word.{join}
 use Rattle.words.specs.Outcome.{Outcome, accepted}
