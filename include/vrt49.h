@@ -38,7 +38,7 @@
 
 #define VRT49_VERSION_MAJOR 0
 #define VRT49_VERSION_MINOR 12
-#define VRT49_VERSION_PATCH 0
+#define VRT49_VERSION_PATCH 1
 
 #ifdef __cplusplus
 extern "C" {
