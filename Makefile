@@ -6,7 +6,7 @@
 # what lib, install, stack, wrong, count and vectors need besides the kit
 .PHONY: python
 python:
-	@command -v python3 >/dev/null || { echo 'python3 is missing; on Debian, as root: apt-get install python3' >&2; exit 1; }
+	@command -v python3 >/dev/null || { echo 'python3 is missing; on Debian, as root: apt-get update && apt-get install python3' >&2; exit 1; }
 
 # tries the wrong programs of wrong/, of all crates or of those named behind it: make wrong play page
 ifeq (wrong,$(firstword $(MAKECMDGOALS)))
@@ -30,7 +30,7 @@ test:
 # proves the calls for C and builds the library
 lib: python
 	@tools/check_header
-	@mkdir -p target
+	@mkdir -p target && rm -f target/lib.log
 	@rt staticlib vrt49 >target/lib.log 2>&1 || { tail -n 20 target/lib.log; exit 1; }
 	@echo 'proved and built: target/staticlib/libvrt49.a; its header: include/vrt49.h'
 

@@ -15,6 +15,8 @@ mkdir -p "$work/crates/payload_c/src"
 for c in words fields bitstream payload_format payload_pack payload_unpack; do rm -rf "$work/crates/$c"; cp -R "crates/$c" "$work/crates/"; rm -rf "$work/crates/$c/must-fail"; done
 cp "$here/calls.txt" "$work/crates/payload_c/src/lib.rt"
 printf 'words:\nfields: words\nbitstream: words\npayload_format: words fields bitstream\npayload_pack: words fields bitstream payload_format\npayload_unpack: words fields bitstream payload_format\npayload_c: words fields bitstream payload_format payload_pack payload_unpack\n' >"$work/crates.txt"
+mkdir -p "$work/target" # what is proved already is not proved again
+for part in rlib stamp; do [ ! -d "target/$part" ] || cp -R "target/$part" "$work/target/"; done
 (cd "$work" && rt staticlib payload_c >"$work/log" 2>&1) || { tail -5 "$work/log"; exit 1; }
 for side in by_hand by_hand_tighter; do
     $CC -O2 -c "$here/$side.c" -o "$work/$side.o"
