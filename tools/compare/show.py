@@ -748,9 +748,16 @@ def samples():
 
 
 def pictures():
-    """The pictures of the manual are those that are drawn of their recordings."""
+    """The pictures of the manual are those that are drawn of their recordings, and its lines
+    those that are printed of the sample survey."""
+    survey = (ROOT / "samples/recordings/survey.vrt").read_bytes()
+    printed = run(data=survey).stdout.decode().splitlines()
+    manual = (ROOT / "docs/MANUAL.md").read_text()
+    for line in re.findall(r"^    (at \d+ packet .*)$", manual, re.M):
+        if line not in printed:
+            differs("docs/MANUAL.md", "it is not what is printed now of survey.vrt", line)
     for name, data in (
-        ("survey", (ROOT / "samples/recordings/survey.vrt").read_bytes()),
+        ("survey", survey),
         ("hops", make_survey.survey(seed=12)),
         ("streams_32", make_survey.survey(60000, 32)),
     ):
@@ -772,8 +779,9 @@ def surveys():
         (1, 2000, 10, 21), (3, 4000, 20, 22), (3, 30000, 60, 23), (9, 6000, 8, 24),
         (32, 9000, 12, 25),
     ):
-        data = make_survey.survey(packets, streams, seed, dwell, 3, 0.015, (streams + 1) * 2 // 3)
-        hold(f"survey of {streams} streams, sparing ones among them", data, orders=("big",))
+        sparing = (streams + 1) * 2 // 3
+        data = make_survey.survey(packets, streams, seed, dwell, 3, loss=0.015, sparing=sparing)
+        hold(f"survey of {streams} streams, {sparing} sparing", data, orders=("big",))
     for end in make_survey.ENDS:
         data = make_survey.survey(800, 4, 8, 10, payload=3, loss=0.02, sparing=2, end=end)
         hold(f"survey that ends with {end}", data)
