@@ -95,7 +95,8 @@ class Receiver:
 
     def spare(self, clock):
         """What differs from what it sent last; at times one field of that, and the rest soon."""
-        changed = {bit: words for bit, words in self.tuning(True).items() if self.told.get(bit) != words}
+        fields = self.tuning(True)
+        changed = {bit: fields[bit] for bit in fields if self.told.get(bit) != fields[bit]}
         if len(changed) > 1 and self.chance.random() < 0.4:
             self.late = self.chance.randrange(1, 6)
             bit = self.chance.choice(sorted(changed))

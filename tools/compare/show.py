@@ -336,7 +336,8 @@ def fields_text(event):
 
 def in_doubt_text(fields):
     """What a line says behind it, where fields are still in doubt."""
-    return "; still in doubt: " + ", ".join(VALUES[b][0] for b in VALUES if b in fields) if fields else ""
+    named = ", ".join(VALUES[bit][0] for bit in VALUES if bit in fields)
+    return f"; still in doubt: {named}" if fields else ""
 
 
 def line_of(story, event):
@@ -460,10 +461,11 @@ LEAST = 2  # a span is as wide as its packets, and at least so that it can be se
 
 def frame(what, root):
     """Where the rows begin, and how wide they are: all packets."""
-    rows = {(back.get("x"), back.get("width")) for back in root.iter(SPACE + "rect") if back.get("class") == "back"}
-    if len(rows) != 1:
-        differs(what, f"rows of {rows}")
-    return map(float, rows.pop())
+    backs = [back for back in root.iter(SPACE + "rect") if back.get("class") == "back"]
+    found = {(back.get("x"), back.get("width")) for back in backs}
+    if len(found) != 1:
+        differs(what, f"rows of {found}")
+    return map(float, found.pop())
 
 
 def columns_of(story):
@@ -746,9 +748,16 @@ def samples():
 
 
 def pictures():
-    """The pictures of the manual are those that are drawn of their recordings."""
+    """The pictures of the manual are those that are drawn of their recordings, and its lines
+    those that are printed of the sample survey."""
+    survey = (ROOT / "samples/recordings/survey.vrt").read_bytes()
+    printed = run(data=survey).stdout.decode().splitlines()
+    manual = (ROOT / "docs/MANUAL.md").read_text()
+    for line in re.findall(r"^    (at \d+ packet .*)$", manual, re.M):
+        if line not in printed:
+            differs("docs/MANUAL.md", "it is not what is printed now of survey.vrt", line)
     for name, data in (
-        ("survey", (ROOT / "samples/recordings/survey.vrt").read_bytes()),
+        ("survey", survey),
         ("hops", make_survey.survey(seed=12)),
         ("streams_32", make_survey.survey(60000, 32)),
     ):
@@ -767,10 +776,12 @@ def surveys():
         data = make_survey.survey(packets, streams, seed, dwell, payload=6, loss=0.01)
         hold(f"survey of {streams} streams", data, orders=("big",))
     for streams, packets, dwell, seed in (
-        (1, 2000, 10, 21), (3, 4000, 20, 22), (3, 30000, 60, 23), (9, 6000, 8, 24), (32, 9000, 12, 25),
+        (1, 2000, 10, 21), (3, 4000, 20, 22), (3, 30000, 60, 23), (9, 6000, 8, 24),
+        (32, 9000, 12, 25),
     ):
-        data = make_survey.survey(packets, streams, seed, dwell, 3, 0.015, (streams + 1) * 2 // 3)
-        hold(f"survey of {streams} streams, sparing ones among them", data, orders=("big",))
+        sparing = (streams + 1) * 2 // 3
+        data = make_survey.survey(packets, streams, seed, dwell, 3, loss=0.015, sparing=sparing)
+        hold(f"survey of {streams} streams, {sparing} sparing", data, orders=("big",))
     for end in make_survey.ENDS:
         data = make_survey.survey(800, 4, 8, 10, payload=3, loss=0.02, sparing=2, end=end)
         hold(f"survey that ends with {end}", data)
@@ -832,161 +843,169 @@ def seams():
         hold(f"seams, {many} times", recording_of([9, 7], *packets * many), everything=(False,))
 
 
-class Sender:
-    """Makes the packets of a stream, each with the next count of its type."""
-
-    def __init__(self, name=7):
-        self.name, self.counts = name, Counter()
-
-    def sends(self, kind, body=(1, 2), many=1):
-        made = []
-        for _ in range(many):
-            made.append(packet(kind, list(body), identifier=self.name, count=self.counts[kind] % 16))
-            self.counts[kind] += 1
-        return made
-
-    def data(self, many=1):
-        return self.sends(1, many=many)
-
-    def tells(self, **fields):
-        """A Context packet: rf=100 is 100 MHz, and so on; level, gain and warm are words."""
-        bits = {BIT_OF[name]: value for name, value in fields.items()}
-        words = [1 << 31 | sum(1 << bit for bit in bits)]
-        for bit in sorted(bits, reverse=True):
-            megahertz = bit in panel.FREQUENCY_BITS
-            words += make_survey.frequency(bits[bit]) if megahertz else [bits[bit]]
-        return self.sends(4, words)
-
-    def loses(self, many=1, kind=4):
-        self.counts[kind] += many
-        return []
-
-
-BIT_OF = {"rf": 27, "if_": 28, "off": 26, "if_off": 25, "wide": 29, "rate": 21, "level": 24, "gain": 23}
-BIT_OF |= {"warm": 18, "state": 16}
-EIGHT = {"rf": 100, "if_": 10, "off": 1, "if_off": 2, "wide": 5, "rate": 6, "level": 640, "gain": 128}
+BIT_OF = {"rf": 27, "if_": 28, "off": 26, "if_off": 25, "wide": 29, "rate": 21}
+BIT_OF |= {"level": 24, "gain": 23, "warm": 18, "state": 16}
+EIGHT = {"rf": 100, "if_": 10, "off": 1, "if_off": 2, "wide": 5, "rate": 6, "level": 640, "gain": 9}
 EIGHT_NAMES = "RF, IF, RF offset, IF band offset, bandwidth, sample rate, level, gain"
 
 
-def doubt_cases():
+class Sender:
+    """A stream that sends packets, each with the next count of its type, behind others."""
+
+    def __init__(self, name=7, sent=None):
+        self.name, self.counts, self.sent = name, Counter(), [] if sent is None else sent
+
+    def sends(self, kind, many=1, body=(1, 2)):
+        for _ in range(many):
+            count = self.counts[kind] % 16
+            self.sent.append(packet(kind, list(body), identifier=self.name, count=count))
+            self.counts[kind] += 1
+        return self
+
+    def data(self, many=1):
+        return self.sends(1, many)
+
+    def tells(self, **fields):
+        """A Context packet: frequencies in MHz, other fields as words."""
+        bits = {BIT_OF[name]: value for name, value in fields.items()}
+        words = [1 << 31 | sum(1 << bit for bit in bits)]
+        for bit in sorted(bits, reverse=True):
+            hertz = bit in panel.FREQUENCY_BITS
+            words += make_survey.frequency(bits[bit]) if hertz else [bits[bit]]
+        return self.sends(4, body=words)
+
+    def loses(self, many=1, kind=4):
+        self.counts[kind] += many
+        return self
+
+
+def unsure(at, since, data, still="", stream=0, name=7, many=1):
+    """The line of lost Context packets, without its place."""
+    text = f"packet {at} stream {stream} (0x{name:08X}) missing {many} of type 4 (Context): "
+    text += f"tuning not to be trusted since packet {since}, for {data} data packets"
+    return text + (f"; still in doubt: {still}" if still else "")
+
+
+def again(at, since, data, stream=0, name=7):
+    text = f"packet {at} stream {stream} (0x{name:08X}) tuning trusted again: "
+    return text + f"it was not since packet {since}, for {data} data packets"
+
+
+def total(data, still=""):
+    text = f"tuning not to be trusted for {data} data packets"
+    return text + (f"; still in doubt: {still}" if still else "")
+
+
+def untrusted(at, many=1):
+    """The same where nothing is held that could be in doubt."""
+    return f"packet {at} stream 0 (0x00000007) missing {many} of type 4 (Context)"
+
+
+def doubts_of_a_stream():
     """What a case is, its streams, its packets, and all that is to be said of doubt and of
     missing Context packets, as the manual has it: lines without place, then the summary."""
-    def unsure(at, since, data, still="", stream=0, name=7, many=1):
-        text = f"packet {at} stream {stream} (0x{name:08X}) missing {many} of type 4 (Context): tuning"
-        text += f" not to be trusted since packet {since}, for {data} data packets"
-        return text + (f"; still in doubt: {still}" if still else "")
-
-    def again(at, since, data, stream=0, name=7):
-        text = f"packet {at} stream {stream} (0x{name:08X}) tuning trusted again: it was not since"
-        return text + f" packet {since}, for {data} data packets"
-
-    def total(data, still=""):
-        text = f"tuning not to be trusted for {data} data packets"
-        return text + (f"; still in doubt: {still}" if still else "")
-
-    s = Sender()
-    sent = [*s.tells(rf=100), *s.loses(), *s.tells(warm=64), *s.data(20), *s.tells(rf=300), *s.data(3)]
+    s = Sender().tells(rf=100).loses().tells(warm=64).data(20).tells(rf=300).data(3)
     said = [unsure(1, 0, 0, "RF"), again(22, 0, 20), total(20)]
-    yield "RF is lost, and the temperature comes alone", [7], sent, said
-    s = Sender()
-    sent = [*s.tells(rf=100), *s.data(2), *s.loses(), *s.tells(), *s.data(), *s.tells(rf=100), *s.data()]
+    yield "RF is lost, and the temperature comes alone", [7], s.sent, said
+    s = Sender().tells(rf=100).data(2).loses().tells().data().tells(rf=100).data()
     said = [unsure(3, 0, 2, "RF"), again(5, 0, 3), total(3)]
-    yield "a Context packet without fields; RF comes again as it was", [7], sent, said
-    s = Sender()
-    sent = [*s.tells(rf=100, wide=5), *s.data(2), *s.loses(), *s.tells(warm=1), *s.data(3)]
-    sent += [*s.loses(2), *s.tells(rf=101), *s.data(), *s.tells(wide=6), *s.data(4)]
+    yield "a Context packet without fields; RF comes again as it was", [7], s.sent, said
+    s = Sender().tells(rf=100, wide=5).data(2).loses().tells(warm=1).data(3)
+    s.loses(2).tells(rf=101).data().tells(wide=6).data(4)
     said = [unsure(3, 0, 2, "RF, bandwidth"), unsure(7, 0, 5, "bandwidth", many=2)]
-    yield "a second loss in a doubt", [7], sent, [*said, again(9, 0, 6), total(6)]
-    s = Sender()
-    sent = [*s.tells(rf=100, wide=5), *s.data(), *s.loses(), *s.tells(rf=101), *s.data(2)]
-    sent += [*s.tells(level=7), *s.data(), *s.loses(), *s.tells(wide=6), *s.data(4), *s.tells(rf=99)]
-    sent += [*s.data(8), *s.tells(wide=7), *s.tells(level=7), *s.data(16)]
+    yield "a second loss in a doubt", [7], s.sent, [*said, again(9, 0, 6), total(6)]
+    s = Sender().tells(rf=100, wide=5).data().loses().tells(rf=101).data(2).tells(level=7).data()
+    s.loses().tells(wide=6).data(4).tells(rf=99).data(8).tells(wide=7).tells(level=7).data(16)
     said = [unsure(2, 0, 1, "bandwidth"), unsure(7, 0, 4, "RF, level"), again(22, 0, 16), total(16)]
-    yield "a field that was sent comes into doubt again, and one that came meanwhile", [7], sent, said
-    s = Sender()
-    sent = [*s.tells(**EIGHT), *s.data(), *s.loses(), *s.tells(**EIGHT), *s.data(), *s.loses(15)]
-    sent += [*s.tells(**EIGHT), *s.data(), *s.tells(warm=2), *s.data(2), *s.loses(), *s.tells(**EIGHT)]
+    yield "a field comes into doubt again, and one that came meanwhile", [7], s.sent, said
+    s = Sender().tells(rf=100).data().loses().tells(warm=1).data(2).tells(rf=1).data(4)
+    s.loses().tells(warm=2).data(8).tells(rf=2).data(16)
+    said = [unsure(2, 0, 1, "RF"), again(5, 0, 3), unsure(10, 5, 4, "RF"), again(19, 5, 12)]
+    yield "two doubts, one after the other", [7], s.sent, [*said, total(15)]
+    s = Sender().tells(**EIGHT).data().loses().tells(**EIGHT).data().loses(15).tells(**EIGHT)
+    s.data().tells(warm=2).data(2).loses().tells(**EIGHT)
     said = [unsure(2, 0, 1), unsure(4, 2, 1, many=15), unsure(9, 6, 2), total(4)]
-    yield "the packet itself sends all fields, three times", [7], sent, said
-    s = Sender()
-    sent = [*s.tells(warm=64), *s.data(2), *s.loses(), *s.tells(warm=70), *s.data(3), *s.loses()]
-    sent += [*s.tells(rf=100, gain=128), *s.data(5), *s.loses(), *s.tells(rf=100, gain=128)]
-    said = [f"packet {at} stream 0 (0x00000007) missing 1 of type 4 (Context)" for at in (3, 7)]
-    said += [unsure(13, 7, 5), "without a tuning: 5 data packets", total(5)]
-    yield "no field of the tuning is held at the loss", [7], sent, said
-    s = Sender()
-    sent = [*s.data(), *s.sends(3), *s.sends(5), *s.loses(2, 1), *s.data(), *s.tells(), *s.loses(), *s.tells()]
-    said = ["packet 5 stream 0 (0x00000007) missing 1 of type 4 (Context)"]
-    said += ["without a tuning: 3 data packets"]
-    yield "nothing is ever tuned", [7], sent, said
+    yield "the packet itself sends all fields, three times", [7], s.sent, said
+    s = Sender().tells(warm=64).data(2).loses().tells(warm=70).data(3).loses()
+    s.tells(rf=100, gain=128).data(5).loses().tells(rf=100, gain=128)
+    said = [untrusted(3), untrusted(7), unsure(13, 7, 5), "without a tuning: 5 data packets"]
+    yield "no field of the tuning is held at the loss", [7], s.sent, [*said, total(5)]
+    s = Sender().data().sends(3).sends(5).loses(2, 1).data().tells().loses().tells()
+    said = [untrusted(5), "without a tuning: 3 data packets"]
+    yield "nothing is ever tuned", [7], s.sent, said
     for order in (list(EIGHT), list(EIGHT)[::-1], "gain rf off rate if_off level wide if_".split()):
-        s = Sender()
-        sent, left = [*s.tells(**EIGHT), *s.loses(), *s.tells(state=1 << 31), *s.data()], 1
-        for name in order:
-            sent += [*s.tells(**{name: EIGHT[name] + left % 2}), *s.data(left), *s.tells(warm=left)]
-            left += 1
+        s = Sender().tells(**EIGHT).loses().tells(state=1 << 31).data()
+        for turn, name in enumerate(order, 1):
+            s.tells(**{name: EIGHT[name] + turn % 2}).data(turn).tells(warm=turn)
         said = [unsure(1, 0, 0, EIGHT_NAMES), again(45, 0, 29), total(29)]
-        yield f"fields come again one by one, {order[0]} first", [7], sent, said
-    s = Sender()
-    sent = [*s.tells(**EIGHT), *s.loses(), *s.tells(rf=1, off=1, wide=1, level=1), *s.data(2)]
-    sent += [*s.tells(if_=1, rate=1), *s.data(2), *s.tells(rf=2, if_off=1), *s.data(2)]
+        yield f"fields come again one by one, {order[0]} first", [7], s.sent, said
+    s = Sender().tells(**EIGHT).loses().tells(rf=1, off=1, wide=1, level=1).data(2)
+    s.tells(if_=1, rate=1).data(2).tells(rf=2, if_off=1).data(2)
     said = [unsure(1, 0, 0, "IF, IF band offset, sample rate, gain"), total(6, "gain")]
-    yield "fields come again over three packets, one never", [7], sent, said
-    s = Sender()
-    sent = [*s.tells(rf=100, rate=6), *s.data(3), *s.loses(3), *s.tells(rate=6), *s.data(1233)]
-    said = [unsure(4, 0, 3, "RF", many=3), total("1,236", "RF")]
-    yield "doubt to the end", [7], sent, said
-    yield "doubt to the end, in columns of two packets", [7], sent + s.data(1000), [
-        said[0], total("2,236", "RF")
-    ]
-    s = Sender()
-    sent = [*s.data(1002), *s.tells(rf=100), *s.data(2), *s.loses(), *s.tells(warm=9)]
+    yield "fields come again over three packets, one never", [7], s.sent, said
+    s = Sender().tells(rf=100, rate=6).data(3).loses(3).tells(rate=6).data(1233)
+    said = unsure(4, 0, 3, "RF", many=3)
+    yield "doubt to the end", [7], [*s.sent], [said, total("1,236", "RF")]
+    s.data(1000)
+    yield "doubt to the end, in columns of two", [7], s.sent, [said, total("2,236", "RF")]
+    s = Sender().data(1002).tells(rf=100).data(2).loses().tells(warm=9)
     said = [unsure(1005, 1002, 2, "RF"), "without a tuning: 1,002 data packets", total(2, "RF")]
-    yield "doubt by the last packet", [7], sent, said
-    s, o = Sender(), Sender(9)
-    sent = [*s.tells(rf=100), *s.loses(), *s.tells(warm=9), *o.tells(rf=7), *o.data(3)]
-    said = [unsure(1, 0, 0, "RF"), total(0, "RF")]
-    yield "doubt without data packets, to the end", [7, 9], sent, said
-    sent = [*sent, *s.data(2), packet(4, [1 << 24, ONES], identifier=7, count=3)]
-    yield "doubt to a packet that ends it all", [7, 9], sent, [said[0], total(2, "RF")]
-    s, x = Sender(), Sender(8)
-    sent = [*s.tells(rf=100), *s.loses(), *s.tells(warm=9), *x.tells(rf=7), *x.data(3), *s.data()]
-    sent += [*s.tells(rf=1), *s.data()]
-    said = [unsure(1, 0, 0, "RF"), again(7, 0, 1), total(1)]
-    yield "refused packets in a doubt", [7], sent, said
-    s = Sender()
-    sent = [*s.tells(rf=100), *s.sends(3, many=2), *s.sends(5, many=3), *s.loses(), *s.tells(warm=9)]
-    sent += [*s.sends(5, [0x08000000, 0, 0]), *s.sends(3), *s.data(), *s.loses(4, 5), *s.sends(5), *s.sends(3)]
-    sent += [*s.loses(2, 3), *s.sends(3), *s.tells(rf=1), *s.sends(3, many=4), *s.loses(1, 5), *s.sends(5)]
+    yield "doubt by the last packet", [7], s.sent, said
+    s = Sender().tells(rf=100).sends(3, 2).sends(5, 3).loses().tells(warm=9)
+    s.sends(5, 1, [0x08000000, 0, 0]).sends(3).data().loses(4, 5).sends(5).sends(3)
+    s.loses(2, 3).sends(3).tells(rf=1).sends(3, 4).loses(1, 5).sends(5)
     said = [unsure(6, 0, 2, "RF"), again(13, 0, 6), total(6)]
-    yield "Extension packets in a doubt", [7], sent, said
-    s, o = Sender(), Sender(9)
-    sent = [*s.tells(rf=100, gain=1), *o.tells(if_=5, rate=2), *s.data(), *o.data(2), *s.loses()]
-    sent += [*s.tells(gain=2), *o.data(), *o.loses(4), *o.tells(if_=5), *s.data(3), *o.data(5)]
-    sent += [*s.tells(rf=1), *o.data(7), *s.data(11), *s.loses(), *s.tells(gain=1), *s.data(13)]
-    sent += [*o.tells(rate=2), *s.data(), *o.data()]
+    yield "Extension packets in a doubt", [7], s.sent, said
+    for many in (1, 800):
+        s, said, at = Sender().tells(rf=5), [], 0
+        for turn in range(many):
+            more = turn % 2
+            s.data(1 + more).loses(3, 1).loses().data().tells(rf=1 + turn % 9)
+            said.append(unsure(at + 3 + more, at, 2 + more))
+            at += 3 + more
+        said.append(total(f"{at - many:,}"))
+        yield f"{many} bursts that lose data and Context packets", [7], s.sent, said
+    s = Sender().tells(rf=100).data(2)
+    s.sent.append(s.sent[0])
+    s.data(3).sent.append(s.sent[0])
+    said = [unsure(3, 0, 2, many=15), unsure(7, 3, 3, many=15), total(5)]
+    yield "a Context packet that comes three times", [7], s.data().sent, said
+
+
+def doubts_among_streams():
+    """The same, of several streams."""
+    s = Sender().tells(rf=100).loses().tells(warm=9)
+    Sender(9, s.sent).tells(rf=7).data(3)
+    said = unsure(1, 0, 0, "RF")
+    yield "doubt without data packets, to the end", [7, 9], [*s.sent], [said, total(0, "RF")]
+    s.data(2).sent.append(packet(4, [1 << 24, ONES], identifier=7, count=3))
+    yield "doubt to a packet that ends it all", [7, 9], s.sent, [said, total(2, "RF")]
+    s = Sender().tells(rf=100).loses().tells(warm=9)
+    Sender(8, s.sent).tells(rf=7).data(3)
+    s.data().tells(rf=1).data()
+    yield "refused packets in a doubt", [7], s.sent, [said, again(7, 0, 1), total(1)]
+    s = Sender().tells(rf=100, gain=1)
+    o = Sender(9, s.sent).tells(if_=5, rate=2)
+    s.data()
+    o.data(2)
+    s.loses().tells(gain=2)
+    o.data().loses(4).tells(if_=5)
+    s.data(3)
+    o.data(5)
+    s.tells(rf=1)
+    o.data(7)
+    s.data(11).loses().tells(gain=1).data(13)
+    o.tells(rate=2)
+    s.data()
+    o.data()
     said = [unsure(5, 0, 1, "RF", 1), unsure(7, 1, 3, "sample rate", 0, 9, 4), again(16, 0, 4, 1)]
     said += [unsure(35, 16, 11, "RF", 1), again(49, 1, 15, 0, 9), total(15), total(29, "RF")]
-    yield "two streams in doubt at once", [9, 7], sent, said
-    for many in (1, 800):
-        s, sent, said, at = Sender(), [*Sender().tells(rf=5)], [], 0
-        s.loses()
-        for turn in range(many):
-            sent += [*s.data(1 + turn % 2), *s.loses(3, 1), *s.loses(), *s.data(), *s.tells(rf=1 + turn % 9)]
-            said.append(unsure(at + 3 + turn % 2, at, 2 + turn % 2))
-            at += 3 + turn % 2
-        said.append(total(f"{at - many:,}"))
-        yield f"{many} bursts that lose data and Context packets", [7], sent, said
-    s, sent = Sender(), [*Sender().tells(rf=100)]
-    s.loses()
-    sent += [*s.data(2), sent[0], *s.data(3), sent[0], *s.data()]
-    said = [unsure(3, 0, 2, many=15), unsure(7, 3, 3, many=15), total(5)]
-    yield "a Context packet that comes three times", [7], sent, said
+    yield "two streams in doubt at once", [9, 7], s.sent, said
 
 
 def doubts():
     """What is in doubt after lost Context packets, with all that is to be said of it."""
-    for what, ids, packets, said in doubt_cases():
+    for what, ids, packets, said in (*doubts_of_a_stream(), *doubts_among_streams()):
         story = hold(what, recording_of(ids, *packets), orders=("big",))
         told = [re.sub(r"^at \d+ ", "", line) for line in lines(story)]
         told = [line for line in told if "type 4" in line or "trusted" in line]
@@ -1053,7 +1072,8 @@ def outside():
     for arguments, says in (
         (["-x"], "-x: no such option"), (["-lq"], "-lq: no such option"),
         (["--svg=a", survey], "--svg=a: no such option"), ([survey, "-x"], "-x: no such option"),
-        (["--svg"], "--svg: has no file behind it"), ([survey, "--svg"], "--svg: has no file behind it"),
+        (["--svg"], "--svg: has no file behind it"),
+        ([survey, "--svg"], "--svg: has no file behind it"),
         ([survey, survey], f"{survey}: one too many"), (["-", survey], f"{survey}: one too many"),
         ([survey, "-"], "-: one too many"), ([survey, "-q", "b"], "b: one too many"),
         (["-q", "--csv"], "--csv: one too many"), (["--csv", survey, "-q"], "-q: one too many"),
@@ -1133,7 +1153,7 @@ def kept():
 
     no_picture = [f"{at}: is not a picture: not written over"]
     for what, content in (
-        ("a recording", data), ("a recording in the other order", little(data)), ("a text", b"text"),
+        ("a recording", data), ("one in the other order", little(data)), ("a text", b"text"),
         ("a zero byte", b"\0"), ("a space", b" <svg/>"), ("an end of line", b"\n<svg/>"),
         ("a mark of UTF-8", b"\xef\xbb\xbf<svg/>"), ("a long file", bytes(10**7)),
     ):
@@ -1215,7 +1235,9 @@ def captures():
     """A capture is no recording, and it is said what it may be."""
     for first in CAPTURES:
         for many in (0, 2, 20, 100_000):
-            hold(f"a capture, {first.hex()}", first + bytes(many), everything=(False,))
+            story = hold(f"a capture, {first.hex()}", first + bytes(many), everything=(False,))
+        said = [*lines(story), *summary(story)]
+        same(f"a capture, {first.hex()}, no name", run(data=first + bytes(many)), said, story)
         for length in range(4):
             hold(f"{length} bytes of a capture", first[:length], everything=(False,))
         hold("a capture behind", recording_of([7]) + first, everything=(False,))
@@ -1242,7 +1264,9 @@ def tails():
                 same(f"{known}, standard input", run(file=path), said, story)
                 done = run("-", file=file_of(b"skip it" + data), skip=7)
                 same(f"{known}, standard input from a byte on", done, said, story)
-        # by a pipe the bytes that were read are known to the program alone
+                if len(data) <= 4096:
+                    same(f"{known}, by a pipe", run(data=data), said, story)
+        # of more than a pipe hands over at once, the program alone knows what it read
         found = run(data=data).stdout.decode().splitlines()
         if found[:-1] != said[:-1] or not re.fullmatch(f"end {story.place} tail [0-3]", found[-1]):
             differs(f"{what}, by a pipe", found[-1])

@@ -112,7 +112,7 @@ FAULTS = {
         ("lines.c", "    if (of)\n        printf(\"0x%08", "    if (of && of->doubt.fields)\n        printf(\"0x%08"),
         ("lines.c", "    if (doubted != 0)\n        snprintf", "    if (of->doubt.fields != 0)\n        snprintf"),
         ("lines.c", '",%" PRIu64 ",,,", of->doubt.since', '",%" PRIu64 ",,,", at->number'),
-        # the span: early, late, not to the end; marks that are not drawn, or hidden
+        # the span: early, late, not to the end; marks that are not drawn
         ("doubt.c", "        if (of->doubt.fields != 0)\n            note_unsure(all, of);\n", "        ;\n"),
         ("columns.c", "(all->packets - 1) >> all->shift", "all->packets >> all->shift"),
         ("columns.c", "(all->packets - 1) >> all->shift", "of->context >> all->shift"),
@@ -121,7 +121,6 @@ FAULTS = {
         ("picture.c", "wide < 2 ? 2 : wide", "wide < 20 ? 20 : wide"),
         ("picture.c", "x_of(on, first_of(on, to + 1)) - x", "x_of(on, first_of(on, to)) - x"),
         ("picture.c", 'of->columns[c].missing, "missing")', 'of->columns[c].contexts_missing ? 0 : of->columns[c].missing, "missing")'),
-        ("picture.c", "    draw_contexts(on, of);\n    draw_missing(on, of);\n", "    draw_missing(on, of);\n    draw_contexts(on, of);\n"),
     ],
     "pieces": [
         ("recording.c", "    from->before += from->at;\n", ""),
