@@ -1,5 +1,5 @@
--- The rules leave nothing open. The idea: a good record is fixed by its identifier, its counts and what it holds (`record-by`): the held indicator bit by bit,
--- a held slot by its value, an unheld one since it is zero. A layout is fixed by its records.
+-- The rules leave nothing open. The idea: a good record is fixed by its identifier, its counts and what it holds (`record-by`): the fields by their things
+-- (`field-held`), the held indicator bit by bit, a held slot by its value, an unheld one since it is zero. A layout is fixed by its records.
 use Rattle.words.proofs.Kit.{_≡_, refl, sym, ap, _∙_, Bool, true, false, ⊎-elim, List, _++_, ℕ, _+_, _≤_, _<_, arith, length, getD}
 use mathlib.Core.Option.{none, some, Option·none-ne-some, Option·some-injective}
 use lib.Seq.{ext-getD}
@@ -9,7 +9,7 @@ use Rattle.words.specs.Part.{part}
 use Rattle.words.proofs.Cases.{true-or-false}
 use Rattle.words.proofs.BitLaws.{word-same}
 use Rattle.words.proofs.PartLaws.{part-length, getD-part, part-whole}
-use Rattle.record.specs.Held.{heldMask, holds, heldBits, slotAt}
+use Rattle.record.specs.Held.{slotMask, slotted, slotBits, slotAt}
 use Rattle.record.specs.Layout.{headWords, slotWords, recordWords, identifierOf, heldOf, countedTypes, orderOf, countWords, slotIn, slotsOf, slotOf}
 use Rattle.record.specs.Good.{recordGood, Good}
 use Rattle.record.proofs.SlotLaws.{in-order-same, in-order-parts, slots-whole}
@@ -20,8 +20,10 @@ use Rattle.table.proofs.WellLaws.{well-whole, well-record}
 use Rattle.page.specs.Layout.{tableFrom}
 use Rattle.words.proofs.PieceLaws.{part-join}
 use Rattle.page.proofs.LayoutLaws.{table-same, table-again}
+use Rattle.demands.specs.Things.{Thing}
 use Rattle.demands.specs.Trace.{Arrival, traceOf, own, lastCarried, countsOf, countRule}
 use Rattle.demands.specs.Right.{heldIn, Right, layoutOf, Determined}
+use Rattle.demands.proofs.ThingLaws.{field-same, field-held}
 use Rattle.demands.proofs.HearingLaws.{record-whole}
 use Rattle.demands.proofs.RightLaws.{right-listed}
 
@@ -57,12 +59,15 @@ same-value false false v w t e = let z : _≡_ {A = ℕ} 0 1 = cc in absurd (ome
 -- ---- a record
 
 module _ (r q : List ℕ) (lr : length r ≡ recordWords) (lq : length q ≡ recordWords) (gr : recordGood r ≡ true) (gq : recordGood q ≡ true)
-    (held : (b : ℕ) → heldIn b r ≡ heldIn b q) where
+    (things : (x : Thing) → heldIn x r ≡ heldIn x q) where
   R : Good r
   R = good-of r lr gr
 
   Q : Good q
   Q = good-of q lq gq
+
+  held : (b : ℕ) → pick (has (heldOf r) b) (some (slotOf b r)) none ≡ pick (has (heldOf q) b) (some (slotOf b q)) none
+  held b = field-held r lr R b ∙ field-same b (λ x. heldIn x r) (λ x. heldIn x q) things ∙ sym (field-held q lq Q b)
 
   same-bit : (b : ℕ) → has (heldOf r) b ≡ has (heldOf q) b
   same-bit b = some-same (has (heldOf r) b) (has (heldOf q) b) (slotOf b r) (slotOf b q) (held b)
@@ -70,7 +75,7 @@ module _ (r q : List ℕ) (lr : length r ≡ recordWords) (lq : length q ≡ rec
   same-held : heldOf r ≡ heldOf q
   same-held = word-same 31 (heldOf r) (heldOf q) (R .small) (Q .small) (λ b h. same-bit b)
 
-  same-slot : (b : ℕ) → holds b ≡ true → slotOf b r ≡ slotOf b q
+  same-slot : (b : ℕ) → slotted b ≡ true → slotOf b r ≡ slotOf b q
   same-slot b o =
       ⊎-elim (λ e. same-value (has (heldOf r) b) (has (heldOf q) b) (slotOf b r) (slotOf b q) e (held b))
       (λ e. R .unheld b o e ∙ sym (Q .unheld b o (sym (same-bit b) ∙ e))) (true-or-false (has (heldOf r) b))
@@ -80,11 +85,11 @@ module _ (r q : List ℕ) (lr : length r ≡ recordWords) (lq : length q ≡ rec
   slots-sized x l = part-length headWords slotWords x (omega arith)
 
   same-slots : slotsOf r ≡ slotsOf q
-  unfolding slotOf slotIn slotAt heldBits holds
+  unfolding slotOf slotIn slotAt slotBits slotted
   same-slots =
-      sym (in-order-parts 31 heldMask (slotsOf r) (slots-sized r lr ∙ sym slots-whole))
-      ∙ in-order-same 31 heldMask _ _ (λ b h o. same-slot b o)
-      ∙ in-order-parts 31 heldMask (slotsOf q) (slots-sized q lq ∙ sym slots-whole)
+      sym (in-order-parts 31 slotMask (slotsOf r) (slots-sized r lr ∙ sym slots-whole))
+      ∙ in-order-same 31 slotMask _ _ (λ b h o. same-slot b o)
+      ∙ in-order-parts 31 slotMask (slotsOf q) (slots-sized q lq ∙ sym slots-whole)
 
   pub record-by : identifierOf r ≡ identifierOf q
       → ((kind : ℕ) → among kind countedTypes ≡ true → countWords (orderOf kind) r ≡ countWords (orderOf kind) q) → r ≡ q
@@ -106,7 +111,7 @@ pub records-same : (ids : List ℕ) (ps qs : List (List ℕ)) (t u : List ℕ) (
 records-same ids ps qs t u p q s h o =
     record-by (recordAt s t) (recordAt s u) (record-whole ids t (right-listed p) s h) (record-whole ids u (right-listed q) s h)
     (well-record t (p .made) s (rw (p .streams) h)) (well-record u (q .made) s (rw (q .streams) h))
-    (λ b. p .held s h b ∙ ap (lastCarried b) o ∙ sym (q .held s h b))
+    (λ x. p .held s h x ∙ ap (lastCarried x) o ∙ sym (q .held s h x))
     (record-identifier s t ∙ p .list s h ∙ sym (q .list s h) ∙ sym (record-identifier s u))
     (λ kind k. p .counts s h kind k ∙ ap (λ (l : List Arrival). countRule (countsOf kind l)) o ∙ sym (q .counts s h kind k))
 

@@ -24,6 +24,8 @@ pub mod RuleLaws
 pub mod HearingLaws
 -- one packet more, in the record of its stream
 pub mod RecordLaws
+-- a field and its things
+pub mod ThingLaws
 -- a table stays right, packet by packet
 pub mod RightLaws
 -- the rules leave nothing open

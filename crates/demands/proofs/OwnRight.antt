@@ -19,6 +19,7 @@ use Rattle.table.proofs.RecordLaws.{record-length, record-identifier}
 use Rattle.table.proofs.WellLaws.{layout-has, well-whole, well-of}
 use Rattle.panel_streams.specs.OwnTable.{ownLayout, ownDone, ownTableList, ownTableOf}
 use Rattle.panel_streams.proofs.OwnLaws.{own-streams, own-record, own-well}
+use Rattle.demands.specs.Things.{Thing}
 use Rattle.demands.specs.Trace.{Arrival, placeIn, arrivalOf, heardBy, traceOf, own, valueCarried, orElse, lastCarried, countsOf, countRule}
 use Rattle.demands.specs.Program.{ours}
 use Rattle.demands.specs.Right.{heldIn, Right}
@@ -31,9 +32,9 @@ use Rattle.demands.proofs.RuleLaws.{own-append}
 abbrev moved : Arrival → Arrival
 moved a = record { stream = 0; kind = a .kind; count = a .count; size = a .size; body = a .body }
 
-last-moved : (b : ℕ) (packets : List Arrival) → lastCarried b (map moved packets) ≡ lastCarried b packets
-last-moved b [] = refl
-last-moved b (a ∷ later) = ap (λ (o : Option (List ℕ)). orElse o (valueCarried b a)) (last-moved b later)
+last-moved : (x : Thing) (packets : List Arrival) → lastCarried x (map moved packets) ≡ lastCarried x packets
+last-moved x [] = refl
+last-moved x (a ∷ later) = ap (λ (o : Option (List ℕ)). orElse o (valueCarried x a)) (last-moved x later)
 
 counts-moved : (kind : ℕ) (packets : List Arrival) → countsOf kind (map moved packets) ≡ countsOf kind packets
 counts-moved kind [] = refl
@@ -139,8 +140,8 @@ module _ (ids : List ℕ) (packets : List (List ℕ)) (t : List ℕ) (r : Right 
         streams = own-streams (recordAt s t) x long;
         list = at-first (λ u. declared mine u ≡ listed (listed ids s ∷ []) u)
             (sym (record-identifier 0 mine) ∙ ap identifierOf is ∙ record-identifier s t ∙ r .list s h);
-        held = at-first (λ u. (b : ℕ) → heldIn b (recordAt u mine) ≡ lastCarried b (own u (traceOf (listed ids s ∷ []) packets)))
-            (λ b. ap (heldIn b) is ∙ r .held s h b ∙ sym (last-moved b (own s (traceOf ids packets))) ∙ ap (lastCarried b) (sym same-own));
+        held = at-first (λ u. (x : Thing) → heldIn x (recordAt u mine) ≡ lastCarried x (own u (traceOf (listed ids s ∷ []) packets)))
+            (λ x. ap (heldIn x) is ∙ r .held s h x ∙ sym (last-moved x (own s (traceOf ids packets))) ∙ ap (lastCarried x) (sym same-own));
         counts = at-first (λ u. (kind : ℕ) → among kind countedTypes ≡ true
             → countWords (orderOf kind) (recordAt u mine) ≡ countRule (countsOf kind (own u (traceOf (listed ids s ∷ []) packets))))
             (λ kind o.

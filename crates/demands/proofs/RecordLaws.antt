@@ -1,28 +1,32 @@
--- One packet more, in the record of its stream. The idea: what a record holds afterwards is what the packet carried, and else what it held (`held-after`, by
--- `after-slot` and `after-held`); the count of the packet's type goes on, and the others stay (`count-after`).
-use Rattle.words.proofs.Kit.{_≡_, refl, sym, ap, _∙_, Bool, true, false, ⊎-elim, List, [], _∷_, ℕ, zero, suc, _≤_, arith, eq-eqb, ne-eqb, le-leb, eqb}
-use Rattle.words.proofs.Kit.{leb, length}
+-- One packet more, in the record of its stream. The idea: what a record holds of a thing afterwards is what the packet carried of it, and else what it held
+-- (`held-after`): of a field by `comes`, of an indicator by `lights`; the count of the packet's type goes on, and the others stay (`count-after`).
+use Rattle.words.proofs.Kit.{_≡_, refl, sym, ap, _∙_, Bool, true, false, not, ⊎-elim, List, [], _∷_, ℕ, zero, suc, _+_, _-_, _≤_, _<_, arith, eq-eqb}
+use Rattle.words.proofs.Kit.{ne-eqb, le-leb, eqb, leb, length, getD}
 use mathlib.Core.Option.{none, some}
 use borrow.Author.Tests.{leb-true}
 use lib.Pow.{pow-pos}
-use Rattle.words.specs.Tests.{pick, both, among}
+use Rattle.words.specs.Tests.{pick, when, both, among}
 use Rattle.words.specs.Word.{has}
 use Rattle.words.specs.Part.{part}
-use Rattle.words.proofs.Cases.{same-test, true-or-false, true-is-false, same-or-not, both-left, both-right}
+use Rattle.words.proofs.Cases.{same-test, true-or-false, true-is-false, same-or-not, both-left, both-right, both-true, both-no}
 use Rattle.words.proofs.SetBitLaws.{has-above}
+use Rattle.fields.specs.Sizes.{fieldSize}
 use Rattle.fields.specs.Layout.{indicatorOf, fieldOf}
-use Rattle.record.specs.Held.{holds}
+use Rattle.record.specs.Held.{slotted, holds}
+use Rattle.record.specs.State.{stateAfter}
 use Rattle.record.specs.Layout.{recordWords, heldOf, countedTypes, orderOf, countWords, slotOf}
 use Rattle.record.specs.Counts.{countedOf}
-use Rattle.record.specs.After.{slotAfter, recordAfter}
-use Rattle.record.specs.Good.{recordGood}
-use Rattle.record.proofs.SlotLaws.{held-low, held-high, held-all}
+use Rattle.record.specs.After.{slotAfter, slotAfterBody, heldAfter, recordAfter}
+use Rattle.record.specs.Good.{recordGood, Good}
+use Rattle.record.proofs.SlotLaws.{slotted-low, slotted-high, slotted-all, held-slotted, held-but, never-held}
+use Rattle.record.proofs.StateLaws.{state-enable, state-value, state-user}
 use Rattle.record.proofs.AfterLaws.{held-bit}
 use Rattle.record.proofs.CountLaws.{by-types}
-use Rattle.record.proofs.GoodLaws.{good-of}
-use Rattle.record.proofs.PacketLaws.{order-small, after-length, after-slot, after-held, after-count, after-other, after-good}
+use Rattle.record.proofs.GoodLaws.{zero-at, good-of}
+use Rattle.record.proofs.PacketLaws.{order-small, after-slot, after-held, after-count, after-other}
 use Rattle.table.specs.Start.{freshRecord}
-use Rattle.demands.specs.Trace.{Arrival, kept, valueCarried, orElse}
+use Rattle.demands.specs.Things.{Thing, wholeField, indicator, userBits, fieldBit, kept, whole, persistent, told}
+use Rattle.demands.specs.Trace.{Arrival, valueCarried, orElse}
 use Rattle.demands.specs.Right.{heldIn}
 use Rattle.demands.proofs.HearingLaws.{Heeded}
 
@@ -44,61 +48,163 @@ orders-apart k j e f n o = n (sym (type-back j f) ∙ ap typeAt (sym o) ∙ type
 
 -- ---- the fields that are kept
 
+pub bit-same : (b : ℕ) → fieldBit b ≡ slotted b
+bit-same b =
+    same-test (fieldBit b) (slotted b)
+    (λ k.
+    let h : b ≤ 30 = leb-true b 30 (both-right (leb 10 b) (leb b 30) k) in
+    slotted-all b (leb-true 10 b (both-left (leb 10 b) (leb b 30) k)) (omega arith))
+    (λ e. let h : b ≤ 30 = omega (arith, slotted-high b e) in rw (le-leb 10 b (slotted-low b e), le-leb b 30 h))
+
 pub kept-same : (b : ℕ) → kept b ≡ holds b
 kept-same b =
     same-test (kept b) (holds b)
     (λ k.
-    let h : b ≤ 30 = leb-true b 30 (both-right (leb 10 b) (leb b 30) k) in
-    held-all b (leb-true 10 b (both-left (leb 10 b) (leb b 30) k)) (omega arith))
-    (λ e. let h : b ≤ 30 = omega (arith, held-high b e) in rw (le-leb 10 b (held-low b e), le-leb b 30 h))
+    held-but b (sym (bit-same b) ∙ both-left (fieldBit b) (not (eqb b 22)) k)
+    (λ e. true-is-false (sym (both-right (fieldBit b) (not (eqb b 22)) k) ∙ ap not (eq-eqb b 22 e))))
+    (λ e. both-true _ _ (bit-same b ∙ held-slotted b e) (ap not (ne-eqb b 22 (λ i. true-is-false (sym e ∙ ap holds i ∙ never-held)))))
 
--- ---- what a record holds
+-- a field that is replaced whole is held, and is not 16
+whole-held : (b : ℕ) → whole b ≡ true → holds b ≡ true
+whole-held b w = sym (kept-same b) ∙ both-left (kept b) (not (eqb b 16)) w
 
-none-held : (b : ℕ) (r : List ℕ) → length r ≡ recordWords → recordGood r ≡ true → holds b ≡ false → heldIn b r ≡ none
-none-held b r l g o =
-    ⊎-elim (λ e. absurd (true-is-false (sym (good-of r l g .bits b e) ∙ o))) (λ e. rw e) (true-or-false (has (heldOf r) b))
+whole-other : (b : ℕ) → whole b ≡ true → eqb b 16 ≡ false
+whole-other b w = not-false′ (eqb b 16) (both-right (kept b) (not (eqb b 16)) w)
+  where
+    not-false′ : (t : Bool) → not t ≡ true → t ≡ false
+    not-false′ true e = sym e
+    not-false′ false e = refl
 
-none-carried : (b : ℕ) (a : Arrival) → holds b ≡ false → valueCarried b a ≡ none
-none-carried b a o = rw (kept-same b ∙ o)
+-- field 16 has a slot, and is held
+pub state-slotted : slotted 16 ≡ true
+state-slotted = slotted-all 16 (omega arith) (omega arith)
 
--- a field comes from a Context packet whose indicator has its bit, and else was there before
-comes : (context bit before : Bool) (field slot : List ℕ)
-    → pick (pick context (pick before true (both bit true)) before) (some (pick context (pick bit field slot) slot)) none
-    ≡ orElse (pick (both true (both context bit)) (some field) none) (pick before (some slot) none)
-comes true true true field slot = refl
-comes true true false field slot = refl
-comes true false true field slot = refl
-comes true false false field slot = refl
-comes false bit true field slot = refl
-comes false bit false field slot = refl
+state-holds : holds 16 ≡ true
+state-holds = held-but 16 state-slotted (λ e. omega arith)
 
-pick-has : (t : Bool) (m n b : ℕ) → has (pick t m n) b ≡ pick t (has m b) (has n b)
-pick-has true m n b = refl
-pick-has false m n b = refl
+-- ---- what fields tell of a thing
+
+-- no more is looked at than the bits and the words of fields that have a slot
+told-same : (x : Thing) (i j : ℕ) (f g : ℕ → List ℕ) → ((b : ℕ) → has i b ≡ has j b) → ((b : ℕ) → slotted b ≡ true → f b ≡ g b) → told x i f ≡ told x j g
+told-same (wholeField b) i j f g e h =
+    ⊎-elim (λ w. rw (w, e b, h b (held-slotted b (whole-held b w)))) (λ w. rw w) (true-or-false (whole b))
+told-same (indicator k) i j f g e h = rw (e 16, h 16 state-slotted)
+told-same userBits i j f g e h = rw (e 16, h 16 state-slotted)
+
+-- a field comes from a packet whose indicator has its bit, and else was there before
+comes : (bit before : Bool) (new old : List ℕ)
+    → pick (both true (pick before true (both bit true))) (some (pick (both bit true) new old)) none
+    ≡ orElse (pick (both true bit) (some new) none) (pick (both true before) (some old) none)
+comes true true new old = refl
+comes true false new old = refl
+comes false true new old = refl
+comes false false new old = refl
+
+-- an indicator, where the packet has a state word: n and o are whether it is enabled in the packet's word and in the held one, u and v its values there, and
+-- `before` is whether a state word was held
+lights : (n o u v before : Bool) → o ≡ both before o
+    → pick (both true (both true (pick n true o))) (some (when (pick n u v) 1 ∷ [])) none
+    ≡ orElse (pick (both true (both true n)) (some (when u 1 ∷ [])) none) (pick (both true (both before o)) (some (when v 1 ∷ [])) none)
+lights true o u v before e = refl
+lights false o u v before e = rw (← e)
+
+held-true : (t : Bool) → pick t true (both true true) ≡ true
+held-true true = refl
+held-true false = refl
+
+held-stays : (t : Bool) (c : Bool) → pick t true (both false c) ≡ t
+held-stays true c = refl
+held-stays false c = refl
+
+-- a Context packet with this body, and a record that is good: what the record holds of a thing afterwards is what the packet tells of it, and else what it held
+module _ (body r : List ℕ) (good : Good r) where
+  abbrev fields : ℕ
+  fields = indicatorOf body
+
+  abbrev word : ℕ
+  word = getD (fieldOf 16 body) 0 0
+
+  abbrev old : ℕ
+  old = getD (slotOf 16 r) 0 0
+
+  -- where no state word is held its slot is zero
+  dark : (i : ℕ) → has old i ≡ both (has (heldOf r) 16) (has old i)
+  dark i =
+      ⊎-elim (λ h. rw h)
+      (λ h. rw h
+      (ap (λ (ws : List ℕ). has (getD ws 0 0) i) (good .unheld 16 state-slotted h) ∙ ap (λ (n : ℕ). has n i) (zero-at (fieldSize 16) 0)
+      ∙ has-above 0 i (pow-pos i)))
+      (true-or-false (has (heldOf r) 16))
+
+  -- with a state word, and without one
+  word-then : has fields 16 ≡ true → slotAfterBody 16 body (slotOf 16 r) ≡ stateAfter word old ∷ []
+  unfolding slotAfter
+  word-then c = rw (c, state-holds)
+
+  word-stays : has fields 16 ≡ false → slotAfterBody 16 body (slotOf 16 r) ≡ slotOf 16 r
+  unfolding slotAfter
+  word-stays c = rw c
+
+  held-then : has fields 16 ≡ true → has (heldAfter fields (heldOf r)) 16 ≡ true
+  held-then c = held-bit fields (heldOf r) 16 ∙ rw (c, state-holds) (held-true (has (heldOf r) 16))
+
+  held-as-before : has fields 16 ≡ false → has (heldAfter fields (heldOf r)) 16 ≡ has (heldOf r) 16
+  held-as-before c = held-bit fields (heldOf r) 16 ∙ rw c (held-stays (has (heldOf r) 16) (holds 16))
+
+  indicator-after : (e : ℕ) → persistent e ≡ true → has fields 16 ≡ true
+      → pick (both true (both true (has (stateAfter word old) e))) (some (when (has (stateAfter word old) (e - 12)) 1 ∷ [])) none
+      ≡ orElse (pick (both true (both true (has word e))) (some (when (has word (e - 12)) 1 ∷ [])) none)
+      (pick (both true (both (has (heldOf r) 16) (has old e))) (some (when (has old (e - 12)) 1 ∷ [])) none)
+  indicator-after e p c =
+      let low : 26 ≤ e = leb-true 26 e (both-left (leb 26 e) (leb e 31) p) in
+      let high : e ≤ 31 = leb-true e 31 (both-right (leb 26 e) (leb e 31) p) in
+      let back : e - 12 + 12 ≡ e = omega arith in
+      let value = state-value word old (e - 12) (omega arith) (omega arith) ∙ ap (λ (i : ℕ). pick (has word i) (has word (e - 12)) (has old (e - 12))) back in
+      rw (state-enable word old e low (omega arith), value)
+      (lights (has word e) (has old e) (has word (e - 12)) (has old (e - 12)) (has (heldOf r) 16) (dark e))
+
+  told-after : (x : Thing) → told x (heldAfter fields (heldOf r)) (λ b. slotAfterBody b body (slotOf b r))
+      ≡ orElse (told x fields (λ b. fieldOf b body)) (heldIn x r)
+  told-after (wholeField b) =
+      ⊎-elim
+      (λ w.
+      rw (w, held-bit fields (heldOf r) b, whole-held b w, field-after b w)
+      (comes (has fields b) (has (heldOf r) b) (fieldOf b body) (slotOf b r)))
+      (λ w. rw w) (true-or-false (whole b))
+    where
+      field-after : (b : ℕ) → whole b ≡ true → slotAfterBody b body (slotOf b r) ≡ pick (both (has fields b) true) (fieldOf b body) (slotOf b r)
+      unfolding slotAfter
+      field-after b w = rw (whole-held b w, whole-other b w)
+  told-after (indicator e) =
+      ⊎-elim
+      (λ p.
+      ⊎-elim (λ c. rw (p, held-then c, word-then c, c) (indicator-after e p c)) (λ c. rw (p, held-as-before c, word-stays c, c))
+      (true-or-false (has fields 16)))
+      (λ p. rw p) (true-or-false (persistent e))
+  told-after userBits =
+      ⊎-elim (λ c. rw (held-then c, word-then c, c, state-user word old)) (λ c. rw (held-as-before c, word-stays c, c)) (true-or-false (has fields 16))
 
 module _ (ids : List ℕ) (a : Arrival) (f : Heeded ids a) (r : List ℕ) (l : length r ≡ recordWords) where
   abbrev next : List ℕ
   next = recordAfter (a .kind) (a .count) (a .body) r
 
-  pub held-after : recordGood r ≡ true → (b : ℕ) → heldIn b (recordAfter (a .kind) (a .count) (a .body) r) ≡ orElse (valueCarried b a) (heldIn b r)
-  unfolding slotAfter
-  held-after g b =
-      ⊎-elim
-      (λ o.
-      let held : Bool = pick (eqb (a .kind) 4) (pick (has (heldOf r) b) true (both (has (indicatorOf (a .body)) b) true)) (has (heldOf r) b) in
-      let bit : has (heldOf next) b ≡ held =
-      ap (λ (n : ℕ). has n b) (after-held (a .kind) (a .count) (a .body) r l (f .body)) ∙ pick-has (eqb (a .kind) 4) _ (heldOf r) b
-      ∙ ap (λ (t : Bool). pick (eqb (a .kind) 4) t (has (heldOf r) b))
-      (held-bit (indicatorOf (a .body)) (heldOf r) b ∙ ap (λ (t : Bool). pick (has (heldOf r) b) true (both (has (indicatorOf (a .body)) b) t)) o) in
-      ap (λ (t : Bool). pick t (some (slotOf b next)) none) bit
-      ∙ ap (λ (ws : List ℕ). pick held (some ws) none) (after-slot (a .kind) (a .count) (a .body) r l (f .body) b o)
-      ∙ comes (eqb (a .kind) 4) (has (indicatorOf (a .body)) b) (has (heldOf r) b) (fieldOf b (a .body)) (slotOf b r)
-      ∙ ap (λ (t : Bool). orElse (pick (both t (both (eqb (a .kind) 4) (has (indicatorOf (a .body)) b))) (some (fieldOf b (a .body))) none) (heldIn b r))
-      (sym (kept-same b ∙ o)))
-      (λ o.
-      none-held b next (after-length (a .kind) (a .count) (a .body) r l (f .body)) (after-good (a .kind) (a .count) (a .body) r l (f .body) (f .count) g) o
-      ∙ sym (rw (none-carried b a o) (none-held b r l g o)))
-      (true-or-false (holds b))
+  -- of a packet that is not Context nothing is told, and nothing changes
+  held-same : (eqb (a .kind) 4 ≡ false) → (x : Thing) → heldIn x next ≡ heldIn x r
+  held-same k x =
+      told-same x (heldOf next) (heldOf r) (λ b. slotOf b next) (λ b. slotOf b r)
+      (λ b. ap (λ (n : ℕ). has n b) (after-held (a .kind) (a .count) (a .body) r l (f .body) ∙ rw k))
+      (λ b o. after-slot (a .kind) (a .count) (a .body) r l (f .body) b o ∙ rw k)
+
+  held-context : eqb (a .kind) 4 ≡ true → (x : Thing)
+      → heldIn x next ≡ told x (heldAfter (indicatorOf (a .body)) (heldOf r)) (λ b. slotAfterBody b (a .body) (slotOf b r))
+  held-context k x =
+      told-same x (heldOf next) _ (λ b. slotOf b next) (λ b. slotAfterBody b (a .body) (slotOf b r))
+      (λ b. ap (λ (n : ℕ). has n b) (after-held (a .kind) (a .count) (a .body) r l (f .body) ∙ rw k))
+      (λ b o. after-slot (a .kind) (a .count) (a .body) r l (f .body) b o ∙ rw k)
+
+  pub held-after : recordGood r ≡ true → (x : Thing) → heldIn x (recordAfter (a .kind) (a .count) (a .body) r) ≡ orElse (valueCarried x a) (heldIn x r)
+  held-after g x =
+      ⊎-elim (λ k. held-context k x ∙ told-after (a .body) r (good-of r l g) x ∙ rw k) (λ k. held-same k x ∙ rw k) (true-or-false (eqb (a .kind) 4))
 
   pub count-after : (kind : ℕ) → among kind countedTypes ≡ true
       → countWords (orderOf kind) (recordAfter (a .kind) (a .count) (a .body) r)
@@ -117,9 +223,11 @@ module _ (ids : List ℕ) (a : Arrival) (f : Heeded ids a) (r : List ℕ) (l : l
 
 -- ---- a fresh record
 
-pub fresh-held : (i b : ℕ) → heldIn b (freshRecord i) ≡ none
+pub fresh-held : (i : ℕ) (x : Thing) → heldIn x (freshRecord i) ≡ none
 unfolding freshRecord
-fresh-held i b = rw (has-above 0 b (pow-pos b))
+fresh-held i (wholeField b) = rw (has-above 0 b (pow-pos b), both-no (whole b))
+fresh-held i (indicator e) = rw (has-above 0 16 (pow-pos 16), both-no (persistent e))
+fresh-held i userBits = rw (has-above 0 16 (pow-pos 16))
 
 pub fresh-count : (i kind : ℕ) → among kind countedTypes ≡ true → countWords (orderOf kind) (freshRecord i) ≡ 0 ∷ 0 ∷ 0 ∷ []
 unfolding freshRecord countWords orderOf part

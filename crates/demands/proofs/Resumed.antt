@@ -43,7 +43,7 @@ module _ (ids : List ℕ) (packets : List (List ℕ)) (t rest : List ℕ) (r : R
     made = rw (table-back t (r .made), r .streams) at (table-well (pageOf t) (page-passes t (r .made)) rest);
     streams = ap (λ (l : List ℕ). streamsOf (l ++ rest)) (sym (layout-is r)) ∙ table-streams (length ids) (λ x. recordAt x t) rest;
     list = λ s h. sym (record-identifier s (layoutOf ids t ++ rest)) ∙ ap identifierOf (record-same s h) ∙ record-identifier s t ∙ r .list s h;
-    held = λ s h b. ap (heldIn b) (record-same s h) ∙ r .held s h b;
+    held = λ s h x. ap (heldIn x) (record-same s h) ∙ r .held s h x;
     counts = λ s h kind o. ap (countWords (orderOf kind)) (record-same s h) ∙ r .counts s h kind o;
   }
 

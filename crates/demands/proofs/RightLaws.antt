@@ -19,6 +19,7 @@ use Rattle.table.proofs.StartLaws.{fresh-record, start-well-made}
 use Rattle.play.specs.declared.Heard.{Heard}
 use Rattle.play.specs.Play.{playOf}
 use Rattle.play.proofs.KeepLaws.{play-keeps}
+use Rattle.demands.specs.Things.{Thing}
 use Rattle.demands.specs.Trace.{Arrival, Trace, heardBy, traceOf, own, valueCarried, orElse, lastCarried}
 use Rattle.demands.specs.Trace.{countsOf, countRule, answerTo, answersAfter}
 use Rattle.demands.specs.Program.{ours, playAll, saidAll}
@@ -48,7 +49,7 @@ right-start ids t d e =
       made = k .well;
       streams = k .streams;
       list = k .list;
-      held = λ s h b. ap (heldIn b) (fresh s h) ∙ fresh-held (getD ids s 0) b;
+      held = λ s h x. ap (heldIn x) (fresh s h) ∙ fresh-held (getD ids s 0) x;
       counts = λ s h kind o. ap (countWords (orderOf kind)) (fresh s h) ∙ fresh-count (getD ids s 0) kind o;
     }
 
@@ -60,7 +61,7 @@ trace-append ids (ws ∷ ps) qs = ap (λ (l : Trace). heardBy ids ws ∷ l) (tra
 
 -- the rules of a stream's own packets
 record Ruled (before : List Arrival) (r : List ℕ) : Type 0 where
-  held : (b : ℕ) → heldIn b r ≡ lastCarried b before
+  held : (x : Thing) → heldIn x r ≡ lastCarried x before
   counts : (kind : ℕ) → among kind countedTypes ≡ true → countWords (orderOf kind) r ≡ countRule (countsOf kind before)
 
 counted-more : (t : Bool) (c : ℕ) (counts : List ℕ) → pick t (countedOf c (countRule counts)) (countRule counts) ≡ countRule (counts ++ pick t (c ∷ []) [])
@@ -89,7 +90,7 @@ module _ (ids : List ℕ) (before : List (List ℕ)) (t : List ℕ) (r : Right i
       let old = own s (traceOf ids before) in
       let g = well-record t (r .made) s (rw (r .streams) h) in
       record {
-        held = λ b. held-after ids a f (recordAt s t) l g b ∙ ap (orElse (valueCarried b a)) (r .held s h b) ∙ sym (last-more b old a);
+        held = λ x. held-after ids a f (recordAt s t) l g x ∙ ap (orElse (valueCarried x a)) (r .held s h x) ∙ sym (last-more x old a);
         counts = λ kind o.
             count-after ids a f (recordAt s t) l kind o
             ∙ ap (λ (ws : List ℕ). pick (eqb (a .kind) kind) (countedOf (a .count) ws) ws) (r .counts s h kind o)
@@ -119,8 +120,8 @@ module _ (ids : List ℕ) (before : List (List ℕ)) (t : List ℕ) (r : Right i
         streams = l .streams;
         list = l .list;
         held =
-            λ s h b. ap (λ (u : List ℕ). heldIn b (recordAt s u)) same ∙ ruled-heard (heardBy ids ws) (heard-fine ids ws) s h .held b
-            ∙ ap (lastCarried b) (sym (grown s));
+            λ s h x. ap (λ (u : List ℕ). heldIn x (recordAt s u)) same ∙ ruled-heard (heardBy ids ws) (heard-fine ids ws) s h .held x
+            ∙ ap (lastCarried x) (sym (grown s));
         counts = λ s h kind o.
             ap (λ (u : List ℕ). countWords (orderOf kind) (recordAt s u)) same ∙ ruled-heard (heardBy ids ws) (heard-fine ids ws) s h .counts kind o
             ∙ ap (λ (l : List Arrival). countRule (countsOf kind l)) (sym (grown s));

@@ -7,8 +7,8 @@ use lib.ListN.{length-append}
 use Rattle.words.specs.Tests.{pick}
 use Rattle.words.specs.Outcome.{refused, accepted}
 use Rattle.record.specs.Counts.{missedOf, addedOf, countedOf}
-use Rattle.fields.specs.Layout.{fieldOf}
-use Rattle.demands.specs.Trace.{Arrival, Trace, own, carries, valueCarried, orElse, lastCarried, NoneCarried, LastCarried, countsOf, lastCount}
+use Rattle.demands.specs.Things.{Thing}
+use Rattle.demands.specs.Trace.{Arrival, Trace, own, valueCarried, orElse, lastCarried, NoneCarried, LastCarried, countsOf, lastCount}
 use Rattle.demands.specs.Trace.{missedAfter, missed, lastPlusOne, countRule, addedAfter}
 use Rattle.demands.specs.Right.{LastMeant}
 
@@ -24,7 +24,7 @@ own-append s (refused n ∷ xs) ys = own-append s xs ys
 own-append s (accepted a ∷ xs) ys =
     ap (λ (l : List Arrival). pick (eqb (a .stream) s) (a ∷ l) l) (own-append s xs ys) ∙ sym (pick-append (eqb (a .stream) s) a (own s xs) (own s ys))
 
--- ---- the last that carried a field
+-- ---- the last that carried a thing
 
 or-none : {A : Type 0} (x : Option A) → orElse x none ≡ x
 or-none none = refl
@@ -34,65 +34,55 @@ or-assoc : {A : Type 0} (x y z : Option A) → orElse (orElse x y) z ≡ orElse 
 or-assoc none y z = refl
 or-assoc (some a) y z = refl
 
-pub last-more : (b : ℕ) (before : List Arrival) (a : Arrival) → lastCarried b (before ++ (a ∷ [])) ≡ orElse (valueCarried b a) (lastCarried b before)
-last-more b [] a = simp or-none
-last-more b (x ∷ before) a =
-    ap (λ (o : Option (List ℕ)). orElse o (valueCarried b x)) (last-more b before a) ∙ or-assoc (valueCarried b a) (lastCarried b before) (valueCarried b x)
+module _ (x : Thing) where
+  pub last-more : (before : List Arrival) (a : Arrival) → lastCarried x (before ++ (a ∷ [])) ≡ orElse (valueCarried x a) (lastCarried x before)
+  last-more [] a = simp or-none
+  last-more (b ∷ before) a =
+      ap (λ (o : Option (List ℕ)). orElse o (valueCarried x b)) (last-more before a) ∙ or-assoc (valueCarried x a) (lastCarried x before) (valueCarried x b)
 
--- ---- the last that carried a field, by a cut of the packets
+  -- by a cut of the packets
 
-or-both : {A : Type 0} (x y : Option A) → orElse x y ≡ none → (x ≡ none) × (y ≡ none)
-or-both none y e = (refl, e)
-or-both (some a) y e = absurd (Option·none-ne-some a (sym e))
+  or-both : {A : Type 0} (y z : Option A) → orElse y z ≡ none → (y ≡ none) × (z ≡ none)
+  or-both none z e = (refl, e)
+  or-both (some a) z e = absurd (Option·none-ne-some a (sym e))
 
-carried-not : (b : ℕ) (a : Arrival) (t : Bool) → pick t (some (fieldOf b (a .body))) none ≡ none → t ≡ false
-carried-not b a true e = absurd (Option·none-ne-some (fieldOf b (a .body)) (sym e))
-carried-not b a false e = refl
+  silent : (packets : List Arrival) → lastCarried x packets ≡ none → NoneCarried x packets
+  silent [] e = tt
+  silent (a ∷ later) e = let k = or-both (lastCarried x later) (valueCarried x a) e in (k .1, silent later (k .0))
 
-carried-does : (b : ℕ) (a : Arrival) (v : List ℕ) (t : Bool) → pick t (some (fieldOf b (a .body))) none ≡ some v → (t ≡ true) × (fieldOf b (a .body) ≡ v)
-carried-does b a v true e = (refl, Option·some-injective (fieldOf b (a .body)) v e)
-carried-does b a v false e = absurd (Option·none-ne-some v e)
+  from-silent : (packets : List Arrival) → NoneCarried x packets → lastCarried x packets ≡ none
+  from-silent [] h = refl
+  from-silent (a ∷ later) h = rw (from-silent later (h .1)) (h .0)
 
-silent : (b : ℕ) (packets : List Arrival) → lastCarried b packets ≡ none → NoneCarried b packets
-silent b [] e = tt
-silent b (a ∷ later) e = let k = or-both (lastCarried b later) (valueCarried b a) e in (carried-not b a (carries b a) (k .1), silent b later (k .0))
+  further : (a : Arrival) (packets : List Arrival) (v : List ℕ) → LastCarried x packets v → LastCarried x (a ∷ packets) v
+  further a packets v l =
+      record {
+        before = a ∷ l .before;
+        last = l .last;
+        later = l .later;
+        cut = ap (λ (ps : List Arrival). a ∷ ps) (l .cut);
+        value = l .value;
+        silent = l .silent;
+      }
 
-from-silent : (b : ℕ) (packets : List Arrival) → NoneCarried b packets → lastCarried b packets ≡ none
-from-silent b [] h = refl
-from-silent b (a ∷ later) h = rw (from-silent b later (h .1), h .0)
+  found : (a : Arrival) (later : List Arrival) (v : List ℕ) (o : Option (List ℕ)) → lastCarried x later ≡ o
+      → ((w : List ℕ) → lastCarried x later ≡ some w → LastCarried x later w) → orElse o (valueCarried x a) ≡ some v → LastCarried x (a ∷ later) v
+  found a later v none e ih f = record { before = []; last = a; later = later; cut = refl; value = f; silent = silent later e }
+  found a later v (some w) e ih f = further a later v (ih v (e ∙ f))
 
-further : (b : ℕ) (a : Arrival) (packets : List Arrival) (v : List ℕ) → LastCarried b packets v → LastCarried b (a ∷ packets) v
-further b a packets v x =
-    record {
-      before = a ∷ x .before;
-      last = x .last;
-      later = x .later;
-      cut = ap (λ (l : List Arrival). a ∷ l) (x .cut);
-      does = x .does;
-      value = x .value;
-      silent = x .silent;
-    }
+  last-found : (packets : List Arrival) (v : List ℕ) → lastCarried x packets ≡ some v → LastCarried x packets v
+  last-found [] v e = absurd (Option·none-ne-some v e)
+  last-found (a ∷ later) v e = found a later v (lastCarried x later) refl (last-found later) e
 
-found : (b : ℕ) (a : Arrival) (later : List Arrival) (v : List ℕ) (o : Option (List ℕ)) → lastCarried b later ≡ o
-    → ((w : List ℕ) → lastCarried b later ≡ some w → LastCarried b later w) → orElse o (valueCarried b a) ≡ some v → LastCarried b (a ∷ later) v
-found b a later v none e ih f =
-    let k = carried-does b a v (carries b a) f in
-    record { before = []; last = a; later = later; cut = refl; does = k .0; value = k .1; silent = silent b later e }
-found b a later v (some w) e ih f = further b a later v (ih v (e ∙ f))
-
-last-found : (b : ℕ) (packets : List Arrival) (v : List ℕ) → lastCarried b packets ≡ some v → LastCarried b packets v
-last-found b [] v e = absurd (Option·none-ne-some v e)
-last-found b (a ∷ later) v e = found b a later v (lastCarried b later) refl (last-found b later) e
-
-found-last : (b : ℕ) (before later : List Arrival) (a : Arrival) → carries b a ≡ true → NoneCarried b later
-    → lastCarried b (before ++ (a ∷ later)) ≡ some (fieldOf b (a .body))
-found-last b [] later a d n = rw (from-silent b later n, d)
-found-last b (x ∷ before) later a d n = rw (found-last b before later a d n)
+  found-last : (before later : List Arrival) (a : Arrival) (v : List ℕ) → valueCarried x a ≡ some v → NoneCarried x later
+      → lastCarried x (before ++ (a ∷ later)) ≡ some v
+  found-last [] later a v d n = rw (from-silent later n) d
+  found-last (b ∷ before) later a v d n = rw (found-last before later a v d n)
 
 pub last-meant : LastMeant
-last-meant b packets = (
-  λ v. (last-found b packets v, λ x. ap (lastCarried b) (x .cut) ∙ found-last b (x .before) (x .later) (x .last) (x .does) (x .silent) ∙ ap some (x .value)),
-  (silent b packets, from-silent b packets),
+last-meant x packets = (
+  λ v. (last-found x packets v, λ l. ap (lastCarried x) (l .cut) ∙ found-last x (l .before) (l .later) (l .last) v (l .value) (l .silent)),
+  (silent x packets, from-silent x packets),
 )
 
 -- ---- counts

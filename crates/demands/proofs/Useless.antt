@@ -21,6 +21,7 @@ use Rattle.record.specs.Counts.{missedOf}
 use Rattle.table.specs.Layout.{recordAt}
 use Rattle.table.specs.Identifiers.{listed, apart, listGood}
 use Rattle.play.specs.declared.Heard.{Heard}
+use Rattle.demands.specs.Things.{Thing, wholeField}
 use Rattle.demands.specs.Trace.{Arrival, placeIn, arrivalOf, heardBy, traceOf, own, lastCarried, countsOf, countRule, addedAfter, answerTo}
 use Rattle.demands.specs.Program.{Program, playAll}
 use Rattle.demands.specs.Right.{heldIn, Right}
@@ -128,8 +129,8 @@ module _ (P : Program) (d : Demand3 P) where
       → countWords (orderOf 1) (recordAt 0 (playAll P (begun .0 .leaves) packets)) ≡ countRule (countsOf 1 (own 0 (traceOf ids packets)))
   seen-after packets = after packets .counts 0 (omega arith) 1 refl
 
-  held-after : (packets : List (List ℕ)) → heldIn 30 (recordAt 0 (playAll P (begun .0 .leaves) packets)) ≡ lastCarried 30 (own 0 (traceOf ids packets))
-  held-after packets = after packets .held 0 (omega arith) 30
+  held-after : (packets : List (List ℕ)) → heldIn (wholeField 30) (recordAt 0 (playAll P (begun .0 .leaves) packets)) ≡ lastCarried (wholeField 30) (own 0 (traceOf ids packets))
+  held-after packets = after packets .held 0 (omega arith) (wholeField 30)
 
   -- an idle play: shut out by the counts
   pub no-idle-play : ((t ws : List ℕ) → leftOf (P .play t ws) t ≡ t) → ⊥
@@ -140,14 +141,14 @@ module _ (P : Program) (d : Demand3 P) where
       omega (arith, none-seen, sym (ap (λ (t : List ℕ). seenOf (countWords (orderOf 1) (recordAt 0 t))) (idle fresh data3)) ∙ one)
 
   -- one that plays the first packet and feigns the rest, so that no later packet changes what is held: shut out by the last-carried rule
-  pub no-feigned-rest : ((list t : List ℕ) (e : Done ℕ (List ℕ)) → P .start list t ≡ accepted e → (ws : List ℕ) (rest : List (List ℕ)) (s b : ℕ)
-      → heldIn b (recordAt s (playAll P (e .leaves) (ws ∷ rest))) ≡ heldIn b (recordAt s (playAll P (e .leaves) (ws ∷ [])))) → ⊥
+  pub no-feigned-rest : ((list t : List ℕ) (e : Done ℕ (List ℕ)) → P .start list t ≡ accepted e → (ws : List ℕ) (rest : List (List ℕ)) (s : ℕ) (x : Thing)
+      → heldIn x (recordAt s (playAll P (e .leaves) (ws ∷ rest))) ≡ heldIn x (recordAt s (playAll P (e .leaves) (ws ∷ [])))) → ⊥
   no-feigned-rest feigned =
-      let one : valueIn (heldIn 30 (recordAt 0 (playAll P fresh (first ∷ [])))) ≡ 1 =
+      let one : valueIn (heldIn (wholeField 30) (recordAt 0 (playAll P fresh (first ∷ [])))) ≡ 1 =
       ap valueIn (held-after (first ∷ [])) ∙ rw (computed .heard-first, computed .field-first) in
-      let two : valueIn (heldIn 30 (recordAt 0 (playAll P fresh (first ∷ second ∷ [])))) ≡ 2 =
+      let two : valueIn (heldIn (wholeField 30) (recordAt 0 (playAll P fresh (first ∷ second ∷ [])))) ≡ 2 =
       ap valueIn (held-after (first ∷ second ∷ [])) ∙ rw (computed .heard-first, computed .heard-second, computed .field-second) in
-      let same = ap valueIn (feigned ids buffer (begun .0) (begun .1) first (second ∷ []) 0 30) in
+      let same = ap valueIn (feigned ids buffer (begun .0) (begun .1) first (second ∷ []) 0 (wholeField 30)) in
       omega (arith, one, two, same)
 
   -- an invented missing number, made of the table, the packet's words, its stream and its type in any way that is not the rule's for some packet on some table

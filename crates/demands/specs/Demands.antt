@@ -26,7 +26,7 @@ use Rattle.demands.specs.ForC.{ForC}
 use Rattle.demands.specs.Clean.{Clean}
 use Rattle.demands.specs.Packings.{PackedAs}
 use Rattle.demands.specs.ShownAs.{ShownAs}
-use Rattle.demands.specs.Trace.{traceOf, own, lastCarried, answersAfter}
+use Rattle.demands.specs.Trace.{traceOf, own, fieldCarried, answersAfter}
 use Rattle.demands.specs.Program.{Program, Accepts, AreWords, playAll, saidAll}
 use Rattle.demands.specs.FieldFound.{FieldFound}
 use Rattle.demands.specs.Right.{Right, pastOf}
@@ -120,11 +120,11 @@ pub record Demand3 (P : Program) : Type 0 where
       → pastOf ids (playAll P (d .leaves) packets) ≡ pastOf ids t
   -- what the panel and the caller see of a stream is that value, and these counts
   pub shows : (ids : List ℕ) (packets : List (List ℕ)) (t : List ℕ) → Right ids packets t → (s : ℕ) → s < length ids → PanelShows P ids packets t s
-  -- which fields two tables do not hold alike, such as those before a packet and after it: those whose last carried values are not the same
+  -- which fields two tables do not hold alike, such as those before a packet and after it: those whose values, by what was last carried, are not the same
   pub changes : (ids : List ℕ) (packets : List (List ℕ)) (t : List ℕ) → Right ids packets t → (s : ℕ) → s < length ids
       → (others : List ℕ) (heard : List (List ℕ)) (u : List ℕ) → Right others heard u → (v : ℕ) → v < length others
       → (w : ℕ) × (P .changed t s u v ≡ accepted w)
-      × ((b : ℕ) → has w b ≡ changedBy b (lastCarried b (own s (traceOf ids packets))) (lastCarried b (own v (traceOf others heard))))
+      × ((b : ℕ) → has w b ≡ changedBy b (fieldCarried b (own s (traceOf ids packets))) (fieldCarried b (own v (traceOf others heard))))
   -- a stream's own table is right for its identifier alone and the same packets
   pub own : (ids : List ℕ) (packets : List (List ℕ)) (t : List ℕ) → Right ids packets t → (s : ℕ) → s < length ids → (out : List ℕ) → layoutWords 1 ≤ length out
       → OwnRight P ids packets t s out

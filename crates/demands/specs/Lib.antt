@@ -1,9 +1,11 @@
--- The demands. Read Demands first; it speaks in the words of Trace and Right.
+-- The demands. Read Demands first; it speaks in the words of Things, Trace and Right.
 
 -- the three demands, as statements about a program
 pub mod Demands
 -- a program: what its calls answer and leave
 pub mod Program
+-- what is kept of Context packets, thing by thing
+pub mod Things
 -- which packets of a trace are accepted, and the rules over them
 pub mod Trace
 -- tables that the rules fix

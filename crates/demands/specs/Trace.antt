@@ -16,6 +16,7 @@ use Rattle.packet.specs.Read.{readOf}
 use Rattle.record.specs.Counts.{missedOf}
 use Rattle.table.specs.Identifiers.{listed}
 use Rattle.play.specs.declared.Heard.{Heard}
+use Rattle.demands.specs.Things.{Thing, kept, told, fieldBy}
 
 -- ---- the packets of a trace
 
@@ -70,43 +71,42 @@ own s [] = []
 own s (refused n ∷ trace) = own s trace
 own s (accepted a ∷ trace) = pick (eqb (a .stream) s) (a ∷ own s trace) (own s trace)
 
--- ---- held: "the value in the last accepted Context packet of that stream that carried the field, and nothing if none did"
-
--- the fields that are kept: "each field from bits 30 to 10"
-abbrev pub kept : ℕ → Bool
-kept b = both (leb 10 b) (leb b 30)
+-- ---- held: "the value in the last accepted Context packet of that stream that carried" a thing, "and nothing if none did"
 
 -- a packet carries the kept field of bit b: it is a Context packet, of type 4, and its indicator has the bit
 abbrev pub carries : ℕ → Arrival → Bool
 carries b a = both (kept b) (both (eqb (a .kind) 4) (has (indicatorOf (a .body)) b))
 
--- the value of the field of bit b in a packet
-abbrev pub valueCarried : ℕ → Arrival → Option (List ℕ)
-valueCarried b a = pick (carries b a) (some (fieldOf b (a .body))) none
+-- the value of a thing that a packet carries: what the fields of a Context packet tell of it
+abbrev pub valueCarried : Thing → Arrival → Option (List ℕ)
+valueCarried x a = pick (eqb (a .kind) 4) (told x (indicatorOf (a .body)) (λ b. fieldOf b (a .body))) none
 
 -- the first that is there
 abbrev pub orElse : {A : Type 0} → Option A → Option A → Option A
 orElse none y = y
 orElse (some x) y = some x
 
--- the value in the last of these packets that carried the field: what a later one carried goes before what an earlier one did
-abbrev pub lastCarried : ℕ → List Arrival → Option (List ℕ)
-lastCarried b [] = none
-lastCarried b (a ∷ later) = orElse (lastCarried b later) (valueCarried b a)
+-- the value in the last of these packets that carried the thing: what a later one carried goes before what an earlier one did
+abbrev pub lastCarried : Thing → List Arrival → Option (List ℕ)
+lastCarried x [] = none
+lastCarried x (a ∷ later) = orElse (lastCarried x later) (valueCarried x a)
 
--- the same, by a cut of the packets: v is the value in `last`, which carried the field, and none of the later ones did (`last-meant`, in proofs/RuleLaws.antt)
-abbrev pub NoneCarried : ℕ → List Arrival → Type 0
-NoneCarried b [] = Unit
-NoneCarried b (a ∷ later) = (carries b a ≡ false) × NoneCarried b later
+-- the same, by a cut of the packets: v is the value in `last`, which carried the thing, and none of the later ones did (`last-meant`, in proofs/RuleLaws.antt)
+abbrev pub NoneCarried : Thing → List Arrival → Type 0
+NoneCarried x [] = Unit
+NoneCarried x (a ∷ later) = (valueCarried x a ≡ none) × NoneCarried x later
 
-pub record LastCarried (b : ℕ) (packets : List Arrival) (v : List ℕ) : Type 0 where
+pub record LastCarried (x : Thing) (packets : List Arrival) (v : List ℕ) : Type 0 where
   pub before : List Arrival
   pub last : Arrival
   pub later : List Arrival
   pub cut : packets ≡ before ++ (last ∷ later)
-  pub does : carries b last ≡ true
-  pub value : fieldOf b (last .body) ≡ v
-  pub silent : NoneCarried b later
+  pub value : valueCarried x last ≡ some v
+  pub silent : NoneCarried x later
+
+-- the words of the field of bit b by what these packets carried of its things
+abbrev pub fieldCarried : ℕ → List Arrival → Option (List ℕ)
+fieldCarried b packets = fieldBy b (λ x. lastCarried x packets)
 
 -- ---- counts: "Types 1, 3, 4 and 5 are counted apart within a stream. Each has seen and missing, both kept modulo 2^32, and the last count."
 

@@ -1,6 +1,6 @@
--- "Bad .. tables, pages .. are refused": which are bad. Document 01, 'The table and its page', clause by clause; the tests that TABLE and PAGE go by hold
+-- "Bad .. tables, pages .. are refused": which are bad. Document 01, 'The table and its page', clause by clause, with what C-11 of document 02 adds; the tests that TABLE and PAGE go by hold
 -- exactly where the clauses do.
-use Rattle.words.specs.Kit.{_≡_, ℕ, _+_, _^_, _≤_, _<_, true, false, List, length}
+use Rattle.words.specs.Kit.{_≡_, ℕ, _+_, _-_, _^_, _≤_, _<_, true, false, List, length, getD}
 use mathlib.Core.Logic.{_↔_}
 use lib.ListN.{replicate}
 use Rattle.words.specs.Numbers.{PAGE}
@@ -15,18 +15,28 @@ use Rattle.table.specs.Identifiers.{declared}
 use Rattle.table.specs.Well.{wellMade}
 use Rattle.page.specs.Good.{pageGood}
 use Rattle.page.specs.PutBack.{putBackOf}
-use Rattle.demands.specs.Trace.{kept}
+use Rattle.demands.specs.Things.{fieldBit, persistent}
 use Rattle.demands.specs.Program.{ours}
 use Rattle.demands.specs.Resumed.{SavesAs}
 
+-- the state word that a record holds
+abbrev pub stateIn : List ℕ → ℕ
+stateIn r = getD (slotOf 16 r) 0 0
+
 -- of the record of a stream. A count's third word is "last plus one or 0 if not started"
 pub record RecordClauses (r : List ℕ) : Type 0 where
-  -- "unheld fields .. zero"
-  pub unheld : (b : ℕ) → kept b ≡ true → has (heldOf r) b ≡ false → slotOf b r ≡ replicate (fieldSize b) 0
+  -- "unheld fields .. zero", field 22 among them
+  pub unheld : (b : ℕ) → fieldBit b ≡ true → has (heldOf r) b ≡ false → slotOf b r ≡ replicate (fieldSize b) 0
   -- "and words of no stated meaning zero": every word of the layout has a meaning, but of the held indicator bits 31 and 9 to 0 have none
   pub meaningless : (heldOf r < 2 ^ 31) × (bits 9 0 (heldOf r) ≡ 0)
   -- "held fields obey their rules"
-  pub obeys : (b : ℕ) → kept b ≡ true → has (heldOf r) b ≡ true → ruleOf b (slotOf b r) ≡ true
+  pub obeys : (b : ℕ) → fieldBit b ≡ true → has (heldOf r) b ≡ true → ruleOf b (slotOf b r) ≡ true
+  -- document 02, C-11: "a page that holds field 22, those bits or a value without its enable is PAGE, a table likewise TABLE", those bits being over-range and
+  -- sample loss (25/13, 24/12)
+  pub never : has (heldOf r) 22 ≡ false
+  pub unlit : has (heldOf r) 16 ≡ true → (e : ℕ) → 24 ≤ e → e ≤ 25 → (has (stateIn r) e ≡ false) × (has (stateIn r) (e - 12) ≡ false)
+  pub enabled : has (heldOf r) 16 ≡ true → (e : ℕ) → persistent e ≡ true → has (stateIn r) (e - 12) ≡ true → has (stateIn r) e ≡ true
+  pub word : has (heldOf r) 16 ≡ true → stateIn r < 2 ^ 32
   -- "a count not started has zeros"
   pub unstarted : (kind : ℕ) → among kind countedTypes ≡ true → let count = countWords (orderOf kind) r in
       lastOf count ≡ 0 → (seenOf count ≡ 0) × (missingOf count ≡ 0)

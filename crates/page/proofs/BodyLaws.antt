@@ -17,11 +17,11 @@ use Rattle.words.proofs.Cases.{both-left, true-or-false}
 use Rattle.words.proofs.PartLaws.{getD-part, part-length, part-front, part-past, part-whole, part-is}
 use Rattle.fields.specs.Sizes.{fieldSize, sizesOf}
 use Rattle.fields.proofs.SizeLaws.{sizes-none, sizes-more}
-use Rattle.record.specs.Held.{heldMask, holds, heldBits, slotAt}
+use Rattle.record.specs.Held.{slotMask, slotted, slotBits, slotAt}
 use Rattle.record.specs.Layout.{headWords, slotWords, recordWords, heldOf, countWords, lastOf, slotIn, slotsOf, slotOf}
-use Rattle.record.specs.After.{slotAfter, refilled, heldWords}
+use Rattle.record.specs.After.{slotFilled, refilled, heldWords}
 use Rattle.record.specs.Good.{recordGood, heldGood}
-use Rattle.record.proofs.SlotLaws.{placed, placed-inside, in-order-length, in-order-at, slots-whole, held-high}
+use Rattle.record.proofs.SlotLaws.{placed, placed-inside, in-order-length, in-order-at, slots-whole, slotted-high}
 use Rattle.record.proofs.HoldLaws.{slot-inside}
 use Rattle.record.proofs.GoodLaws.{zero-at, good-of}
 use Rattle.record.proofs.SqueezeLaws.{refilled-drop, held-length, refilled-held, held-refilled}
@@ -48,18 +48,18 @@ unfolding recordOf
 record-word b i h g = front-word i b _ h g
 
 -- first words that are good hold no bit but those of held fields; and so a good record
-pub head-within : (r : List ℕ) (rest : Bool) → both (heldGood (heldOf r) (lastOf (countWords 2 r))) rest ≡ true → bitAnd (heldOf r) heldMask ≡ heldOf r
+pub head-within : (r : List ℕ) (rest : Bool) → both (heldGood (heldOf r) (lastOf (countWords 2 r))) rest ≡ true → bitAnd (heldOf r) slotMask ≡ heldOf r
 unfolding heldGood
 head-within r rest e =
-    eqb-true _ _ (both-left (eqb (bitAnd (heldOf r) heldMask) (heldOf r)) _ (both-left (heldGood (heldOf r) (lastOf (countWords 2 r))) rest e))
+    eqb-true _ _ (both-left (eqb (bitAnd (heldOf r) slotMask) (heldOf r)) _ (both-left (heldGood (heldOf r) (lastOf (countWords 2 r))) rest e))
 
-pub good-within : (r : List ℕ) → recordGood r ≡ true → bitAnd (heldOf r) heldMask ≡ heldOf r
+pub good-within : (r : List ℕ) → recordGood r ≡ true → bitAnd (heldOf r) slotMask ≡ heldOf r
 unfolding recordGood
 good-within r e = head-within r _ e
 
 -- ---- zeroed slots
 
-zero-slot : (b : ℕ) → holds b ≡ true → slotIn b (replicate slotWords 0) ≡ replicate (fieldSize b) 0
+zero-slot : (b : ℕ) → slotted b ≡ true → slotIn b (replicate slotWords 0) ≡ replicate (fieldSize b) 0
 unfolding slotIn
 zero-slot b o =
     let l : length (replicate {A = ℕ} slotWords 0) ≡ slotWords = length-replicate {A = ℕ} slotWords 0 in
@@ -157,16 +157,16 @@ module _ (held rest n : ℕ) (p : Adding held rest n) (z : rest ≡ 0) where
 -- ---- slots that words are put into
 
 module _ (held : ℕ) (ws blank : List ℕ) (l : length ws ≡ sizesOf (bitsOf 31 held)) (m : length blank ≡ slotWords) where
-  refilled-sized : (b : ℕ) → b < 31 → holds b ≡ true → length (slotAfter (has held b) (part (0 + placed 31 held b) (fieldSize b) ws) (slotIn b blank))
+  refilled-sized : (b : ℕ) → b < 31 → slotted b ≡ true → length (slotFilled (has held b) (part (0 + placed 31 held b) (fieldSize b) ws) (slotIn b blank))
       ≡ fieldSize b
-  unfolding slotAfter slotIn
+  unfolding slotFilled slotIn
   refilled-sized b g o =
       ⊎-elim (λ (y : has held b ≡ true). rw y (part-length (0 + placed 31 held b) (fieldSize b) ws (omega (arith, placed-inside 31 held b g y))))
       (λ (n : has held b ≡ false). rw n (part-length (slotAt b) (fieldSize b) blank (omega (arith, slot-inside b o)))) (true-or-false (has held b))
 
   refilled-length : length (refilled held 0 ws blank) ≡ slotWords
-  unfolding refilled heldBits holds
-  refilled-length = in-order-length 31 heldMask _ refilled-sized ∙ slots-whole
+  unfolding refilled slotBits slotted
+  refilled-length = in-order-length 31 slotMask _ refilled-sized ∙ slots-whole
 
 -- ---- a body's record, and its body again
 
@@ -204,16 +204,16 @@ module _ (b : List ℕ) (l : length b ≡ pageBodyWords (heldOf b)) where
       ∙ refilled-drop (heldOf b) headWords b (replicate slotWords 0)
 
   -- a slot has the words of its field where the body holds it, and is else zero
-  pub record-slot : (x : ℕ) → holds x ≡ true
-      → slotOf x (recordOf b) ≡ slotAfter (has (heldOf b) x) (part (placed 31 (heldOf b) x) (fieldSize x) (drop headWords b)) (replicate (fieldSize x) 0)
-  unfolding slotOf slotIn slotAt refilled heldBits holds
+  pub record-slot : (x : ℕ) → slotted x ≡ true
+      → slotOf x (recordOf b) ≡ slotFilled (has (heldOf b) x) (part (placed 31 (heldOf b) x) (fieldSize x) (drop headWords b)) (replicate (fieldSize x) 0)
+  unfolding slotOf slotIn slotAt refilled slotBits slotted
   record-slot x o =
       let ws : List ℕ = drop headWords b in
       ap (slotIn x) record-slots
-      ∙ in-order-at 31 heldMask x _ (refilled-sized (heldOf b) ws (replicate slotWords 0) rest-length zeros-length) (held-high x o) o
-      ∙ ap₂ (λ (n : ℕ) (z : List ℕ). slotAfter (has (heldOf b) x) (part n (fieldSize x) ws) z) (zero-add (placed 31 (heldOf b) x)) (zero-slot x o)
+      ∙ in-order-at 31 slotMask x _ (refilled-sized (heldOf b) ws (replicate slotWords 0) rest-length zeros-length) (slotted-high x o) o
+      ∙ ap₂ (λ (n : ℕ) (z : List ℕ). slotFilled (has (heldOf b) x) (part n (fieldSize x) ws) z) (zero-add (placed 31 (heldOf b) x)) (zero-slot x o)
 
-  pub body-record : bitAnd (heldOf b) heldMask ≡ heldOf b → pageBody (recordOf b) ≡ b
+  pub body-record : bitAnd (heldOf b) slotMask ≡ heldOf b → pageBody (recordOf b) ≡ b
   unfolding recordOf pageBody
   body-record w =
       let rest : List ℕ = refilled (heldOf b) headWords b (replicate slotWords 0) in

@@ -23,12 +23,12 @@ use Rattle.fields.proofs.PlaceLaws.{rest-whole}
 use Rattle.fields.proofs.SizeLaws.{sizes-more, words-fixed}
 use Rattle.fields.proofs.RuleLaws.{rule-own}
 use Rattle.fields.proofs.WalkLaws.{rules-cons}
-use Rattle.record.specs.Held.{heldMask, holds}
+use Rattle.record.specs.Held.{slotMask, slotted}
 use Rattle.record.specs.Layout.{headWords, heldOf, countAt, countWords, lastOf}
-use Rattle.record.specs.After.{slotAfter}
+use Rattle.record.specs.After.{slotFilled}
 use Rattle.record.specs.Good.{countGoodAt, heldGood, slotGood, recordGood}
-use Rattle.record.proofs.SlotLaws.{placed, placed-split, held-small, held-low, held-high}
-use Rattle.record.proofs.HoldLaws.{within-holds}
+use Rattle.record.proofs.SlotLaws.{placed, placed-split, slots-small, slotted-low, slotted-high}
+use Rattle.record.proofs.HoldLaws.{within-slotted}
 use Rattle.record.proofs.GoodLaws.{counts-at, last-at, zeros-good, good-head-ill, good-slots}
 use Rattle.table.specs.Identifiers.{spaced, listGood}
 use Rattle.table.proofs.ListLaws.{list-same}
@@ -134,20 +134,20 @@ both-swap false t = sym (both-no t)
 
 module _ (b : List ℕ) (l : length b ≡ pageBodyWords (heldOf b)) where
   -- the slot of a field that is held, and of one that is not
-  slot-held : (x : ℕ) → holds x ≡ true → has (heldOf b) x ≡ true → slotGood (recordOf b) x ≡ ruleOf x (drop (placed 31 (heldOf b) x) (drop headWords b))
-  unfolding slotGood slotAfter
+  slot-held : (x : ℕ) → slotted x ≡ true → has (heldOf b) x ≡ true → slotGood (recordOf b) x ≡ ruleOf x (drop (placed 31 (heldOf b) x) (drop headWords b))
+  unfolding slotGood slotFilled
   slot-held x o y =
       let h : heldOf (recordOf b) ≡ heldOf b = record-word b 1 (omega arith) (body-some b l) in
-      rw (o, h, y, record-slot b l x o, y, part-is (placed 31 (heldOf b) x) (fieldSize x) (drop headWords b)) (rule-own x _ (held-low x o) (held-high x o))
+      rw (o, h, y, record-slot b l x o, y, part-is (placed 31 (heldOf b) x) (fieldSize x) (drop headWords b)) (rule-own x _ (slotted-low x o) (slotted-high x o))
 
   slot-blank : (x : ℕ) → has (heldOf b) x ≡ false → slotGood (recordOf b) x ≡ true
-  unfolding slotGood slotAfter
+  unfolding slotGood slotFilled
   slot-blank x n =
       let h : heldOf (recordOf b) ≡ heldOf b = record-word b 1 (omega arith) (body-some b l) in
-      pick-true (holds x) _ (λ o. rw (h, n, record-slot b l x o, n) (zeros-good (fieldSize x)))
+      pick-true (slotted x) _ (λ o. rw (h, n, record-slot b l x o, n) (zeros-good (fieldSize x)))
 
   -- the fields of the bits below k, which stand from a on among the held words
-  rules-below : (k a : ℕ) → bitAnd (heldOf b) heldMask ≡ heldOf b → k ≤ 31 → a + sizesOf (bitsOf k (heldOf b)) ≡ sizesOf (bitsOf 31 (heldOf b))
+  rules-below : (k a : ℕ) → bitAnd (heldOf b) slotMask ≡ heldOf b → k ≤ 31 → a + sizesOf (bitsOf k (heldOf b)) ≡ sizesOf (bitsOf 31 (heldOf b))
       → obeyed (bitsOf k (heldOf b)) (drop a (drop headWords b)) ≡ all k (slotGood (recordOf b))
   unfolding all obeyed
   rules-below zero a w h e = rw (bits-zero (heldOf b))
@@ -156,11 +156,11 @@ module _ (b : List ℕ) (l : length b ≡ pageBodyWords (heldOf b)) where
       let ws : List ℕ = drop headWords b in
       ⊎-elim
       (λ (y : has held k ≡ true).
-      let o : holds k ≡ true = within-holds held w k y in
+      let o : slotted k ≡ true = within-slotted held w k y in
       let f : sizesOf (bitsOf (suc k) held) ≡ fieldSize k + sizesOf (bitsOf k held) = ap sizesOf (bits-yes k held y) ∙ sizes-more k (bitsOf k held) in
       let i : a ≡ placed 31 held k = omega (arith, e, f, placed-split 31 held k (omega arith) y) in
       ap (λ (bs : List ℕ). obeyed bs (drop a ws)) (bits-yes k held y)
-      ∙ rules-cons k (fieldSize k) a (bitsOf k held) ws (sym (words-fixed k (drop a ws) (held-low k o)))
+      ∙ rules-cons k (fieldSize k) a (bitsOf k held) ws (sym (words-fixed k (drop a ws) (slotted-low k o)))
       ∙ ap₂ both (ap (λ (n : ℕ). ruleOf k (drop n ws)) i ∙ sym (slot-held k o y)) (rules-below k (a + fieldSize k) w (omega arith) (omega (arith, e, f)))
       ∙ both-swap (slotGood (recordOf b) k) (all k (slotGood (recordOf b))))
       (λ (n : has held k ≡ false).
@@ -190,11 +190,11 @@ module _ (b : List ℕ) (l : length b ≡ pageBodyWords (heldOf b)) where
     body-ill i = good-head-ill (recordOf b) head head-same (not-true head i)
 
     module _ (i : not head ≡ false) where
-      held-within : bitAnd (heldOf b) heldMask ≡ heldOf b
+      held-within : bitAnd (heldOf b) slotMask ≡ heldOf b
       held-within = head-within b _ (sym e ∙ not-false head i)
 
       pub body-held : heldOf b < 2 ^ 31
-      body-held = rw held-within at (lt-of-le-of-lt (and-le-r (heldOf b) heldMask) held-small)
+      body-held = rw held-within at (lt-of-le-of-lt (and-le-r (heldOf b) slotMask) slots-small)
 
       -- the walk begins one word before the held words
       pub body-rules : (kept : Bool) → kept ≡ obeyed (bitsOf 31 (heldOf b)) (drop 1 (take (length b - (headWords - 1)) (drop (headWords - 1) b)))

@@ -17,12 +17,12 @@ use Rattle.words.proofs.LaidLaws.{then, laid-length}
 use Rattle.words.proofs.MeetLaws.{meets-refused, meets-length}
 use Rattle.words.proofs.PartLaws.{seen, lent-to, put-at, part-length, part-past, part-whole}
 use Rattle.fields.specs.Sizes.{fieldSize, sizesOf}
-use Rattle.record.specs.Held.{heldMask, holds, heldBits}
+use Rattle.record.specs.Held.{slotMask, slotted, slotBits}
 use Rattle.record.specs.Layout.{headWords, slotWords, recordWords, heldOf, slotIn}
-use Rattle.record.specs.After.{slotAfter, refilled, Inside}
+use Rattle.record.specs.After.{slotFilled, refilled, Inside}
 use Rattle.record.specs.Good.{recordGood}
-use Rattle.record.proofs.SlotLaws.{placed-inside, in-order-same, held-low, held-high}
-use Rattle.record.proofs.HoldLaws.{within-holds}
+use Rattle.record.proofs.SlotLaws.{placed-inside, in-order-same, slotted-low, slotted-high}
+use Rattle.record.proofs.HoldLaws.{within-slotted}
 use Rattle.record.proofs.AfterLaws.{masked-within, masked-has, masked-place}
 use Rattle.table.specs.Layout.{base, layoutWords, Has, withRecord}
 use Rattle.words.specs.Pieces.{pieces}
@@ -42,27 +42,27 @@ zeroed-length zeroed z = ap length z ∙ length-replicate {A = ℕ} recordWords 
 -- ---- the fields of a body, as `refill` finds them
 
 -- bits of no held field do not matter
-refilled-masked : (n at : ℕ) (ws slots : List ℕ) → refilled (bitAnd n heldMask) at ws slots ≡ refilled n at ws slots
-unfolding refilled heldBits slotAfter holds
+refilled-masked : (n at : ℕ) (ws slots : List ℕ) → refilled (bitAnd n slotMask) at ws slots ≡ refilled n at ws slots
+unfolding refilled slotBits slotFilled slotted
 refilled-masked n at ws slots =
-    in-order-same 31 heldMask _ _
+    in-order-same 31 slotMask _ _
     (λ b h e.
     rw (masked-has n b e)
-    (ap (λ (l : List ℕ). pick (has n b) (part (at + sizesOf l) (fieldSize b) ws) (slotIn b slots)) (masked-place n b (omega (arith, held-low b e)))))
+    (ap (λ (l : List ℕ). pick (has n b) (part (at + sizesOf l) (fieldSize b) ws) (slotIn b slots)) (masked-place n b (omega (arith, slotted-low b e)))))
 
 -- n is the body's held indicator
 module _ (n : ℕ) (b : List ℕ) (e : n ≡ heldOf b) (l : length b ≡ pageBodyWords (heldOf b)) where
-  pub fields-inside : Inside (bitAnd n heldMask) headWords b
+  pub fields-inside : Inside (bitAnd n slotMask) headWords b
   unfolding pageBodyWords
   fields-inside x y =
-      let o : holds x ≡ true = within-holds (bitAnd n heldMask) (masked-within n) x y in
+      let o : slotted x ≡ true = within-slotted (bitAnd n slotMask) (masked-within n) x y in
       let h : has n x ≡ true = sym (masked-has n x o) ∙ y in
       omega (
         arith,
         l,
         ap (λ (k : ℕ). sizesOf (bitsOf 31 k)) e,
-        placed-inside 31 n x (held-high x o) h,
-        ap sizesOf (masked-place n x (omega (arith, held-low x o))),
+        placed-inside 31 n x (slotted-high x o) h,
+        ap sizesOf (masked-place n x (omega (arith, slotted-low x o))),
       )
 
   -- zeroed words with the body's first words
@@ -87,19 +87,19 @@ module _ (n : ℕ) (b : List ℕ) (e : n ≡ heldOf b) (l : length b ≡ pageBod
     refill-slots =
         ap length (seen headWords recordWords slotWords rec refl ∙ ap (part headWords slotWords) first-put ∙ slots-blank) ∙ length-replicate {A = ℕ} slotWords 0
 
-    pub filled-record : (last : List ℕ) → last ≡ refilled (bitAnd n heldMask) headWords b (take (recordWords - headWords) (drop headWords rec))
+    pub filled-record : (last : List ℕ) → last ≡ refilled (bitAnd n slotMask) headWords b (take (recordWords - headWords) (drop headWords rec))
         → take headWords rec ++ (last ++ drop (recordWords - headWords) (drop headWords rec)) ≡ recordOf b
     unfolding recordOf
     filled-record last g =
         let blank : List ℕ = replicate slotWords 0 in
-        let slots : List ℕ = refilled (bitAnd n heldMask) headWords b blank in
-        lent-to headWords recordWords slotWords (refilled (bitAnd n heldMask) headWords b) last rec refl g
-        ∙ ap₂ (λ (s r : List ℕ). put headWords slotWords (refilled (bitAnd n heldMask) headWords b s) r)
+        let slots : List ℕ = refilled (bitAnd n slotMask) headWords b blank in
+        lent-to headWords recordWords slotWords (refilled (bitAnd n slotMask) headWords b) last rec refl g
+        ∙ ap₂ (λ (s r : List ℕ). put headWords slotWords (refilled (bitAnd n slotMask) headWords b s) r)
         (ap (part headWords slotWords) first-put ∙ slots-blank) (first-put ∙ begun-is)
         ∙ put-at headWords slotWords (part 0 headWords b) (replicate slotWords 0)
-        (refilled (bitAnd n heldMask) headWords b (replicate slotWords 0)) front-length
+        (refilled (bitAnd n slotMask) headWords b (replicate slotWords 0)) front-length
         ∙ ap (λ (s : List ℕ). part 0 headWords b ++ s)
-        (append-nil (refilled (bitAnd n heldMask) headWords b (replicate slotWords 0)) ∙ refilled-masked n headWords b (replicate slotWords 0)
+        (append-nil (refilled (bitAnd n slotMask) headWords b (replicate slotWords 0)) ∙ refilled-masked n headWords b (replicate slotWords 0)
         ∙ ap (λ (k : ℕ). refilled k headWords b (replicate slotWords 0)) e)
 
 -- ---- the record of body s, which begins at the place at and has l words

@@ -19,7 +19,7 @@ use Rattle.words.proofs.MeetLaws.{meets-refused, meets-length}
 use Rattle.words.proofs.LaidLaws.{then, laid-length}
 use Rattle.words.proofs.PartLaws.{seen, getD-part, part-length}
 use Rattle.fields.specs.Sizes.{sizesOf}
-use Rattle.record.specs.Held.{heldMask}
+use Rattle.record.specs.Held.{slotMask}
 use Rattle.record.specs.Layout.{headWords, slotWords, recordWords, heldOf, slotsOf}
 use Rattle.record.specs.After.{heldWords}
 use Rattle.record.specs.Good.{recordGood}
@@ -109,7 +109,7 @@ module _ (r page : List ℕ) (at : ℕ) (l : length r ≡ recordWords) (g : reco
   unfolding slotsOf
   squeeze-slots = ap length slots-seen ∙ part-length headWords slotWords r (omega arith)
 
-  pub squeeze-held : bitAnd (heldOf r) heldMask ≡ heldOf r
+  pub squeeze-held : bitAnd (heldOf r) slotMask ≡ heldOf r
   squeeze-held = good-within r g
 
   pub squeeze-room : (page′ : List ℕ) → page′ ≡ put at headWords (part 0 headWords r) page

@@ -15,20 +15,20 @@ use Rattle.words.proofs.SetBitLaws.{bits-zero, bits-yes, bits-no, bits-trim, bi
 use Rattle.words.proofs.Cases.{true-or-false}
 use Rattle.fields.specs.Sizes.{fieldSize, sizesOf}
 use Rattle.fields.proofs.SizeLaws.{sizes-more}
-use Rattle.record.specs.Held.{heldMask, holds, slotAt, inOrder}
+use Rattle.record.specs.Held.{slotMask, slotted, slotAt, inOrder}
 use Rattle.record.specs.Layout.{slotWords, slotIn}
 use Rattle.record.specs.After.{heldWords}
-use Rattle.record.proofs.SlotLaws.{in-order-none, in-order-more, held-small}
-use Rattle.record.proofs.HoldLaws.{slot-inside, within-holds}
-use Rattle.record.proofs.CopyLaws.{size-held}
+use Rattle.record.proofs.SlotLaws.{in-order-none, in-order-more, slots-small}
+use Rattle.record.proofs.HoldLaws.{slot-inside, within-slotted}
+use Rattle.record.proofs.CopyLaws.{size-slotted}
 use Rattle.page.proofs.WriteLaws.{laid-part}
 
 -- the bits of a list are those of held fields
 abbrev pub AllHeld : List ℕ → Type 0
 AllHeld [] = Unit
-AllHeld (b ∷ bs) = (holds b ≡ true) × AllHeld bs
+AllHeld (b ∷ bs) = (slotted b ≡ true) × AllHeld bs
 
-all-held : (k held : ℕ) → ((b : ℕ) → has held b ≡ true → holds b ≡ true) → AllHeld (bitsOf k held)
+all-held : (k held : ℕ) → ((b : ℕ) → has held b ≡ true → slotted b ≡ true) → AllHeld (bitsOf k held)
 all-held zero held w = rw (bits-zero held) tt
 all-held (suc k) held w =
     ⊎-elim (λ (y : has held k ≡ true). rw (bits-yes k held y) (w k y, all-held k held w))
@@ -41,40 +41,40 @@ pub record Squeezing (held at : ℕ) (slots before after : List ℕ) (rest to : 
   pub bits : AllHeld (bitsOf 32 rest)
   pub fits : to + sizesOf (bitsOf 32 rest) ≡ at + sizesOf (bitsOf 31 held)
 
-pub squeezing-start : (held at : ℕ) (slots page : List ℕ) → bitAnd held heldMask ≡ held → Squeezing held at slots page page held at
+pub squeezing-start : (held at : ℕ) (slots page : List ℕ) → bitAnd held slotMask ≡ held → Squeezing held at slots page page held at
 unfolding heldWords
 squeezing-start held at slots page w =
-    let h : held < 2 ^ 31 = rw w at (lt-of-le-of-lt (and-le-r held heldMask) held-small) in
+    let h : held < 2 ^ 31 = rw w at (lt-of-le-of-lt (and-le-r held slotMask) slots-small) in
     record {
       done = [];
       laid = record { past = sym (add-zero at); kept = refl };
       left = ap (λ (l : List ℕ). inOrder l (λ b. slotIn b slots)) (bits-trim 31 32 held (omega arith) h);
-      bits = all-held 32 held (within-holds held w);
+      bits = all-held 32 held (within-slotted held w);
       fits = ap (λ (l : List ℕ). at + sizesOf l) (bits-trim 31 32 held (omega arith) h);
     }
 
 -- a turn: the next bit is b, whose slot begins at the place from and has n words
 module _ (held at rest to b rest′ n : ℕ) (slots before page : List ℕ) (p : Squeezing held at slots before page rest to)
     (cut : bitsOf 32 rest ≡ b ∷ bitsOf 32 rest′) (e : n ≡ fieldSize b) where
-  squeezing-holds : holds b ≡ true
-  squeezing-holds = (rw cut at (p .bits)) .0
+  squeezing-slotted : slotted b ≡ true
+  squeezing-slotted = (rw cut at (p .bits)) .0
 
   pub squeezing-sized : among n (1 ∷ 2 ∷ 11 ∷ 13 ∷ []) ≡ true
-  squeezing-sized = size-held b n squeezing-holds e
+  squeezing-sized = size-slotted b n squeezing-slotted e
 
   pub squeezing-room : at + sizesOf (bitsOf 31 held) ≤ length before → to + n ≤ length page
   squeezing-room h = omega (arith, p .fits, ap sizesOf cut, sizes-more b (bitsOf 32 rest′), laid-length (p .laid))
 
   module _ (from : ℕ) (f : from ≡ slotAt b) (l : length slots ≡ slotWords) where
     pub squeezing-slot : from + n ≤ length slots
-    squeezing-slot = omega (arith, slot-inside b squeezing-holds)
+    squeezing-slot = omega (arith, slot-inside b squeezing-slotted)
 
     pub squeezing-turn : (page′ : List ℕ) → at + sizesOf (bitsOf 31 held) ≤ length before → page′ ≡ put to n (part from n slots) page
         → Squeezing held at slots before page′ rest′ (to + n)
     unfolding slotIn
     squeezing-turn page′ h q =
         let g : ℕ → List ℕ = λ x. slotIn x slots in
-        let k : length (slotIn b slots) ≡ n = part-length (slotAt b) (fieldSize b) slots (omega (arith, slot-inside b squeezing-holds)) ∙ sym e in
+        let k : length (slotIn b slots) ≡ n = part-length (slotAt b) (fieldSize b) slots (omega (arith, slot-inside b squeezing-slotted)) ∙ sym e in
         let w : page′ ≡ put to n (slotIn b slots) page = q ∙ ap₂ (λ (i m : ℕ). put to n (part i m slots) page) f e in
         record {
           done = p .done ++ slotIn b slots;

@@ -7,9 +7,9 @@ use Rattle.words.specs.Word.{has}
 use Rattle.words.specs.SetBits.{bitsOf, above}
 use Rattle.words.specs.Part.{part}
 use Rattle.fields.specs.Sizes.{fieldSize, sizesOf}
-use Rattle.record.specs.Held.{heldBits, inOrder}
+use Rattle.record.specs.Held.{slotBits, inOrder}
 use Rattle.record.specs.Layout.{headWords, slotWords, heldOf, slotIn}
-use Rattle.record.specs.After.{slotAfter, refilled}
+use Rattle.record.specs.After.{slotFilled, refilled}
 use Rattle.table.specs.Well.{wellMade}
 use Rattle.words.specs.Pieces.{pieces}
 use Rattle.page.specs.Body.{recordOf}
@@ -58,8 +58,8 @@ unfolding inOrder
 words-order [] f w = tt
 words-order (b ∷ bs) f w = words-append (f b) (inOrder bs f) (w b) (words-order bs f w)
 
-words-after : (carried : Bool) (field slot : List ℕ) → Words32 field → Words32 slot → Words32 (slotAfter carried field slot)
-unfolding slotAfter
+words-after : (carried : Bool) (field slot : List ℕ) → Words32 field → Words32 slot → Words32 (slotFilled carried field slot)
+unfolding slotFilled
 words-after true field slot a b = a
 words-after false field slot a b = b
 
@@ -67,7 +67,7 @@ words-record : (b : List ℕ) → Words32 b → Words32 (recordOf b)
 unfolding recordOf refilled slotIn
 words-record b w =
     words-append (part 0 headWords b) _ (words-part 0 headWords b w)
-    (words-order heldBits _
+    (words-order slotBits _
     (λ x. words-after (has (heldOf b) x) _ _
     (words-part (headWords + sizesOf (above x (bitsOf 31 (heldOf b)))) (fieldSize x) b w)
     (words-part _ (fieldSize x) (replicate slotWords 0) (words-zero slotWords))))

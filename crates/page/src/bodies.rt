@@ -5,7 +5,7 @@ ghost use Rattle.words.specs.SetBits.{bitsOf};
 ghost use Rattle.words.specs.Laid.{Laid};
 ghost use Rattle.words.specs.All.{tabled};
 ghost use Rattle.fields.specs.Sizes.{fieldSize, sizesOf};
-ghost use Rattle.record.specs.Held.{heldMask, slotAt};
+ghost use Rattle.record.specs.Held.{slotMask, slotAt};
 ghost use Rattle.record.specs.Layout.{slotWords, recordWords};
 ghost use Rattle.record.specs.After.{heldWords};
 ghost use Rattle.record.specs.Good.{recordGood};
@@ -55,7 +55,7 @@ fn squeeze(
     sizes: &[u8; 32],
     places: &[u8; 32],
 ) -> usize
-    requires { ⌜ (length (now slots) ≡ slotWords) × (bitAnd held heldMask ≡ held) × (at + sizesOf (bitsOf 31 held) ≤ length (now page)) × (tabled 32 fieldSize (now sizes) ≡ true) × (tabled 32 slotAt (now places) ≡ true) ⌝ }
+    requires { ⌜ (length (now slots) ≡ slotWords) × (bitAnd held slotMask ≡ held) × (at + sizesOf (bitsOf 31 held) ≤ length (now page)) × (tabled 32 fieldSize (now sizes) ≡ true) × (tabled 32 slotAt (now places) ≡ true) ⌝ }
     ensures { λ r. ⌜ Laid (now (page .entry)) at (heldWords held (now (slots .entry))) r (now (page .exit)) ⌝ }
 {
     let mut rest = held;

@@ -12,7 +12,7 @@ fn fill_record(rec: &mut [u32], body: &[u32])
     requires { ⌜ (now rec ≡ replicate recordWords 0) × (length (now body) ≡ pageBodyWords (heldOf (now body))) ⌝ }
     ensures { λ _. ⌜ now (rec .exit) ≡ recordOf (now (body .entry)) ⌝ }
 {
-    let held = words::inner::word_at(body, 1) & record::inner::HELD;
+    let held = words::inner::word_at(body, 1) & record::inner::SLOTTED;
     words::inner::copy_part(rec, 0, body, 0, record::inner::HEAD_WORDS);
     record::inner::refill(
         &mut rec[record::inner::HEAD_WORDS..record::inner::RECORD_WORDS],

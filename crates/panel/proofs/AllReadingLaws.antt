@@ -1,5 +1,5 @@
 -- All readings at once. The idea: the loop fills the entries from the front, and what it has passed is what the record shows of bit 30 - k (`Showing`);
--- `heldBits` has that bit at place k, so the whole is the definition, entry by entry.
+-- `slotBits` has that bit at place k, so the whole is the definition, entry by entry.
 use Rattle.words.proofs.Kit.{_≡_, refl, sym, ap, _∙_, List, [], _∷_, ℕ, zero, suc, _+_, _-_, _≤_, _<_, arith, le-ltb, length, take, drop, getD, set}
 use mathlib.Core.List.{map}
 use lib.ListN.{replicate, length-set, length-map, length-replicate, getD-replicate}
@@ -12,7 +12,7 @@ use Rattle.words.proofs.AllLaws.{tabled-at}
 use Rattle.words.proofs.RefusalLaws.{after-first}
 use Rattle.words.specs.declared.Check.{Check}
 use Rattle.words.specs.declared.Check.the-variants as checks
-use Rattle.record.specs.Held.{heldMask, heldBits}
+use Rattle.record.specs.Held.{slotMask, slotBits}
 use Rattle.record.specs.Layout.{recordWords}
 use Rattle.table.specs.Layout.{base, recordAt}
 use Rattle.table.specs.Stream.{streamNumberList}
@@ -43,13 +43,13 @@ map-both f g xs ys a b l h =
 
 -- ---- the bits of the fields
 
-pub fields-many : length heldBits ≡ 21
-unfolding heldBits heldMask bitsOf
+pub fields-many : length slotBits ≡ 21
+unfolding slotBits slotMask bitsOf
 fields-many = refl
 
-pub field-bit : (i : ℕ) → i < 21 → getD heldBits i 0 ≡ 30 - i
-unfolding heldBits heldMask bitsOf all
-field-bit i h = tabled-at 21 heldBits (λ k. 30 - k) i refl h
+pub field-bit : (i : ℕ) → i < 21 → getD slotBits i 0 ≡ 30 - i
+unfolding slotBits slotMask bitsOf all
+field-bit i h = tabled-at 21 slotBits (λ k. 30 - k) i refl h
 
 -- ---- a record, read from the front
 
@@ -76,12 +76,12 @@ module _ (r : List ℕ) where
 
   pub readings-many : length (recordReadings r) ≡ 21
   unfolding recordReadings
-  readings-many = length-map heldBits _ ∙ fields-many
+  readings-many = length-map slotBits _ ∙ fields-many
 
   pub readings-at : (i : ℕ) → i < 21 → getD (recordReadings r) i absent ≡ recordShows (30 - i) r
   unfolding recordReadings
   readings-at i h =
-      map-at (λ b. recordShows b r) heldBits i 0 absent (omega (arith, fields-many, h)) ∙ ap (λ (b : ℕ). recordShows b r) (field-bit i h)
+      map-at (λ b. recordShows b r) slotBits i 0 absent (omega (arith, fields-many, h)) ∙ ap (λ (b : ℕ). recordShows b r) (field-bit i h)
 
   pub showing-all : (i : ℕ) (ds : List FieldReading) → 21 ≤ i → Showing r i ds → map readingPaper ds ≡ map accepted (recordReadings r)
   showing-all i ds h f =
@@ -100,9 +100,9 @@ map-twice : {A B C : Type 0} (f : B → C) (g : A → B) (xs : List A) → map f
 map-twice f g [] = refl
 map-twice f g (x ∷ xs) = ap (_∷_ (f (g x))) (map-twice f g xs)
 
-each-after : (o : Outcome Unit) (f : ℕ → Reading) → inEach (after o (accepted (map f heldBits))) ≡ map (λ b. after o (accepted (f b))) heldBits
+each-after : (o : Outcome Unit) (f : ℕ → Reading) → inEach (after o (accepted (map f slotBits))) ≡ map (λ b. after o (accepted (f b))) slotBits
 each-after (refused n) f = refl
-each-after (accepted u) f = map-twice accepted f heldBits
+each-after (accepted u) f = map-twice accepted f slotBits
 
 -- ---- the public answer, k being what the stream's number was found to be
 module _ (t : List ℕ) (s : ℕ) where
@@ -120,7 +120,7 @@ module _ (t : List ℕ) (s : ℕ) where
     pub all-refused : (n : ℕ) → k ≡ checks.Refused n → map readingPaper (replicate 21 (dial.Refused n)) ≡ inEach (readingsOf t s)
     all-refused n f =
         rw (readings-refused n f)
-        (map-both readingPaper (λ b. refused n) (replicate 21 (dial.Refused n)) heldBits dial.Absent 0 (length-replicate 21 (dial.Refused n) ∙ sym fields-many)
+        (map-both readingPaper (λ b. refused n) (replicate 21 (dial.Refused n)) slotBits dial.Absent 0 (length-replicate 21 (dial.Refused n) ∙ sym fields-many)
         (λ i h. ap readingPaper (getD-replicate 21 i (dial.Refused n) dial.Absent (omega (arith, length-replicate 21 (dial.Refused n), h)))))
 
     pub all-shown : (ds : List FieldReading) → k ≡ checks.Fine → map readingPaper ds ≡ map accepted (recordReadings (recordAt s t))
@@ -133,11 +133,11 @@ module _ (t : List ℕ) (s : ℕ) where
   unfolding readingOf streamChecks
   bit-reading b lo hi = after-first (streamNumberList t s) tt _ ∙ rw (le-ltb b 10 lo, le-ltb 30 b hi)
 
-  pub readings-each : inEach (readingsOf t s) ≡ map (readingOf t s) heldBits
+  pub readings-each : inEach (readingsOf t s) ≡ map (readingOf t s) slotBits
   unfolding recordReadings
   readings-each =
       rw readings-asked (each-after (streamChecks t s) (λ b. recordShows b (recordAt s t)))
-      ∙ map-both (λ b. after (streamChecks t s) (accepted (recordShows b (recordAt s t)))) (readingOf t s) heldBits heldBits 0 0 refl
+      ∙ map-both (λ b. after (streamChecks t s) (accepted (recordShows b (recordAt s t)))) (readingOf t s) slotBits slotBits 0 0 refl
       (λ i h.
       let b = field-bit i (omega (arith, fields-many, h)) in
-      bit-reading (getD heldBits i 0) (omega (arith, b, fields-many, h)) (omega (arith, b)))
+      bit-reading (getD slotBits i 0) (omega (arith, b, fields-many, h)) (omega (arith, b)))

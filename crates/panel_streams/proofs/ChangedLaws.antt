@@ -22,9 +22,9 @@ use Rattle.words.proofs.SetBitLaws.{has-above}
 use Rattle.words.proofs.AllLaws.{all-at, all-intro, all-more, all-fails}
 use Rattle.words.proofs.PartLaws.{seen, part-length, getD-part}
 use Rattle.fields.specs.Sizes.{fieldSize}
-use Rattle.record.specs.Held.{holds, slotAt}
+use Rattle.record.specs.Held.{slotted, slotAt}
 use Rattle.record.specs.Layout.{headWords, recordWords, isHeld, heldWordsIn}
-use Rattle.record.proofs.SlotLaws.{held-not, held-all}
+use Rattle.record.proofs.SlotLaws.{slotted-not, slotted-all}
 use Rattle.record.proofs.GoodLaws.{Passing, passing-end}
 use Rattle.record.proofs.HeldWordsLaws.{held-most, held-part, held-length}
 use Rattle.table.specs.Layout.{streamsOf, base, Has, recordAt}
@@ -35,49 +35,6 @@ use Rattle.panel_streams.specs.inner.Asked.{changedChecks}
 use Rattle.panel_streams.specs.declared.changes.Changed.{Changed}
 use Rattle.words.specs.declared.Check.{Check}
 use Rattle.words.specs.declared.Check.the-variants as checks
-
--- ---- a word marked bit by bit
-
-when-below : (t : Bool) (k m : ℕ) → m < 2 ^ k → m + when t (2 ^ k) < 2 ^ suc k
-when-below true k m h = omega (arith, halves (suc k) (omega arith))
-when-below false k m h = omega (arith, halves (suc k) (omega arith))
-
-pub marked-small : (k : ℕ) (f : ℕ → Bool) → marked k f < 2 ^ k
-unfolding marked
-marked-small zero f = omega arith
-marked-small (suc k) f = when-below (f k) k (marked k f) (marked-small k f)
-
--- the bit that is marked, and those below it
-turned : (k m : ℕ) → m + 2 ^ k ≡ 1 * 2 ^ k + m
-turned k m = omega arith
-
-when-top : (t : Bool) (k m : ℕ) → m < 2 ^ k → has (m + when t (2 ^ k)) k ≡ t
-when-top true k m h =
-    let one : (m + 2 ^ k) / 2 ^ k ≡ 1 = ap (λ (x : ℕ). x / 2 ^ k) (turned k m) ∙ high 1 k h in
-    rw one
-when-top false k m h = rw (add-zero m) (has-above m k h)
-
-when-under : (t : Bool) (k m b : ℕ) → m < 2 ^ k → b < k → has (m + when t (2 ^ k)) b ≡ has m b
-when-under true k m b h l =
-    let e : (m + 2 ^ k) % 2 ^ k ≡ m = ap (λ (x : ℕ). x % 2 ^ k) (turned k m) ∙ low 1 k h in
-    sym (has-low (m + 2 ^ k) k b l) ∙ ap (λ (n : ℕ). has n b) e
-when-under false k m b h l = rw (add-zero m)
-
-pub marked-has : (k : ℕ) (f : ℕ → Bool) (b : ℕ) → b < k → has (marked k f) b ≡ f b
-unfolding marked
-marked-has zero f b h = absurd (omega (arith, h))
-marked-has (suc k) f b h =
-    ⊎-elim (λ (e : b ≡ k). rw e (when-top (f k) k (marked k f) (marked-small k f)))
-    (λ (n : b ≡ k → ⊥).
-    let l : b < k = omega (arith, h, n) in
-    when-under (f k) k (marked k f) b (marked-small k f) l ∙ marked-has k f b l)
-    (same-or-not b k)
-
--- none is marked where no test holds
-marked-none : (k : ℕ) (f : ℕ → Bool) → ((b : ℕ) → b < k → f b ≡ false) → marked k f ≡ 0
-unfolding marked
-marked-none zero f e = refl
-marked-none (suc k) f e = rw (e k (omega arith), marked-none k f (λ b h. e b (omega arith)))
 
 -- ---- what the bits say
 
@@ -92,32 +49,32 @@ module _ (r q : List ℕ) where
   changed-small = marked-small 31 (differs r q)
 
   -- both ways: a bit is set where the words are not the same, and the words are the same where it is not
-  pub changed-set : (b : ℕ) → b < 31 → has (changedIn r q) b ≡ true → (holds b ≡ true) × (heldWordsIn b r ≡ heldWordsIn b q → ⊥)
+  pub changed-set : (b : ℕ) → b < 31 → has (changedIn r q) b ≡ true → (slotted b ≡ true) × (heldWordsIn b r ≡ heldWordsIn b q → ⊥)
   unfolding differs
   changed-set b h e =
       let d : differs r q b ≡ true = sym (changed-bit b h) ∙ e in (
-        both-left (holds b) _ d,
+        both-left (slotted b) _ d,
         λ f.
             true-is-false
-            (sym (both-right (holds b) _ d) ∙ ap (λ (ws : List ℕ). not (sameWords ws (heldWordsIn b q))) f ∙ ap not (words-same (heldWordsIn b q))),
+            (sym (both-right (slotted b) _ d) ∙ ap (λ (ws : List ℕ). not (sameWords ws (heldWordsIn b q))) f ∙ ap not (words-same (heldWordsIn b q))),
       )
 
-  pub changed-not : (b : ℕ) → b < 31 → holds b ≡ true → has (changedIn r q) b ≡ false → heldWordsIn b r ≡ heldWordsIn b q
+  pub changed-not : (b : ℕ) → b < 31 → slotted b ≡ true → has (changedIn r q) b ≡ false → heldWordsIn b r ≡ heldWordsIn b q
   unfolding differs
   changed-not b h o e =
-      let d : both (holds b) (not (sameWords (heldWordsIn b r) (heldWordsIn b q))) ≡ false = sym (changed-bit b h) ∙ e in
+      let d : both (slotted b) (not (sameWords (heldWordsIn b r) (heldWordsIn b q))) ≡ false = sym (changed-bit b h) ∙ e in
       same-words _ _ (not-false (sameWords (heldWordsIn b r) (heldWordsIn b q)) (rw o at d))
 
 -- a record and itself
 pub changed-self : (r : List ℕ) → changedIn r r ≡ 0
 unfolding changedIn differs
-changed-self r = marked-none 31 (differs r r) (λ b h. rw (words-same (heldWordsIn b r)) (both-no (holds b)))
+changed-self r = marked-none 31 (differs r r) (λ b h. rw (words-same (heldWordsIn b r)) (both-no (slotted b)))
 
 -- ---- the loop that marks: the bits below 10 are of no held field
 module _ (r q : List ℕ) where
   pub marking-start : 0 ≡ marked 10 (differs r q)
   unfolding differs
-  marking-start = sym (marked-none 10 (differs r q) (λ b h. rw (held-not b h)))
+  marking-start = sym (marked-none 10 (differs r q) (λ b h. rw (slotted-not b h)))
 
   module _ (word bit : ℕ) (e : word ≡ marked bit (differs r q)) where
     pub marking-small : word < 2 ^ bit
@@ -189,7 +146,7 @@ module _ (r q : List ℕ) (b z n m : ℕ) (h g : Bool) (l : length r ≡ recordW
       (x (sym (held-length r b (slotAt b) z l lo hi refl ez n h eh en) ∙ ap length (same-words _ _ e)
       ∙ held-length q b (slotAt b) z k lo hi refl ez m g eg em)))
       (λ e. e) (true-or-false (sameWords (heldWordsIn b r) (heldWordsIn b q))) in
-      rw (held-all b lo (omega arith), none)
+      rw (slotted-all b lo (omega arith), none)
 
   module _ (at : ℕ) (ea : at ≡ slotAt b) (e : n ≡ m) where
     pub field-inside : headWords + at + n ≤ length r
@@ -201,7 +158,7 @@ module _ (r q : List ℕ) (b z n m : ℕ) (h g : Bool) (l : length r ≡ recordW
     pub differs-words : (t : Bool) → t ≡ sameWords (part (headWords + at) n r) (part (headWords + at) n q) → not t ≡ differs r q b
     unfolding differs
     differs-words t f =
-        rw (held-all b lo (omega arith), held-part r b at z l lo hi ea ez n h eh en, held-part q b at z k lo hi ea ez n g eg (e ∙ em), f)
+        rw (slotted-all b lo (omega arith), held-part r b at z l lo hi ea ez n h eh en, held-part q b at z k lo hi ea ez n g eg (e ∙ em), f)
 
 -- ---- records that are lent from their places on
 pub changed-lent : (t u : List ℕ) (s v at to word : ℕ) → at ≡ base s → to ≡ base v

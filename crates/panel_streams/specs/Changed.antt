@@ -1,25 +1,21 @@
 -- Which held fields are not the same in two records, such as those of a stream before a packet and after it: TABLE where either table is not well made, STREAM
 -- where either number is not in its table.
-use Rattle.words.specs.Kit.{ℕ, zero, suc, _+_, _^_, Bool, not, List, [], _∷_, leb}
+use Rattle.words.specs.Kit.{ℕ, Bool, not, List, [], _∷_, leb}
 use Rattle.words.specs.Numbers.{TABLE, STREAM}
-use Rattle.words.specs.Tests.{when, both, either, sameWords}
+use Rattle.words.specs.Tests.{both, either, sameWords}
+use Rattle.words.specs.Word.{marked}
 use Rattle.words.specs.Outcome.{Outcome, refused, accepted}
 use Rattle.words.specs.Refusals.{Refusals, firstGiven}
-use Rattle.record.specs.Held.{holds}
+use Rattle.record.specs.Held.{slotted}
 use Rattle.record.specs.Layout.{heldWordsIn}
 use Rattle.table.specs.Layout.{streamsOf, recordAt}
 use Rattle.table.specs.Well.{wellMade}
 use Rattle.panel_streams.specs.declared.changes.Changed.{Changed}
 use Rattle.panel_streams.specs.declared.changes.Changed.the-variants as changes
 
--- the word of which each bit below k is set where the test of its number holds, and no other
-unfoldable pub marked : ℕ → (ℕ → Bool) → ℕ
-marked zero f = 0
-marked (suc k) f = marked k f + when (f k) (2 ^ k)
-
 -- the field of bit b is one of bits 30 to 10, and the words held for it by the one record and by the other are not the same; an absent field holds no words
 unfoldable pub differs : List ℕ → List ℕ → ℕ → Bool
-differs r q b = both (holds b) (not (sameWords (heldWordsIn b r) (heldWordsIn b q)))
+differs r q b = both (slotted b) (not (sameWords (heldWordsIn b r) (heldWordsIn b q)))
 
 -- the bits of all such fields
 unfoldable pub changedIn : List ℕ → List ℕ → ℕ

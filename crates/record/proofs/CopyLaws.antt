@@ -9,8 +9,8 @@ use Rattle.words.proofs.Cases.{true-or-false, true-is-false}
 use Rattle.words.proofs.CopyLaws.{copied-then}
 use Rattle.words.proofs.AllLaws.{all-at}
 use Rattle.fields.specs.Sizes.{fieldSize}
-use Rattle.record.specs.Held.{holds}
-use Rattle.record.proofs.SlotLaws.{held-low, held-high}
+use Rattle.record.specs.Held.{slotted}
+use Rattle.record.proofs.SlotLaws.{slotted-low, slotted-high}
 
 -- the n words of a field, of 1, 2, 11 or 13, as a program copies them
 module _ (n d s : ℕ) (ws xs last : List ℕ) where
@@ -34,8 +34,8 @@ size-few : (b : ℕ) → 10 ≤ b → b < 31 → among (fieldSize b) (1 ∷ 2 �
 unfolding few fieldSize all
 size-few b h g = rw (le-ltb b 10 h) at (all-at (λ i. few i (fieldSize i)) 31 b g refl)
 
-pub size-held : (b n : ℕ) → holds b ≡ true → n ≡ fieldSize b → among n (1 ∷ 2 ∷ 11 ∷ 13 ∷ []) ≡ true
-size-held b n o e = rw e (size-few b (held-low b o) (held-high b o))
+pub size-slotted : (b n : ℕ) → slotted b ≡ true → n ≡ fieldSize b → among n (1 ∷ 2 ∷ 11 ∷ 13 ∷ []) ≡ true
+size-slotted b n o e = rw e (size-few b (slotted-low b o) (slotted-high b o))
 
 among-one : (n x : ℕ) → among n (x ∷ []) ≡ true → n ≡ x
 among-one n x t = ⊎-elim (λ e. eqb-true n x e) (λ e. absurd (true-is-false (sym t ∙ rw e))) (true-or-false (eqb n x))

@@ -4,7 +4,7 @@ use Rattle.words.proofs.Kit.{_≡_, refl, sym, ap, _∙_, Bool, true, false, no
 use Rattle.words.proofs.Kit.{arith, eq-eqb, ne-eqb, le-leb, eqb-true, not-true, not-false, eqb, length, take, drop, getD}
 use native.Mathlib.Nat.{add-zero, add-suc, add-assoc, zero-div, lt-of-le-of-lt}
 use borrow.Author.Tests.{leb-true}
-use lib.Bits.{bitAnd, and-le-r, and-le-l, or-lt}
+use lib.Bits.{bitAnd, and-le-r, or-lt}
 use lib.ListN.{replicate, length-replicate}
 use lib.Seq.{ext-getD}
 use Rattle.words.specs.Tests.{pick, both, among}
@@ -12,23 +12,26 @@ use Rattle.words.specs.Word.{has}
 use Rattle.words.specs.Part.{part}
 use Rattle.words.specs.All.{all}
 use Rattle.words.specs.Outcome.{accepted}
-use Rattle.words.proofs.Cases.{true-or-false, same-or-not, both-left, both-right, both-true, both-yes, both-assoc, pick-true, true-is-false}
+use Rattle.words.proofs.Cases.{true-or-false, same-or-not, both-left, both-right, both-true, both-yes, both-no, both-assoc, neither, pick-true, true-is-false}
 use Rattle.words.proofs.AllLaws.{all-none, all-more, all-end, all-fails, all-at, all-intro, all-same}
-use Rattle.words.proofs.BitLaws.{has-and, word-same}
 use Rattle.words.proofs.PartLaws.{seen, getD-part, part-part, part-length, part-whole}
 use Rattle.fields.specs.Sizes.{fieldSize}
 use Rattle.fields.specs.Rules.{ruleOf}
+use Rattle.fields.specs.inner.Limits.{firstOk, moreOk}
+use Rattle.fields.proofs.RuleLaws.{rule-broken, rule-above, rule-more}
 use Rattle.fields.proofs.SizeLaws.{size-some}
 use Rattle.fields.specs.Layout.{indicatorOf, fieldOf, contextOf}
 use Rattle.fields.proofs.BodyLaws.{context-fits, field-rule}
-use Rattle.record.specs.Held.{heldMask, holds, slotAt}
+use Rattle.record.specs.Held.{slotted, slotAt, heldMask, holds}
+use Rattle.record.specs.State.{stateAfter, stateHeld}
 use Rattle.record.specs.Layout.{headWords, slotWords, recordWords, heldOf, countAt, countWords, seenOf, missingOf, lastOf, slotIn, slotsOf, slotOf}
 use Rattle.record.specs.Counts.{countedOf, countRecord}
 use Rattle.record.specs.After.{slotAfter, heldAfter, holdRecord}
-use Rattle.record.specs.Good.{zeros, countGood, countGoodAt, heldGood, slotGood, recordGood, GoodCount, Good}
-use Rattle.record.proofs.SlotLaws.{held-small, held-not, held-low, held-high}
-use Rattle.record.proofs.CopyLaws.{size-held, size-eleven}
-use Rattle.record.proofs.HoldLaws.{slot-inside, within-holds}
+use Rattle.record.specs.Good.{zeros, countGood, countGoodAt, heldGood, heldRule, slotGood, recordGood, GoodCount, Good}
+use Rattle.record.proofs.SlotLaws.{slotted-not, slotted-low, slotted-high, slotted-all, held-small}
+use Rattle.record.proofs.StateLaws.{state-ruled, state-none, state-stays-good}
+use Rattle.record.proofs.CopyLaws.{size-slotted, size-eleven}
+use Rattle.record.proofs.HoldLaws.{slot-inside, within-bits, within-mask}
 use Rattle.record.proofs.AfterLaws.{hold-slot, hold-held, hold-count, held-bit, count-count, count-other, count-slot, count-held}
 
 -- ---- the words of a count, where a program reads them
@@ -92,15 +95,15 @@ module _ (r : List ℕ) (at : ℕ) (e : at ≡ countAt 2) (t : Bool) (h : t ≡ 
 -- the slots of bits below 10 are not looked at
 pub slots-start : (r : List ℕ) → Passing 31 (slotGood r) 10
 unfolding slotGood
-slots-start r = record { most = omega arith; before = all-intro (slotGood r) 10 (λ b h. rw (held-not b h)) }
+slots-start r = record { most = omega arith; before = all-intro (slotGood r) 10 (λ b h. rw (slotted-not b h)) }
 
-pub slot-length : (b : ℕ) (r : List ℕ) → length r ≡ recordWords → holds b ≡ true → length (slotOf b r) ≡ fieldSize b
+pub slot-length : (b : ℕ) (r : List ℕ) → length r ≡ recordWords → slotted b ≡ true → length (slotOf b r) ≡ fieldSize b
 unfolding slotOf slotIn slotsOf
 slot-length b r l o =
     let m : length (part headWords slotWords r) ≡ slotWords = part-length headWords slotWords r (omega arith) in
     part-length (slotAt b) (fieldSize b) (part headWords slotWords r) (omega (arith, slot-inside b o))
 
-module _ (r : List ℕ) (b at n : ℕ) (l : length r ≡ recordWords) (o : holds b ≡ true) (ea : at ≡ slotAt b) (en : n ≡ fieldSize b) where
+module _ (r : List ℕ) (b at n : ℕ) (l : length r ≡ recordWords) (o : slotted b ≡ true) (ea : at ≡ slotAt b) (en : n ≡ fieldSize b) where
   pub slot-end : headWords + at + n ≤ length r
   slot-end = omega (arith, slot-inside b o)
 
@@ -114,21 +117,46 @@ module _ (r : List ℕ) (b at n : ℕ) (l : length r ≡ recordWords) (o : holds
 
   -- the slot has a word
   pub slot-there : 0 < length (take (headWords + at + n - (headWords + at)) (drop (headWords + at) r))
-  slot-there = omega (arith, ap length slot-seen, slot-length b r l o, size-some b (held-low b o) (held-high b o))
+  slot-there = omega (arith, ap length slot-seen, slot-length b r l o, size-some b (slotted-low b o) (slotted-high b o))
 
   -- and 1, 2, 11 or 13 of them
   pub slot-few : among (length (take (headWords + at + n - (headWords + at)) (drop (headWords + at) r))) (1 ∷ 2 ∷ 11 ∷ 13 ∷ []) ≡ true
-  slot-few = size-held b _ o (ap length slot-seen ∙ slot-length b r l o)
+  slot-few = size-slotted b _ o (ap length slot-seen ∙ slot-length b r l o)
 
   -- it is held, or not
   module _ (t : Bool) where
-    pub slot-ruled : heldOf r / 2 ^ b % 2 ≡ 1 → t ≡ ruleOf b (take (headWords + at + n - (headWords + at)) (drop (headWords + at) r)) → t ≡ slotGood r b
+    pub slot-ruled : heldOf r / 2 ^ b % 2 ≡ 1 → t ≡ heldRule b (take (headWords + at + n - (headWords + at)) (drop (headWords + at) r)) → t ≡ slotGood r b
     unfolding slotGood
-    slot-ruled h e = rw (o, eq-eqb (heldOf r / 2 ^ b % 2) 1 h) (e ∙ ap (ruleOf b) slot-seen)
+    slot-ruled h e = rw (o, eq-eqb (heldOf r / 2 ^ b % 2) 1 h) (e ∙ ap (heldRule b) slot-seen)
 
     pub slot-zeroed : (heldOf r / 2 ^ b % 2 ≡ 1 → ⊥) → t ≡ zeros (take (headWords + at + n - (headWords + at)) (drop (headWords + at) r)) → t ≡ slotGood r b
     unfolding slotGood
     slot-zeroed h e = rw (o, ne-eqb (heldOf r / 2 ^ b % 2) 1 h) (e ∙ ap zeros slot-seen)
+
+-- ---- the rule of a held field, as a program asks it: `below` is the answer to whether the first word is below its limit
+
+module _ (b : ℕ) (ws : List ℕ) (below : Bool) (f : below ≡ firstOk b (getD ws 0 0)) (h : getD ws 0 0 < 2 ^ 32) where
+  pub held-broken : below ≡ false → false ≡ heldRule b ws
+  unfolding heldRule
+  held-broken over = rw (← (rule-broken b ws below f h over))
+
+  pub held-above : below ≡ true → 17 < b → true ≡ heldRule b ws
+  unfolding heldRule
+  held-above under g = rw (← (rule-above b ws below f h under g), ne-eqb b 16 (λ e. omega arith))
+
+  pub held-more : below ≡ true → (b ≡ 16 → ⊥) → (v : ℕ) (more : Bool) → v ≡ getD ws 1 0 → more ≡ moreOk b (getD ws 0 0) v → more ≡ heldRule b ws
+  unfolding heldRule
+  held-more under n v more e m = rule-more b ws below f h under v more e m ∙ rw (ne-eqb b 16 n) (sym (both-yes (ruleOf b ws)))
+
+-- of a state word nothing else is asked than that it can be held
+pub held-state : (b : ℕ) (ws : List ℕ) (t : Bool) → b ≡ 16 → t ≡ stateHeld (getD ws 0 0) → t ≡ heldRule b ws
+unfolding heldRule
+held-state b ws t e f =
+    f ∙ rw (e) (sym (ruled (stateHeld (getD ws 0 0)) refl))
+  where
+    ruled : (s : Bool) → stateHeld (getD ws 0 0) ≡ s → both (ruleOf 16 ws) s ≡ s
+    ruled true y = both-true _ _ (state-ruled (getD ws 0 0) y ws refl) refl
+    ruled false y = both-no (ruleOf 16 ws)
 
 -- ---- words that are zero, piece by piece
 
@@ -228,13 +256,6 @@ facts-count seen missing last g =
     (λ (n : last ≡ 0 → ⊥). rw (ne-eqb last 0 n, le-leb last 16 (g .most)))
     (same-or-not last 0)
 
--- bits within the mask
-within-mask : (held : ℕ) → held < 2 ^ 31 → ((b : ℕ) → has held b ≡ true → holds b ≡ true) → bitAnd held heldMask ≡ held
-unfolding holds
-within-mask held h e =
-    word-same 31 (bitAnd held heldMask) held (lt-of-le-of-lt (and-le-l held heldMask) h) h
-    (λ b l. has-and held heldMask b ∙ ⊎-elim (λ t. rw t (e b t)) (λ t. rw t) (true-or-false (has held b)))
-
 -- the words before the slots, and then the slots: as a program tests a record
 module _ (r : List ℕ) (head : Bool) (e : head ≡ both (heldGood (heldOf r) (lastOf (countWords 2 r))) (all 4 (countGoodAt r))) where
   good-tests : both head (all 31 (slotGood r)) ≡ recordGood r
@@ -249,7 +270,7 @@ module _ (r : List ℕ) (head : Bool) (e : head ≡ both (heldGood (heldOf r) (l
 
 -- a record
 pub good-of : (r : List ℕ) → length r ≡ recordWords → recordGood r ≡ true → Good r
-unfolding recordGood heldGood slotGood countGoodAt
+unfolding recordGood heldGood slotGood countGoodAt holds
 good-of r l e =
     let held : Bool = heldGood (heldOf r) (lastOf (countWords 2 r)) in
     let counts : Bool = all 4 (countGoodAt r) in
@@ -258,10 +279,10 @@ good-of r l e =
     let o = both-right held (both counts slots) e in
     let w : bitAnd (heldOf r) heldMask ≡ heldOf r = eqb-true _ _ (both-left (eqb (bitAnd (heldOf r) heldMask) (heldOf r)) _ a) in
     let s = both-right (eqb (bitAnd (heldOf r) heldMask) (heldOf r)) _ a in
-    let slot : (b : ℕ) → holds b ≡ true → pick (has (heldOf r) b) (ruleOf b (slotOf b r)) (zeros (slotOf b r)) ≡ true =
-    λ b h. rw h at (all-at (slotGood r) 31 b (held-high b h) (both-right counts slots o)) in
+    let slot : (b : ℕ) → slotted b ≡ true → pick (has (heldOf r) b) (heldRule b (slotOf b r)) (zeros (slotOf b r)) ≡ true =
+    λ b h. rw h at (all-at (slotGood r) 31 b (slotted-high b h) (both-right counts slots o)) in
     record {
-      bits = within-holds (heldOf r) w;
+      bits = within-bits heldMask (heldOf r) w;
       small = rw w at (lt-of-le-of-lt (and-le-r (heldOf r) heldMask) held-small);
       started = λ z. eqb-true (heldOf r) 0 (rw (eq-eqb _ 0 z) at s);
       counts = λ k h. count-facts _ _ _ (all-at (countGoodAt r) 4 k h (both-left counts slots o));
@@ -270,18 +291,18 @@ good-of r l e =
     }
 
 pub of-good : (r : List ℕ) → Good r → recordGood r ≡ true
-unfolding recordGood heldGood slotGood countGoodAt
+unfolding recordGood heldGood slotGood countGoodAt holds
 of-good r g =
     both-true _ _
-    (both-true _ _ (eq-eqb _ _ (within-mask (heldOf r) (g .small) (g .bits)))
+    (both-true _ _ (eq-eqb _ _ (within-mask heldMask (heldOf r) (g .small) (g .bits)))
     (pick-true (eqb (lastOf (countWords 2 r)) 0) (eqb (heldOf r) 0) (λ z. eq-eqb (heldOf r) 0 (g .started (eqb-true (lastOf (countWords 2 r)) 0 z)))))
     (both-true _ _ (all-intro (countGoodAt r) 4 (λ k h. facts-count _ _ _ (g .counts k h)))
-    (all-intro (slotGood r) 31 (λ b h. pick-true (holds b) _ (λ o. slot b o))))
+    (all-intro (slotGood r) 31 (λ b h. pick-true (slotted b) _ (λ o. slot b o))))
   where
-    slot : (b : ℕ) → holds b ≡ true → pick (has (heldOf r) b) (ruleOf b (slotOf b r)) (zeros (slotOf b r)) ≡ true
+    slot : (b : ℕ) → slotted b ≡ true → pick (has (heldOf r) b) (heldRule b (slotOf b r)) (zeros (slotOf b r)) ≡ true
     slot b o =
         ⊎-elim (λ y. rw y (g .obeys b o y))
-        (λ n. ap (λ (t : Bool). pick t (ruleOf b (slotOf b r)) (zeros (slotOf b r))) n ∙ ap zeros (g .unheld b o n) ∙ zeros-good (fieldSize b))
+        (λ n. ap (λ (t : Bool). pick t (heldRule b (slotOf b r)) (zeros (slotOf b r))) n ∙ ap zeros (g .unheld b o n) ∙ zeros-good (fieldSize b))
         (true-or-false (has (heldOf r) b))
 
 -- ---- a record of zeros but for its identifier is good
@@ -296,7 +317,7 @@ module _ (r : List ℕ) (l : length r ≡ recordWords) (z : (i : ℕ) → getD r
   blank-count : (k i : ℕ) → i < 3 → getD (countWords k r) i 0 ≡ 0
   blank-count k i h = count-word k i r h ∙ blank-word (countAt k + i) (omega arith)
 
-  blank-slot : (b : ℕ) → holds b ≡ true → slotOf b r ≡ replicate (fieldSize b) 0
+  blank-slot : (b : ℕ) → slotted b ≡ true → slotOf b r ≡ replicate (fieldSize b) 0
   unfolding slotOf slotIn slotsOf
   blank-slot b o =
       let m : length (part (slotAt b) (fieldSize b) (part headWords slotWords r)) ≡ fieldSize b = slot-length b r l o in
@@ -321,16 +342,24 @@ module _ (r : List ℕ) (l : length r ≡ recordWords) (z : (i : ℕ) → getD r
 
 -- ---- a good record stays good
 
--- a slot that is held is by its rule, also after a packet
-rule-after : (carried : Bool) (b : ℕ) (field slot : List ℕ) → (carried ≡ true → ruleOf b field ≡ true) → (carried ≡ false → ruleOf b slot ≡ true)
-    → ruleOf b (slotAfter carried field slot) ≡ true
+-- a field of which nothing is carried that is held leaves its slot
+slot-stays : (b : ℕ) (carried : Bool) (field slot : List ℕ) → both carried (holds b) ≡ false → slotAfter b carried field slot ≡ slot
 unfolding slotAfter
-rule-after true b field slot f g = f refl
-rule-after false b field slot f g = g refl
+slot-stays b carried field slot e = rw e
 
-slot-stays : (carried : Bool) (field slot : List ℕ) → carried ≡ false → slotAfter carried field slot ≡ slot
-unfolding slotAfter
-slot-stays carried field slot e = rw e
+-- a slot that is held is by its rule, also after a packet
+rule-after : (b : ℕ) (carried : Bool) (field slot : List ℕ) → (carried ≡ true → ruleOf b field ≡ true) → (b ≡ 16 → stateHeld (getD slot 0 0) ≡ true)
+    → (both carried (holds b) ≡ false → heldRule b slot ≡ true) → heldRule b (slotAfter b carried field slot) ≡ true
+unfolding slotAfter heldRule
+rule-after b carried field slot f s g =
+    ⊎-elim
+    (λ (y : both carried (holds b) ≡ true).
+    ⊎-elim
+    (λ (e : eqb b 16 ≡ true).
+    let new : stateHeld (stateAfter (getD field 0 0) (getD slot 0 0)) ≡ true = state-stays-good (getD field 0 0) (getD slot 0 0) (s (eqb-true b 16 e)) in
+    rw (y, e) (both-true _ _ (ap (λ (n : ℕ). ruleOf n (stateAfter (getD field 0 0) (getD slot 0 0) ∷ [])) (eqb-true b 16 e) ∙ state-ruled _ new _ refl) new))
+    (λ (e : eqb b 16 ≡ false). rw (y, e) (both-true _ _ (f (both-left carried (holds b) y)) refl)) (true-or-false (eqb b 16)))
+    (λ (n : both carried (holds b) ≡ false). rw n (g n)) (true-or-false (both carried (holds b)))
 
 -- after a count
 module _ (k count : ℕ) (r : List ℕ) (l : length r ≡ recordWords) (h : k < 4) (small : count < 16) (g : Good r) where
@@ -360,7 +389,7 @@ module _ (k count : ℕ) (r : List ℕ) (l : length r ≡ recordWords) (h : k < 
             ⊎-elim (λ (e : j ≡ k). rw (e, count-count k count r l h) counted-good)
             (λ (n : j ≡ k → ⊥). rw (count-other k count r l h j i n) (g .counts j i)) (same-or-not j k);
         unheld = λ b o n. count-slot k count r l h b ∙ g .unheld b o (sym (ap (λ (m : ℕ). has m b) (count-held k count r l h)) ∙ n);
-        obeys = λ b o y. ap (ruleOf b) (count-slot k count r l h b) ∙ g .obeys b o (sym (ap (λ (m : ℕ). has m b) (count-held k count r l h)) ∙ y);
+        obeys = λ b o y. ap (heldRule b) (count-slot k count r l h b) ∙ g .obeys b o (sym (ap (λ (m : ℕ). has m b) (count-held k count r l h)) ∙ y);
       }
 
 -- after the fields of an accepted packet are held, type 4 having started
@@ -375,18 +404,26 @@ module _ (body r : List ℕ) (l : length r ≡ recordWords) (ok : contextOf body
   bit-after : (b : ℕ) → has (heldOf (holdRecord body r)) b ≡ heldThen b
   bit-after b = ap (λ (m : ℕ). has m b) (hold-held body r l ok) ∙ held-bit (indicatorOf body) (heldOf r) b
 
+  -- whether its field is carried and held
+  abbrev gains : ℕ → Bool
+  gains b = both (has (indicatorOf body) b) (holds b)
+
   hold-bits : (b : ℕ) → heldThen b ≡ true → holds b ≡ true
   hold-bits b e =
       ⊎-elim (λ y. g .bits b y) (λ n. both-right (has ind b) (holds b) (rw n at e)) (true-or-false (has (heldOf r) b))
 
-  -- a bit that is not held after it was neither held nor carried
-  not-held : (b : ℕ) → holds b ≡ true → heldThen b ≡ false → (has (heldOf r) b ≡ false) × (has (indicatorOf body) b ≡ false)
-  not-held b o e =
-      ⊎-elim (λ y. absurd (true-is-false (rw y at e))) (λ n. (n, sym (both-yes (has ind b)) ∙ rw (n, o) at e)) (true-or-false (has (heldOf r) b))
-
-  -- one that is held and not carried was held
-  was-held : (b : ℕ) → has (indicatorOf body) b ≡ false → heldThen b ≡ true → has (heldOf r) b ≡ true
+  -- a bit that is held after it and not gained was held
+  was-held : (b : ℕ) → gains b ≡ false → heldThen b ≡ true → has (heldOf r) b ≡ true
   was-held b c e = ⊎-elim (λ y. y) (λ (n : has (heldOf r) b ≡ false). absurd (true-is-false (sym (rw (n, c) at e)))) (true-or-false (has (heldOf r) b))
+
+  -- the state word that is held is such a word, and so is the zero that stands for none
+  old-state : (b : ℕ) → b ≡ 16 → stateHeld (getD (slotOf b r) 0 0) ≡ true
+  unfolding heldRule
+  old-state b e =
+      let o : slotted b ≡ true = slotted-all b (omega arith) (omega arith) in
+      ⊎-elim (λ y. rw (eq-eqb b 16 e) at (both-right (ruleOf b (slotOf b r)) _ (g .obeys b o y)))
+      (λ n. ap (λ (ws : List ℕ). stateHeld (getD ws 0 0)) (g .unheld b o n) ∙ ap stateHeld (zero-at (fieldSize b) 0) ∙ state-none)
+      (true-or-false (has (heldOf r) b))
 
   pub hold-good : Good (holdRecord body r)
   unfolding heldAfter
@@ -397,11 +434,11 @@ module _ (body r : List ℕ) (l : length r ≡ recordWords) (ok : contextOf body
         started = λ z. absurd (began (sym (ap lastOf (hold-count body r l ok 2 (omega arith))) ∙ z));
         counts = λ k h. rw (hold-count body r l ok k h) (g .counts k h);
         unheld = λ b o n.
-            let u = not-held b o (sym (bit-after b) ∙ n) in
-            hold-slot body r l ok b o ∙ slot-stays (has ind b) (fieldOf b body) (slotOf b r) (u .1) ∙ g .unheld b o (u .0);
+            let u = neither (has (heldOf r) b) (gains b) (sym (bit-after b) ∙ n) in
+            hold-slot body r l ok b o ∙ slot-stays b (has ind b) (fieldOf b body) (slotOf b r) (u .1) ∙ g .unheld b o (u .0);
         obeys = λ b o y.
-            ap (ruleOf b) (hold-slot body r l ok b o)
-            ∙ rule-after (has ind b) b (fieldOf b body) (slotOf b r)
-            (λ c. field-rule b body (held-high b o) c (context-fits body ok) (held-low b o))
+            ap (heldRule b) (hold-slot body r l ok b o)
+            ∙ rule-after b (has ind b) (fieldOf b body) (slotOf b r)
+            (λ c. field-rule b body (slotted-high b o) c (context-fits body ok) (slotted-low b o)) (old-state b)
             (λ c. g .obeys b o (was-held b c (sym (bit-after b) ∙ y)));
       }

@@ -6,14 +6,14 @@ use Rattle.words.specs.Part.{part}
 use Rattle.words.proofs.Cases.{when-most}
 use Rattle.words.proofs.PartLaws.{part-part, part-length}
 use Rattle.fields.specs.Sizes.{fieldSize}
-use Rattle.record.specs.Held.{holds, slotAt}
+use Rattle.record.specs.Held.{slotted, slotAt}
 use Rattle.record.specs.Layout.{headWords, slotWords, recordWords, slotIn, slotsOf, slotOf, isHeld, heldWordsIn}
-use Rattle.record.proofs.SlotLaws.{held-all}
+use Rattle.record.proofs.SlotLaws.{slotted-all}
 use Rattle.record.proofs.HoldLaws.{slot-inside}
 
 module _ (r : List ℕ) (b at z : ℕ) (l : length r ≡ recordWords) (lo : 10 ≤ b) (hi : b ≤ 30) (ea : at ≡ slotAt b) (ez : z ≡ fieldSize b) where
-  held-here : holds b ≡ true
-  held-here = held-all b lo (omega arith)
+  held-here : slotted b ≡ true
+  held-here = slotted-all b lo (omega arith)
 
   pub slot-is : slotOf b r ≡ part (headWords + at) (fieldSize b) r
   unfolding slotOf slotIn slotsOf

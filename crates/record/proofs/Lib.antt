@@ -1,7 +1,9 @@
 -- The laws of records, each beside its kin.
 
--- the held fields and their slots
+-- the fields that have a slot, and those that are held
 pub mod SlotLaws
+-- what is held of a state word
+pub mod StateLaws
 -- the words of a field, copied
 pub mod CopyLaws
 -- fields put into their slots

@@ -5,7 +5,7 @@ use Rattle.words.specs.Tests.{pick}
 use Rattle.words.specs.Outcome.{accepted}
 use Rattle.words.proofs.Cases.{same-or-not}
 use Rattle.fields.specs.Layout.{indicatorOf, contextOf}
-use Rattle.record.specs.Held.{holds}
+use Rattle.record.specs.Held.{slotted}
 use Rattle.record.specs.Layout.{recordWords, identifierOf, heldOf, orderOf, countWords, lastOf, slotOf}
 use Rattle.record.specs.Counts.{countedOf, countRecord, addedTo}
 use Rattle.record.specs.After.{slotAfterBody, heldAfter, holdRecord, recordAfter, addedBy}
@@ -99,7 +99,7 @@ module _ (kind count : ℕ) (body r : List ℕ) (l : length r ≡ recordWords) (
       by-kind (countWords k) _ (λ e. hold-count body counted whole (ok e) k h ∙ i) i
 
   -- a slot has the field's words where a Context packet carries it, and is else as it was
-  pub after-slot : (b : ℕ) → holds b ≡ true → slotOf b (recordAfter kind count body r) ≡ pick (eqb kind 4) (slotAfterBody b body (slotOf b r)) (slotOf b r)
+  pub after-slot : (b : ℕ) → slotted b ≡ true → slotOf b (recordAfter kind count body r) ≡ pick (eqb kind 4) (slotAfterBody b body (slotOf b r)) (slotOf b r)
   after-slot b o =
       let i = count-slot (orderOf kind) count r l (order-small kind) b in
       ⊎-elim (λ e. rw (eq-eqb kind 4 e) (ap (slotOf b) (after-context e) ∙ hold-slot body counted whole (ok e) b o ∙ ap (slotAfterBody b body) i))

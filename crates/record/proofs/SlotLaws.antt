@@ -1,25 +1,25 @@
--- The held fields and their slots. The idea: `inOrder` over the set bits of a number lays each bit's words after those of the bits above it; so the
+-- Fields and their slots. The idea: `inOrder` over the set bits of a number lays each bit's words after those of the bits above it; so the
 -- words at a bit's place are its own (`in-order-at`), and words are what stands at the places of their bits (`in-order-parts`). Once over any bits: a
--- record's slots are the bits of `heldMask`, a page's held words those of a held indicator.
+-- record's slots are the bits of `slotMask`, a page's held words those of a held indicator.
 use Rattle.words.proofs.Kit.{_≡_, refl, sym, ap, _∙_, Bool, true, false, not, ⊎-elim, List, [], _∷_, _++_, ℕ, zero, suc, _+_, _^_, _≤_, _<_, arith}
-use Rattle.words.proofs.Kit.{not-true, le-ltb, ltb, leb, length, drop, getD}
+use Rattle.words.proofs.Kit.{not-true, ne-eqb, le-ltb, eqb, ltb, leb, length, drop, getD}
 use native.Mathlib.Nat.{lt-of-lt-of-le}
 use borrow.Author.Tests.{leb-true}
 use lib.Pow.{pow-mono}
 use lib.ListN.{length-append, length-drop, take-append-drop}
-use Rattle.words.specs.Tests.{pick}
+use Rattle.words.specs.Tests.{pick, both}
 use Rattle.words.specs.Word.{has}
 use Rattle.words.specs.SetBits.{bitsOf, above}
 use Rattle.words.specs.Part.{part}
 use Rattle.words.specs.All.{all, tabled}
 use Rattle.words.proofs.AllLaws.{all-at, tabled-at}
-use Rattle.words.proofs.Cases.{le-or-lt, true-or-false, true-is-false}
+use Rattle.words.proofs.Cases.{le-or-lt, true-or-false, true-is-false, both-left, both-no, agreed}
 use Rattle.words.proofs.PartLaws.{part-is, part-front, part-past, part-drop}
 use Rattle.words.proofs.SetBitLaws.{has-above, bits-zero, bits-yes, bits-no, bits-split, above-none, above-kept}
 use Rattle.fields.specs.Sizes.{fieldSize, sizesOf}
 use Rattle.fields.proofs.SizeLaws.{sizes-none, sizes-more, sizes-append}
 use Rattle.fields.proofs.WalkLaws.{none-left}
-use Rattle.record.specs.Held.{heldMask, holds, heldBits, slotAt, inOrder}
+use Rattle.record.specs.Held.{slotMask, slotted, slotBits, slotAt, heldMask, holds, inOrder}
 use Rattle.record.specs.Layout.{slotWords}
 
 -- ---- places
@@ -126,37 +126,64 @@ in-order-parts (suc k) n ws l =
     at-place : ℕ → ℕ → List ℕ
     at-place m b = part (placed m n b) (fieldSize b) ws
 
--- ---- the held fields: bits 30 to 10
+-- ---- the fields that have a slot: bits 30 to 10
 
-pub held-small : heldMask < 2 ^ 31
-unfolding heldMask
-held-small = omega arith
+pub slots-small : slotMask < 2 ^ 31
+unfolding slotMask
+slots-small = omega arith
 
 outside : ℕ → Bool
-outside b = not (holds b)
+outside b = not (slotted b)
 
 inside : ℕ → Bool
-inside b = pick (ltb b 10) true (holds b)
+inside b = pick (ltb b 10) true (slotted b)
 
-pub held-not : (b : ℕ) → b < 10 → holds b ≡ false
-unfolding all outside holds heldMask
-held-not b h = not-true (holds b) (all-at outside 10 b h refl)
+pub slotted-not : (b : ℕ) → b < 10 → slotted b ≡ false
+unfolding all outside slotted slotMask
+slotted-not b h = not-true (slotted b) (all-at outside 10 b h refl)
 
-pub held-low : (b : ℕ) → holds b ≡ true → 10 ≤ b
-held-low b e = ⊎-elim (λ h. h) (λ (h : b < 10). absurd (true-is-false (sym e ∙ held-not b h))) (le-or-lt 10 b)
+pub slotted-low : (b : ℕ) → slotted b ≡ true → 10 ≤ b
+slotted-low b e = ⊎-elim (λ h. h) (λ (h : b < 10). absurd (true-is-false (sym e ∙ slotted-not b h))) (le-or-lt 10 b)
 
-pub held-high : (b : ℕ) → holds b ≡ true → b < 31
+pub slotted-high : (b : ℕ) → slotted b ≡ true → b < 31
+unfolding slotted
+slotted-high b e =
+    ⊎-elim (λ (h : 31 ≤ b). absurd (true-is-false (sym e ∙ has-above slotMask b (lt-of-lt-of-le slots-small (pow-mono h))))) (λ h. h) (le-or-lt 31 b)
+
+pub slotted-all : (b : ℕ) → 10 ≤ b → b < 31 → slotted b ≡ true
+unfolding all inside slotted slotMask
+slotted-all b h g = rw (le-ltb b 10 h) at (all-at inside 31 b g refl)
+
+-- ---- the held fields: those but 22
+
+as-held : ℕ → Bool
+as-held b = pick (holds b) (both (slotted b) (not (eqb b 22))) (not (both (slotted b) (not (eqb b 22))))
+
+held-is : (b : ℕ) → b < 31 → holds b ≡ both (slotted b) (not (eqb b 22))
+unfolding all as-held holds heldMask slotted slotMask
+held-is b h = agreed (holds b) (both (slotted b) (not (eqb b 22))) (all-at as-held 31 b h refl)
+
+pub held-small : heldMask < 2 ^ 31
+unfolding heldMask slotMask
+held-small = omega arith
+
+pub held-slotted : (b : ℕ) → holds b ≡ true → slotted b ≡ true
 unfolding holds
-held-high b e =
-    ⊎-elim (λ (h : 31 ≤ b). absurd (true-is-false (sym e ∙ has-above heldMask b (lt-of-lt-of-le held-small (pow-mono h))))) (λ h. h) (le-or-lt 31 b)
+held-slotted b e =
+    ⊎-elim (λ (h : 31 ≤ b). absurd (true-is-false (sym e ∙ has-above heldMask b (lt-of-lt-of-le held-small (pow-mono h)))))
+    (λ (h : b < 31). both-left (slotted b) (not (eqb b 22)) (sym (held-is b h) ∙ e)) (le-or-lt 31 b)
 
-pub held-all : (b : ℕ) → 10 ≤ b → b < 31 → holds b ≡ true
-unfolding all inside holds heldMask
-held-all b h g = rw (le-ltb b 10 h) at (all-at inside 31 b g refl)
+pub held-but : (b : ℕ) → slotted b ≡ true → (b ≡ 22 → ⊥) → holds b ≡ true
+held-but b e n = held-is b (slotted-high b e) ∙ rw (e, ne-eqb b 22 n)
+
+pub never-held : holds 22 ≡ false
+never-held = held-is 22 (omega arith) ∙ both-no (slotted 22)
+
+-- ---- the slots
 
 -- "Bits 30 to 10 are 21 fields of 74 words together"
-pub slots-whole : sizesOf heldBits ≡ slotWords
-unfolding heldBits heldMask bitsOf sizesOf fieldSize
+pub slots-whole : sizesOf slotBits ≡ slotWords
+unfolding slotBits slotMask bitsOf sizesOf fieldSize
 slots-whole = refl
 
 -- the table of places has each slot's, by a test that computes once over the whole table
@@ -166,7 +193,7 @@ slotPlaces =
     ∷ 22 ∷ 20 ∷ 19 ∷ 18 ∷ 16 ∷ 14 ∷ 13 ∷ 12 ∷ 11 ∷ 9 ∷ 7 ∷ 5 ∷ 3 ∷ 1 ∷ 0 ∷ 0 ∷ []
 
 pub places-tabled : tabled 32 slotAt slotPlaces ≡ true
-unfolding slotAt heldBits heldMask bitsOf above sizesOf fieldSize all
+unfolding slotAt slotBits slotMask bitsOf above sizesOf fieldSize all
 places-tabled = refl
 
 module _ (places : List ℕ) (b : ℕ) (h : b < 32) (e : tabled 32 slotAt places ≡ true) where
@@ -174,7 +201,7 @@ module _ (places : List ℕ) (b : ℕ) (h : b < 32) (e : tabled 32 slotAt places
   place-is = tabled-at 32 places slotAt b e h
 
   pub place-most : getD places b 0 ≤ slotWords
-  unfolding slotAt heldBits heldMask bitsOf above sizesOf fieldSize all
+  unfolding slotAt slotBits slotMask bitsOf above sizesOf fieldSize all
   place-most = rw place-is (leb-true (slotAt b) slotWords (all-at (λ i. leb (slotAt i) slotWords) 32 b h refl))
 
   pub place-fits : getD places b 0 < 2 ^ 64

@@ -1,5 +1,5 @@
 -- Document 01, 'The table and its page', of a stream's record: "unheld fields .. zero; held fields obey their rules; a count not started has zeros; a last
--- count is at most 15; no field held unless type 4 has started". Each is a test, and `Good` says the same in facts
+-- count is at most 15; no field held unless type 4 has started"; and what of field 16 is held is by document 02, C-11. Each is a test, and `Good` says the same in facts
 -- (proofs/GoodLaws.antt: `good-of`, `of-good`).
 use Rattle.words.specs.Kit.{_≡_, ℕ, _^_, _≤_, _<_, Bool, true, false, List, eqb, leb, length, getD}
 use lib.Bits.{bitAnd}
@@ -9,7 +9,8 @@ use Rattle.words.specs.Word.{has}
 use Rattle.words.specs.All.{all}
 use Rattle.fields.specs.Sizes.{fieldSize}
 use Rattle.fields.specs.Rules.{ruleOf}
-use Rattle.record.specs.Held.{heldMask, holds}
+use Rattle.record.specs.Held.{slotted, heldMask, holds}
+use Rattle.record.specs.State.{stateHeld}
 use Rattle.record.specs.Layout.{heldOf, countWords, seenOf, missingOf, lastOf, slotOf}
 
 -- the words are zero
@@ -27,9 +28,13 @@ countGoodAt r k = countGood (seenOf (countWords k r)) (missingOf (countWords k r
 unfoldable pub heldGood : ℕ → ℕ → Bool
 heldGood held last = both (eqb (bitAnd held heldMask) held) (pick (eqb last 0) (eqb held 0) true)
 
+-- the rule of a held field of bit b: that of the field, and of 16 that the word can be held
+unfoldable pub heldRule : ℕ → List ℕ → Bool
+heldRule b ws = both (ruleOf b ws) (pick (eqb b 16) (stateHeld (getD ws 0 0)) true)
+
 -- "unheld fields .. zero; held fields obey their rules", of the slot of bit b
 unfoldable pub slotGood : List ℕ → ℕ → Bool
-slotGood r b = pick (holds b) (pick (has (heldOf r) b) (ruleOf b (slotOf b r)) (zeros (slotOf b r))) true
+slotGood r b = pick (slotted b) (pick (has (heldOf r) b) (heldRule b (slotOf b r)) (zeros (slotOf b r))) true
 
 -- a record is good
 unfoldable pub recordGood : List ℕ → Bool
@@ -47,5 +52,5 @@ pub record Good (r : List ℕ) : Type 0 where
   pub small : heldOf r < 2 ^ 31
   pub started : lastOf (countWords 2 r) ≡ 0 → heldOf r ≡ 0
   pub counts : (k : ℕ) → k < 4 → GoodCount (seenOf (countWords k r)) (missingOf (countWords k r)) (lastOf (countWords k r))
-  pub unheld : (b : ℕ) → holds b ≡ true → has (heldOf r) b ≡ false → slotOf b r ≡ replicate (fieldSize b) 0
-  pub obeys : (b : ℕ) → holds b ≡ true → has (heldOf r) b ≡ true → ruleOf b (slotOf b r) ≡ true
+  pub unheld : (b : ℕ) → slotted b ≡ true → has (heldOf r) b ≡ false → slotOf b r ≡ replicate (fieldSize b) 0
+  pub obeys : (b : ℕ) → slotted b ≡ true → has (heldOf r) b ≡ true → heldRule b (slotOf b r) ≡ true

@@ -2,6 +2,8 @@
 
 -- which fields are held, and words in field order
 pub mod Held
+-- what is held of a state word
+pub mod State
 -- the words of a record, and what stands where
 pub mod Layout
 -- the count of a type after a packet

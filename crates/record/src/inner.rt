@@ -4,6 +4,7 @@ mod copies;
 mod counts;
 mod good;
 mod held;
+mod state;
 
 pub use after::hear_context;
 pub use after::hear_data;
@@ -12,12 +13,13 @@ pub use counts::count_at;
 pub use counts::type_order;
 pub use good::head_good;
 pub use good::record_good;
-pub use held::HELD;
+pub use held::SLOTTED;
 pub use held::SLOTS;
 pub use held::is_held;
 pub use held::refill;
 pub use held::slot_at;
 pub use held::slot_in;
+pub use state::state_held;
 
 // The words of a record before its slots, those of its slots, and all.
 pub const HEAD_WORDS: usize = 14;

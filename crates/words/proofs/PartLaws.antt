@@ -3,10 +3,10 @@
 -- that the part lies inside, and that what is put is as long as it.
 use Rattle.words.proofs.Kit.{_≡_, refl, sym, ap, _∙_, List, [], _∷_, _++_, ℕ, zero, suc, _+_, _-_, _≤_, _<_, arith, length, take, drop, getD}
 use Rattle.words.proofs.Kit.{set}
-use native.Mathlib.Nat.{zero-add, suc-add}
+use native.Mathlib.Nat.{zero-add, add-zero, suc-add}
 use native.Mathlib.Numerals.{add-one}
 use lib.ListN.{length-append, length-drop}
-use lib.Seq.{length-take-le, take-nil, take-at, drop-at, drop-drop, take-length, take-take, set-split, drop-set-lt, getD-take, getD-drop}
+use lib.Seq.{ext-getD, length-take-le, take-nil, take-at, drop-at, drop-drop, take-length, take-take, set-split, drop-set-lt, getD-take, getD-drop}
 use Rattle.words.specs.Part.{part, put}
 
 -- ---- take and drop, at a place that is not the seam
@@ -63,6 +63,12 @@ part-part i m a n xs h = part-take i m n (drop a xs) h ∙ part-drop i m a xs
 pub getD-part : (a n i : ℕ) (xs : List ℕ) → i < n → getD (part a n xs) i 0 ≡ getD xs (a + i) 0
 unfolding part put
 getD-part a n i xs h = getD-take n (drop a xs) i 0 h ∙ getD-drop a xs i 0
+
+-- one word
+pub part-word : (a : ℕ) (xs : List ℕ) → a + 1 ≤ length xs → part a 1 xs ≡ getD xs a 0 ∷ []
+part-word a xs h =
+    ext-getD 0 (part a 1 xs) (getD xs a 0 ∷ []) (part-length a 1 xs h)
+    (λ i l. let e : i ≡ 0 = omega (arith, part-length a 1 xs h) in rw e (getD-part a 1 0 xs (omega arith) ∙ ap (λ (k : ℕ). getD xs k 0) (add-zero a)))
 
 -- the whole list
 pub part-whole : (xs : List ℕ) → part 0 (length xs) xs ≡ xs

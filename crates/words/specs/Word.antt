@@ -1,5 +1,6 @@
 -- A word of 32 bits, in the two ways that document 01 speaks of one: by the numbers of its bits, and as fields beside each other.
 use Rattle.words.specs.Kit.{ℕ, zero, suc, _+_, _-_, _*_, _/_, _%_, _^_, _<_, Bool, List, [], _∷_, eqb}
+use Rattle.words.specs.Tests.{when}
 
 -- ---- by the numbers of its bits
 
@@ -11,6 +12,11 @@ bits hi (suc lo) w = w / 2 ^ suc lo % 2 ^ (hi - lo)
 -- bit k of a word is set
 abbrev pub has : ℕ → ℕ → Bool
 has w k = eqb (w / 2 ^ k % 2) 1
+
+-- the word of which each bit below k is set where the test of its number holds, and no other
+unfoldable pub marked : ℕ → (ℕ → Bool) → ℕ
+marked zero f = 0
+marked (suc k) f = marked k f + when (f k) (2 ^ k)
 
 -- two words as one number, high first
 abbrev pub highFirst : ℕ → ℕ → ℕ

@@ -4,10 +4,9 @@ ghost use Rattle.words.specs.Tests.{both, among};
 ghost use Rattle.words.specs.Part.{part};
 ghost use Rattle.words.specs.All.{all, tabled};
 ghost use Rattle.fields.specs.Sizes.{fieldSize};
-ghost use Rattle.fields.specs.Rules.{ruleOf};
-ghost use Rattle.record.specs.Held.{holds, slotAt};
+ghost use Rattle.record.specs.Held.{slotted, slotAt};
 ghost use Rattle.record.specs.Layout.{headWords, recordWords, heldOf, countWords, lastOf};
-ghost use Rattle.record.specs.Good.{zeros, countGood, countGoodAt, heldGood, slotGood, recordGood};
+ghost use Rattle.record.specs.Good.{zeros, countGood, countGoodAt, heldGood, heldRule, slotGood, recordGood};
 
 // Whether the two words from a place on are zero.
 fn two_zero(ws: &[u32], at: usize) -> bool
@@ -97,23 +96,26 @@ fn held_good(held: u32, last: u32) -> bool
     held & crate::inner::held::HELD == held
 }
 
-// Whether the words of a slot obey the rule of the field of a bit.
+// Whether the words of a slot obey the rule of the held field of a bit. A state word that can be held obeys the rule of field 16.
 fn rule_good(bit: u32, slot: &[u32]) -> bool
     requires { ⌜ 0 < length (now slot) ⌝ }
-    ensures { λ r. ⌜ r ≡ ruleOf bit (now (slot .entry)) ⌝ }
+    ensures { λ r. ⌜ r ≡ heldRule bit (now (slot .entry)) ⌝ }
 {
     if fields::inner::first_ok(bit, slot[0]) {
         if 17 < bit {
             return true;
+        }
+        if bit == 16 {
+            return crate::inner::state::state_held(slot[0]);
         }
         return fields::inner::more_ok(bit, slot[0], words::inner::word_at(slot, 1));
     }
     false
 }
 
-// Whether the slot of a bit of a held field is good: zero where the field is not held, and else by the field's rule. The tables are lent.
+// Whether the slot of a bit is good: zero where its field is not held, and else by the held field's rule. The tables are lent.
 fn slot_good(rec: &[u32], bit: u32, sizes: &[u8; 32], places: &[u8; 32]) -> bool
-    requires { ⌜ (length (now rec) ≡ recordWords) × (holds bit ≡ true) × (tabled 32 fieldSize (now sizes) ≡ true) × (tabled 32 slotAt (now places) ≡ true) ⌝ }
+    requires { ⌜ (length (now rec) ≡ recordWords) × (slotted bit ≡ true) × (tabled 32 fieldSize (now sizes) ≡ true) × (tabled 32 slotAt (now places) ≡ true) ⌝ }
     ensures { λ r. ⌜ r ≡ slotGood (now (rec .entry)) bit ⌝ }
 {
     let at = crate::inner::HEAD_WORDS + crate::inner::held::slot_in(places, bit);

@@ -4,15 +4,23 @@ ghost use lib.Bits.{bitAnd};
 ghost use Rattle.words.specs.Outcome.{accepted};
 ghost use Rattle.words.specs.All.{tabled};
 ghost use Rattle.fields.specs.Layout.{contextOf};
-ghost use Rattle.record.specs.Held.{heldMask, slotAt};
+ghost use Rattle.record.specs.Held.{slotMask, slotAt};
 ghost use Rattle.record.specs.Layout.{slotWords, recordWords, isHeld};
-ghost use Rattle.record.specs.After.{Inside, refilled, holdRecord};
+ghost use Rattle.record.specs.After.{Inside, refilled, slotsAfter, holdRecord};
 
-// The bits of the held fields, 30 to 10.
-pub const HELD: u32 = 0x7FFF_FC00;
+// The bits of the fields that have a slot, 30 to 10.
+pub const SLOTTED: u32 = 0x7FFF_FC00;
 
-// Where the slot of a field begins among the slots, by the field's bit. The slots stand in field order, bit 30 first, so a slot begins after the words of
-// the held fields of higher bits: bit 30 at 0, bit 29 at 1, down to bit 10 at 73. A bit that is not held has no slot, and its entry, 74 or 0, is not used.
+// Those of the held fields: 22 is checked in a packet, and never held.
+pub const HELD: u32 = 0x7FBF_FC00;
+
+// Where the slots of field 22, the over-range count, and of field 16, the state word, stand among the slots. Each has one word.
+const OVER_RANGE_AT: usize = 13;
+
+const STATE_AT: usize = 22;
+
+// Where the slot of a field begins among the slots, by the field's bit. The slots stand in field order, bit 30 first, so a slot begins after those of higher
+// bits: bit 30 at 0, bit 29 at 1, down to bit 10 at 73. The entry of a bit that has no slot, 74 or 0, is not used.
 pub const SLOTS: [u8; 32] = [
     74,
     74,
@@ -75,7 +83,7 @@ pub fn slot_at(bit: u32) -> usize
 
 // Each field of these bits into its slot, whole. The fields stand in the source one after the other, from a place on.
 pub fn refill(slots: &mut [u32], bits: u32, source: &[u32], at: usize)
-    requires { ⌜ (length (now slots) ≡ slotWords) × (bitAnd bits heldMask ≡ bits) × Inside bits at (now source) ⌝ }
+    requires { ⌜ (length (now slots) ≡ slotWords) × (bitAnd bits slotMask ≡ bits) × Inside bits at (now source) ⌝ }
     ensures { λ _. ⌜ now (slots .exit) ≡ refilled bits at (now (source .entry)) (now (slots .entry)) ⌝ }
 {
     let sizes = fields::inner::SIZES;
@@ -91,18 +99,29 @@ pub fn refill(slots: &mut [u32], bits: u32, source: &[u32], at: usize)
     }
 }
 
-// Holds the fields that a Context packet carries: each replaces its slot whole, and the held indicator gains its bit.
+// The slots after a Context packet: each field that it carries replaces its slot whole; then field 22 has what it had, and field 16 what the packet's state word
+// makes of what it had. A packet without one leaves the word in its slot, which changes nothing of itself.
+fn hold_fields(slots: &mut [u32], body: &[u32])
+    requires { ⌜ (length (now slots) ≡ slotWords) × (contextOf (now body) ≡ accepted tt) ⌝ }
+    ensures { λ _. ⌜ now (slots .exit) ≡ slotsAfter (now (body .entry)) (now (slots .entry)) ⌝ }
+{
+    let count = slots[OVER_RANGE_AT];
+    let state = slots[STATE_AT];
+    refill(slots, body[0] & SLOTTED, body, 1);
+    let word = slots[STATE_AT];
+    slots[OVER_RANGE_AT] = count;
+    slots[STATE_AT] = crate::inner::state::state_after(word, state);
+}
+
+// Holds the fields that a Context packet carries: the slots are those after it, and the held indicator gains the bits of held fields.
 pub fn hold(rec: &mut [u32], body: &[u32])
     requires { ⌜ (length (now rec) ≡ recordWords) × (contextOf (now body) ≡ accepted tt) ⌝ }
     ensures { λ _. ⌜ now (rec .exit) ≡ holdRecord (now (body .entry)) (now (rec .entry)) ⌝ }
 {
-    let bits = body[0] & HELD;
     let held = rec[crate::inner::HELD_AT];
-    refill(
+    hold_fields(
         &mut rec[crate::inner::HEAD_WORDS..crate::inner::RECORD_WORDS],
-        bits,
         body,
-        1,
     );
-    rec[crate::inner::HELD_AT] = held | bits;
+    rec[crate::inner::HELD_AT] = held | (body[0] & HELD);
 }

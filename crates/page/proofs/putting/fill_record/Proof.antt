@@ -1,6 +1,6 @@
 -- `fill_record` meets its promise: the first words are copied, the slots are lent to `refill`, and `filled-record` says what that leaves.
 use Rattle.words.proofs.Kit.{arith, needs}
-use Rattle.record.specs.Held.{heldMask}
+use Rattle.record.specs.Held.{slotMask}
 use Rattle.record.proofs.AfterLaws.{masked-within}
 use Rattle.page.proofs.BodyLaws.{body-some}
 use Rattle.page.proofs.PutLaws.{zeroed-length, fields-inside, refill-slots, filled-record}
@@ -8,7 +8,7 @@ use Rattle.page.proofs.putting.fill_record.Statement.{statement}
 use Rattle.page.proofs.putting.fill_record.Tie as tie
 
 pub fill-record-spec : {M : Type 1} → statement M
-unfolding heldMask
+unfolding slotMask
 fill-record-spec =
     tie.close
     (tie.spec

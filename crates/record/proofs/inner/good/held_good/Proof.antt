@@ -3,14 +3,14 @@ use Rattle.words.proofs.Kit.{_≡_, refl, sym, Bool, true, false, ℕ, eqb, ne-
 use lib.Bits.{bitAnd}
 use Rattle.words.specs.Tests.{pick}
 use Rattle.words.proofs.Cases.{both-yes, both-no}
-use Rattle.record.specs.Held.{heldMask}
+use Rattle.record.specs.Held.{slotMask, heldMask}
 use Rattle.record.specs.Good.{heldGood}
 use Rattle.record.proofs.inner.good.held_good.Statement.{statement}
 use Rattle.record.proofs.inner.good.held_good.Tie as tie
 
 module _ (held last : ℕ) where
   none-held : held ≡ 0 → true ≡ heldGood held last
-  unfolding heldGood heldMask
+  unfolding heldGood heldMask slotMask
   none-held e = rw e (either-way (eqb last 0))
     where
       either-way : (t : Bool) → true ≡ pick t true true
@@ -22,7 +22,7 @@ module _ (held last : ℕ) where
   held-early some e = let f = ne-eqb held 0 some in let g = eq-eqb last 0 e in rw (g, f) (sym (both-no (eqb (bitAnd held heldMask) held)))
 
 returns-3 : tie.Need-returns-3
-unfolding heldGood heldMask
+unfolding heldGood heldMask slotMask
 returns-3 c =
     let start : tie.Start = search in
     let late = ne-eqb (start .args .last) 0 (λ e. absurd (omega (arith, e))) in

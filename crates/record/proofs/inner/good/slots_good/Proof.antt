@@ -3,7 +3,7 @@ use Rattle.words.proofs.Kit.{refl, _≤_, _-_, needs}
 use Rattle.words.specs.All.{all}
 use Rattle.fields.specs.Sizes.{fieldSize}
 use Rattle.record.specs.Good.{slotGood}
-use Rattle.record.proofs.SlotLaws.{held-all, places-tabled}
+use Rattle.record.proofs.SlotLaws.{slotted-all, places-tabled}
 use Rattle.record.proofs.GoodLaws.{Passing, passing-fails, passing-turn, passing-end, slots-start}
 use Rattle.record.proofs.inner.good.slots_good.Statement.{statement}
 use Rattle.record.proofs.inner.good.slots_good.Tie as tie
@@ -16,7 +16,7 @@ abbrev μ-loop : tie.MeasureT-loop
 
 slot-good-requires : tie.Need-slot-good-requires Inv-loop μ-loop
 unfolding fieldSize all
-slot-good-requires c κs = (search, search held-all, refl, places-tabled)
+slot-good-requires c κs = (search, search slotted-all, refl, places-tabled)
 
 pub slots-good-spec : {M : Type 1} → statement M
 slots-good-spec =

@@ -1,0 +1,109 @@
+-- A field and its things. The idea: what a good record holds of a field is what its things make of it (`field-held`): a whole field is its one thing, and the
+-- state word is that of its user bits and indicators, bit by bit, since it has no other bit (`held-silent`).
+use Rattle.words.proofs.Kit.{_≡_, refl, sym, ap, _∙_, Bool, true, false, not, ⊎-elim, List, [], _∷_, ℕ, _+_, _-_, _%_, _^_, _≤_, _<_, arith, eq-eqb}
+use Rattle.words.proofs.Kit.{eqb-true, ne-eqb, lt-ltb, le-ltb, le-leb, lt-leb, eqb, leb, ltb, length, getD}
+use mathlib.Core.Option.{Option, none, some}
+use Rattle.words.specs.Tests.{pick, when, both}
+use Rattle.words.specs.Word.{has, marked}
+use Rattle.words.specs.Part.{part}
+use Rattle.words.proofs.Cases.{true-or-false, true-is-false, le-or-lt, same-or-not, both-no, both-true, both-right}
+use Rattle.words.proofs.BitLaws.{has-low, word-same, marked-small, marked-has, marked-same}
+use Rattle.words.proofs.PartLaws.{part-length}
+use Rattle.record.specs.Layout.{headWords, slotWords, recordWords, heldOf, slotsOf, slotOf}
+use Rattle.record.specs.State.{spoken, stateHeld}
+use Rattle.record.specs.Good.{heldRule, Good}
+use Rattle.record.proofs.StateLaws.{held-word, held-silent, held-enabled, spoken-none, spoken-not}
+use Rattle.record.proofs.AfterLaws.{state-word}
+use Rattle.fields.specs.Rules.{ruleOf}
+use Rattle.demands.specs.Things.{Thing, wholeField, indicator, userBits, kept, whole, persistent, isThere, wordsBy, wordBy, stateOf, fieldBy}
+use Rattle.demands.specs.Right.{heldIn}
+use Rattle.demands.proofs.RecordLaws.{kept-same, state-slotted}
+
+-- ---- things that are the same make the same field
+
+pub field-same : (b : ℕ) (f g : Thing → Option (List ℕ)) → ((x : Thing) → f x ≡ g x) → fieldBy b f ≡ fieldBy b g
+unfolding stateOf
+field-same b f g e =
+    let word = marked-same 32 _ _ (λ i l. rw (e userBits, e (indicator (i + 12)), e (indicator i))) in
+    rw (e userBits, e (wholeField b), word)
+
+pub there-pick : {A : Type 0} (t : Bool) (a : A) → isThere (pick t (some a) none) ≡ t
+there-pick true a = refl
+there-pick false a = refl
+
+-- the value of an indicator: e is whether it is enabled, and v its value bit, which is not set without the enable
+lit : (e v : Bool) → (v ≡ true → e ≡ true) → eqb (wordBy (pick e (some (when v 1 ∷ [])) none)) 1 ≡ v
+lit true true f = refl
+lit true false f = refl
+lit false true f = sym (f refl)
+lit false false f = refl
+
+-- ---- what a good record holds
+
+module _ (r : List ℕ) (l : length r ≡ recordWords) (g : Good r) where
+  abbrev held : Thing → Option (List ℕ)
+  held x = heldIn x r
+
+  abbrev state : ℕ
+  state = getD (slotOf 16 r) 0 0
+
+  -- a field that is held, but for 16, is replaced whole
+  whole-there : (b : ℕ) → (b ≡ 16 → ⊥) → both (whole b) (has (heldOf r) b) ≡ has (heldOf r) b
+  whole-there b n =
+      ⊎-elim (λ h. rw (h, kept-same b ∙ g .bits b h, ne-eqb b 16 n)) (λ h. rw (h, both-no (whole b))) (true-or-false (has (heldOf r) b))
+
+  module _ (h : has (heldOf r) 16 ≡ true) where
+    good-state : stateHeld state ≡ true
+    unfolding heldRule
+    good-state = both-right (ruleOf 16 (slotOf 16 r)) _ (g .obeys 16 state-slotted h)
+
+    -- bit by bit
+    user-bit : (i : ℕ) → i < 8 → has (wordBy (held userBits)) i ≡ has state i
+    user-bit i s = rw h (has-low state 8 i s)
+
+    value-bit : (i : ℕ) → i < 20 → 8 ≤ i → eqb (wordBy (held (indicator (i + 12)))) 1 ≡ has state i
+    value-bit i s t =
+        ⊎-elim
+        (λ (m : 14 ≤ i).
+        let back : i + 12 - 12 ≡ i = omega arith in
+        rw (h, le-leb 26 (i + 12) (omega arith), le-leb (i + 12) 31 (omega arith), back)
+        (lit (has state (i + 12)) (has state i) (held-enabled state good-state i m s)))
+        (λ (m : i < 14).
+        rw (lt-leb 26 (i + 12) (omega arith)) (sym (held-silent state good-state i (omega arith) (spoken-none state i t m))))
+        (le-or-lt 14 i)
+
+    enable-bit : (i : ℕ) → 20 ≤ i → i < 32 → isThere (held (indicator i)) ≡ has state i
+    enable-bit i s t =
+        ⊎-elim
+        (λ (m : 26 ≤ i). rw (h, le-leb 26 i m, le-leb i 31 (omega arith)) (there-pick (has state i) _))
+        (λ (m : i < 26). rw (lt-leb 26 i m) (sym (held-silent state good-state i t (spoken-not state i s m))))
+        (le-or-lt 26 i)
+
+    state-is : stateOf held ≡ state
+    unfolding stateOf
+    state-is =
+        word-same 32 _ state (marked-small 32 _) (held-word state good-state)
+        (λ i s.
+        marked-has 32 _ i s
+        ∙ ⊎-elim
+        (λ (a : 8 ≤ i).
+        ⊎-elim (λ (b : 20 ≤ i). rw (le-ltb i 8 a, le-ltb i 20 b) (enable-bit i b s)) (λ (b : i < 20). rw (le-ltb i 8 a, lt-ltb i 20 b) (value-bit i b a))
+        (le-or-lt 20 i))
+        (λ (a : i < 8). rw (lt-ltb i 8 a) (user-bit i a)) (le-or-lt 8 i))
+
+    slot-is : slotOf 16 r ≡ stateOf held ∷ []
+    slot-is = slot-word ∙ ap (λ (n : ℕ). n ∷ []) (sym state-is)
+      where
+        slot-word : slotOf 16 r ≡ getD (slotOf 16 r) 0 0 ∷ []
+        unfolding slotOf slotsOf
+        slot-word =
+            let w = state-word (part headWords slotWords r) (part-length headWords slotWords r (omega (arith, l))) in
+            w ∙ sym (ap (λ (ws : List ℕ). getD ws 0 0 ∷ []) w)
+
+  pub field-held : (b : ℕ) → pick (has (heldOf r) b) (some (slotOf b r)) none ≡ fieldBy b (λ x. heldIn x r)
+  field-held b =
+      ⊎-elim
+      (λ (e : b ≡ 16).
+      rw (e)
+      (⊎-elim (λ h. rw h (ap some (slot-is h))) (λ h. rw h) (true-or-false (has (heldOf r) 16))))
+      (λ (n : b ≡ 16 → ⊥). rw (ne-eqb b 16 n, whole-there b n)) (same-or-not b 16)
