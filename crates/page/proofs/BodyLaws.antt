@@ -17,12 +17,12 @@ use Rattle.words.proofs.Cases.{both-left, true-or-false}
 use Rattle.words.proofs.PartLaws.{getD-part, part-length, part-front, part-past, part-whole, part-is}
 use Rattle.fields.specs.Sizes.{fieldSize, sizesOf}
 use Rattle.fields.proofs.SizeLaws.{sizes-none, sizes-more}
-use Rattle.record.specs.Held.{slotMask, slotted, slotBits, slotAt}
+use Rattle.record.specs.Held.{slotMask, slotted, slotBits, slotAt, heldMask}
 use Rattle.record.specs.Layout.{headWords, slotWords, recordWords, heldOf, countWords, lastOf, slotIn, slotsOf, slotOf}
 use Rattle.record.specs.After.{slotFilled, refilled, heldWords}
 use Rattle.record.specs.Good.{recordGood, heldGood}
 use Rattle.record.proofs.SlotLaws.{placed, placed-inside, in-order-length, in-order-at, slots-whole, slotted-high}
-use Rattle.record.proofs.HoldLaws.{slot-inside}
+use Rattle.record.proofs.HoldLaws.{slot-inside, within-bits, held-within}
 use Rattle.record.proofs.GoodLaws.{zero-at, good-of}
 use Rattle.record.proofs.SqueezeLaws.{refilled-drop, held-length, refilled-held, held-refilled}
 use Rattle.page.specs.Body.{pageBody, pageBodyWords, recordOf}
@@ -48,12 +48,12 @@ unfolding recordOf
 record-word b i h g = front-word i b _ h g
 
 -- first words that are good hold no bit but those of held fields; and so a good record
-pub head-within : (r : List ℕ) (rest : Bool) → both (heldGood (heldOf r) (lastOf (countWords 2 r))) rest ≡ true → bitAnd (heldOf r) slotMask ≡ heldOf r
+pub head-within : (r : List ℕ) (rest : Bool) → both (heldGood (heldOf r) (lastOf (countWords 2 r))) rest ≡ true → bitAnd (heldOf r) heldMask ≡ heldOf r
 unfolding heldGood
 head-within r rest e =
-    eqb-true _ _ (both-left (eqb (bitAnd (heldOf r) slotMask) (heldOf r)) _ (both-left (heldGood (heldOf r) (lastOf (countWords 2 r))) rest e))
+    eqb-true _ _ (both-left (eqb (bitAnd (heldOf r) heldMask) (heldOf r)) _ (both-left (heldGood (heldOf r) (lastOf (countWords 2 r))) rest e))
 
-pub good-within : (r : List ℕ) → recordGood r ≡ true → bitAnd (heldOf r) slotMask ≡ heldOf r
+pub good-within : (r : List ℕ) → recordGood r ≡ true → bitAnd (heldOf r) heldMask ≡ heldOf r
 unfolding recordGood
 good-within r e = head-within r _ e
 
@@ -84,12 +84,12 @@ module _ (r : List ℕ) (l : length r ≡ recordWords) (e : recordGood r ≡ tru
   unfolding pageBody pageBodyWords
   body-length =
       length-append (part 0 headWords r) _
-      ∙ omega (arith, head-length, held-length (heldOf r) (good-within r e) (slotsOf r) slots-length)
+      ∙ omega (arith, head-length, held-length (heldOf r) (held-within (heldOf r) (good-within r e)) (slotsOf r) slots-length)
 
   slots-back : refilled (heldOf r) 0 (heldWords (heldOf r) (slotsOf r)) (replicate slotWords 0) ≡ slotsOf r
   unfolding slotOf
   slots-back =
-      refilled-held (heldOf r) (good-within r e) (slotsOf r) (replicate slotWords 0) slots-length
+      refilled-held (heldOf r) (held-within (heldOf r) (good-within r e)) (slotsOf r) (replicate slotWords 0) slots-length
       (λ b o n. zero-slot b o ∙ sym (good-of r l e .unheld b o n))
 
   pub record-body : recordOf (pageBody r) ≡ r
@@ -130,6 +130,15 @@ every-size = refl
 pub words-most : (held : ℕ) → pageBodyWords held ≤ recordWords
 unfolding pageBodyWords
 words-most held = omega (arith, sizes-within 31 held (2 ^ 31 - 1) (λ b h y. every-bit b h), every-size)
+
+-- those that are held have 73
+held-size : sizesOf (bitsOf 31 heldMask) ≡ 73
+unfolding bitsOf heldMask slotMask sizesOf fieldSize
+held-size = refl
+
+pub held-most : (held : ℕ) → bitAnd held heldMask ≡ held → pageBodyWords held ≤ 87
+unfolding pageBodyWords
+held-most held w = omega (arith, sizes-within 31 held heldMask (λ b h y. within-bits heldMask held w b y), held-size)
 
 -- the loop that adds the fields: its start, a turn and its end. The length so far and the words of the bits that are left are the whole
 abbrev pub Adding : ℕ → ℕ → ℕ → Type 0

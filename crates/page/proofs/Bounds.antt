@@ -1,7 +1,7 @@
--- How long a page is: "at least 2 + 16S and at most 2 + 90S words". The idea: a body has its 14 first words and at most the 74 words of all held fields
--- (`words-most`). So no page reaches SIZE (`page-small`).
+-- How long a page is: "at least 2 + 16S" words (document 01), and "A body has at most 87 words and a page at most 2 + 89S" (C-11). The idea: a body has its 14
+-- first words and at most the 73 words of all held fields (`held-most`). So no page reaches SIZE (`page-small`).
 use Rattle.words.proofs.Kit.{_≡_, ap, true, List, ℕ, zero, suc, _+_, _*_, _≤_, _<_, arith, length}
-use Rattle.record.specs.Layout.{headWords, recordWords, heldOf}
+use Rattle.record.specs.Layout.{headWords, heldOf}
 use Rattle.table.specs.Layout.{streamsOf, recordAt}
 use Rattle.table.specs.Well.{wellMade}
 use Rattle.table.proofs.RecordLaws as Records
@@ -10,7 +10,7 @@ use Rattle.words.specs.Pieces.{pieces}
 use Rattle.page.specs.Body.{pageBodyWords}
 use Rattle.page.specs.Layout.{offsetOf, savedBody, pageOf, pageLength, mostWords}
 use Rattle.words.proofs.PieceLaws.{pieces-none, pieces-next}
-use Rattle.page.proofs.BodyLaws.{words-most, body-length}
+use Rattle.page.proofs.BodyLaws.{good-within, held-most, body-length}
 use Rattle.page.proofs.LayoutLaws.{page-length}
 
 -- pieces of bounded length
@@ -23,20 +23,19 @@ pieces-between (suc n) least most f h =
     (omega (arith, p .0, q .0, pieces-next n f), omega (arith, p .1, q .1, pieces-next n f))
 
 module _ (t : List ℕ) (w : wellMade t ≡ true) where
-  saved-between : (s : ℕ) → s < streamsOf t → (headWords ≤ length (savedBody t s)) × (length (savedBody t s) ≤ recordWords)
+  saved-between : (s : ℕ) → s < streamsOf t → (headWords ≤ length (savedBody t s)) × (length (savedBody t s) ≤ 87)
   unfolding savedBody pageBodyWords
   saved-between s h =
       let l = body-length (recordAt s t) (Records.record-length s t (layout-has t s (well-whole t w) h)) (well-record t w s h) in
-      (omega (arith, l), omega (arith, l, words-most (heldOf (recordAt s t))))
+      (omega (arith, l), omega (arith, l, held-most (heldOf (recordAt s t)) (good-within (recordAt s t) (well-record t w s h))))
 
-  -- "at least 2 + 16S and at most 2 + 90S words"
-  pub page-between : (2 + 16 * streamsOf t ≤ pageLength t) × (pageLength t ≤ 2 + 90 * streamsOf t)
+  pub page-between : (2 + 16 * streamsOf t ≤ pageLength t) × (pageLength t ≤ 2 + 89 * streamsOf t)
   unfolding pageLength offsetOf
   page-between =
-      let b = pieces-between (streamsOf t) headWords recordWords (savedBody t) saved-between in
+      let b = pieces-between (streamsOf t) headWords 87 (savedBody t) saved-between in
       (omega (arith, b .0), omega (arith, b .1))
 
-  -- "514 to 2,882 for 32": no page exceeds 65,535 words
+  -- so no page exceeds 65,535 words
   pub page-small : pageLength t ≤ mostWords
   page-small = omega (arith, page-between .1, well-few t w)
 

@@ -24,6 +24,7 @@ use Rattle.page.specs.Body.{pageBody, pageBodyWords, recordOf}
 use Rattle.page.specs.Layout.{pageFrom, savedBody, pageOf, bodiesIn, offsetAt, pageBodyAt, savedRecord, tableFrom, tableOf}
 use Rattle.page.specs.Good.{pageGood}
 use Rattle.page.specs.inner.Tested.{contentsGood, identifierAt, recordGoodIn, pageOk, GoodContents}
+use Rattle.record.proofs.HoldLaws.{held-within}
 use Rattle.page.proofs.BodyLaws.{body-word, record-word, good-within, body-length, record-body, body-some, record-length, body-record}
 use Rattle.page.proofs.LayoutLaws.{body-in, page-same, page-again, table-length, record-in, table-same, table-again}
 use Rattle.page.proofs.ContentsLaws.{contents-of, of-contents, page-contents, word-in, body-words}
@@ -132,7 +133,7 @@ module _ (p : List ℕ) (e : pageOk p ≡ true) where
   unfolding savedBody savedRecord
   body-back s rest h =
       let held : heldOf (savedRecord p s) ≡ heldOf (pageBodyAt p s) = ok-word s 1 h (omega arith) in
-      ap pageBody (back-record s rest h) ∙ body-record (pageBodyAt p s) (ok-words s h) (rw held at (good-within (savedRecord p s) (ok-record s h)))
+      ap pageBody (back-record s rest h) ∙ body-record (pageBodyAt p s) (ok-words s h) (held-within (heldOf (pageBodyAt p s)) (rw held at (good-within (savedRecord p s) (ok-record s h))))
 
   pub page-back : (rest : List ℕ) → pageOf (tableOf p ++ rest) ≡ p
   unfolding pageOf tableOf tableFrom

@@ -1,40 +1,41 @@
 -- How a program tests a page. The idea: while the pairs before it are right, body s begins where the lengths say (`Paired`), so one pass tests them all; the
 -- identifiers are gathered into a list (`Gathering`), and each test is a row of its definition. The record of a body need not be made to be tested: its
 -- first words are the body's, the slots of held fields have the words that a walk over the body finds, and the other slots are zero (`rules-below`).
-use Rattle.words.proofs.Kit.{_≡_, refl, sym, ap, ap₂, _∙_, Bool, true, false, not, ⊎-elim, List, ℕ, zero, suc, _+_, _-_, _*_, _^_, _≤_, _<_, arith}
+use Rattle.words.proofs.Kit.{_≡_, refl, sym, ap, ap₂, _∙_, Bool, true, false, not, ⊎-elim, List, ℕ, zero, suc, _+_, _-_, _*_, _/_, _%_, _^_, _≤_, _<_, arith}
 use Rattle.words.proofs.Kit.{eq-eqb, ne-eqb, le-leb, lt-leb, not-true, not-false, eqb, leb, length, take, drop, getD, set}
-use native.Mathlib.Nat.{zero-add, one-mul, lt-of-le-of-lt}
+use native.Mathlib.Nat.{zero-add, add-zero, one-mul, mod-lt}
 use native.Mathlib.Numerals.{add-one}
-use lib.Bits.{bitAnd, and-le-r}
+use lib.Bits.{bitAnd}
 use lib.ListN.{length-set}
-use lib.Seq.{getD-set-same, getD-set-other, drop-drop}
-use Rattle.words.specs.Tests.{both}
+use lib.Seq.{getD-set-same, getD-set-other, getD-drop, drop-drop}
+use Rattle.words.specs.Tests.{pick, both}
 use Rattle.words.specs.Word.{has}
 use Rattle.words.specs.SetBits.{bitsOf}
 use Rattle.words.specs.All.{all}
 use Rattle.words.proofs.Cases.{le-or-lt, true-or-false, both-yes, both-no, pick-true}
 use Rattle.words.proofs.AllLaws.{all-none, all-more, all-fails, all-end, all-same}
-use Rattle.words.proofs.PartLaws.{part-is}
-use Rattle.words.proofs.SetBitLaws.{bits-zero, bits-yes, bits-no}
+use Rattle.words.proofs.PartLaws.{part-is, getD-part}
+use Rattle.words.proofs.SetBitLaws.{bits-zero, bits-yes, bits-no, bits-trim, bits-mod}
 use Rattle.fields.specs.Sizes.{fieldSize, sizesOf}
 use Rattle.fields.specs.Rules.{ruleOf}
 use Rattle.fields.specs.Layout.{obeyed}
 use Rattle.fields.proofs.PlaceLaws.{rest-whole}
-use Rattle.fields.proofs.SizeLaws.{sizes-more, words-fixed}
+use Rattle.fields.proofs.SizeLaws.{sizes-more, size-some, words-fixed}
 use Rattle.fields.proofs.RuleLaws.{rule-own}
 use Rattle.fields.proofs.WalkLaws.{rules-cons}
 use Rattle.record.specs.Held.{slotMask, slotted}
-use Rattle.record.specs.Layout.{headWords, heldOf, countAt, countWords, lastOf}
+use Rattle.record.specs.State.{stateHeld}
+use Rattle.record.specs.Layout.{headWords, heldOf, countAt, countWords, lastOf, slotOf}
 use Rattle.record.specs.After.{slotFilled}
-use Rattle.record.specs.Good.{countGoodAt, heldGood, slotGood, recordGood}
-use Rattle.record.proofs.SlotLaws.{placed, placed-split, slots-small, slotted-low, slotted-high}
-use Rattle.record.proofs.HoldLaws.{within-slotted}
-use Rattle.record.proofs.GoodLaws.{counts-at, last-at, zeros-good, good-head-ill, good-slots}
+use Rattle.record.specs.Good.{countGoodAt, heldGood, recordGood}
+use Rattle.record.proofs.SlotLaws.{placed, placed-split, slotted-low, slotted-high, slotted-all}
+use Rattle.record.proofs.HoldLaws.{within-small, within-slotted, held-within}
+use Rattle.record.proofs.GoodLaws.{slotRuled, slots-apart, counts-at, last-at, zeros-good, good-head-ill, good-slots}
 use Rattle.table.specs.Identifiers.{spaced, listGood}
 use Rattle.table.proofs.ListLaws.{list-same}
 use Rattle.page.specs.Body.{pageBodyWords, recordOf}
 use Rattle.page.specs.Layout.{contentsWords, bodiesIn, offsetAt, lengthAt, beginsAt}
-use Rattle.page.specs.inner.Tested.{pairGood, pairsGood, contentsGood, identifierAt, Gathered, recordGoodIn, pageOk}
+use Rattle.page.specs.inner.Tested.{pairGood, pairsGood, contentsGood, identifierAt, Gathered, stateGoodIn, recordGoodIn, pageOk}
 use Rattle.page.proofs.BodyLaws.{head-within, body-some, record-word, record-slot}
 use Rattle.page.proofs.ContentsLaws.{pair-of, contents-of}
 
@@ -134,21 +135,21 @@ both-swap false t = sym (both-no t)
 
 module _ (b : List ℕ) (l : length b ≡ pageBodyWords (heldOf b)) where
   -- the slot of a field that is held, and of one that is not
-  slot-held : (x : ℕ) → slotted x ≡ true → has (heldOf b) x ≡ true → slotGood (recordOf b) x ≡ ruleOf x (drop (placed 31 (heldOf b) x) (drop headWords b))
-  unfolding slotGood slotFilled
+  slot-held : (x : ℕ) → slotted x ≡ true → has (heldOf b) x ≡ true → slotRuled (recordOf b) x ≡ ruleOf x (drop (placed 31 (heldOf b) x) (drop headWords b))
+  unfolding slotFilled
   slot-held x o y =
       let h : heldOf (recordOf b) ≡ heldOf b = record-word b 1 (omega arith) (body-some b l) in
       rw (o, h, y, record-slot b l x o, y, part-is (placed 31 (heldOf b) x) (fieldSize x) (drop headWords b)) (rule-own x _ (slotted-low x o) (slotted-high x o))
 
-  slot-blank : (x : ℕ) → has (heldOf b) x ≡ false → slotGood (recordOf b) x ≡ true
-  unfolding slotGood slotFilled
+  slot-blank : (x : ℕ) → has (heldOf b) x ≡ false → slotRuled (recordOf b) x ≡ true
+  unfolding slotFilled
   slot-blank x n =
       let h : heldOf (recordOf b) ≡ heldOf b = record-word b 1 (omega arith) (body-some b l) in
       pick-true (slotted x) _ (λ o. rw (h, n, record-slot b l x o, n) (zeros-good (fieldSize x)))
 
   -- the fields of the bits below k, which stand from a on among the held words
   rules-below : (k a : ℕ) → bitAnd (heldOf b) slotMask ≡ heldOf b → k ≤ 31 → a + sizesOf (bitsOf k (heldOf b)) ≡ sizesOf (bitsOf 31 (heldOf b))
-      → obeyed (bitsOf k (heldOf b)) (drop a (drop headWords b)) ≡ all k (slotGood (recordOf b))
+      → obeyed (bitsOf k (heldOf b)) (drop a (drop headWords b)) ≡ all k (slotRuled (recordOf b))
   unfolding all obeyed
   rules-below zero a w h e = rw (bits-zero (heldOf b))
   rules-below (suc k) a w h e =
@@ -162,12 +163,25 @@ module _ (b : List ℕ) (l : length b ≡ pageBodyWords (heldOf b)) where
       ap (λ (bs : List ℕ). obeyed bs (drop a ws)) (bits-yes k held y)
       ∙ rules-cons k (fieldSize k) a (bitsOf k held) ws (sym (words-fixed k (drop a ws) (slotted-low k o)))
       ∙ ap₂ both (ap (λ (n : ℕ). ruleOf k (drop n ws)) i ∙ sym (slot-held k o y)) (rules-below k (a + fieldSize k) w (omega arith) (omega (arith, e, f)))
-      ∙ both-swap (slotGood (recordOf b) k) (all k (slotGood (recordOf b))))
+      ∙ both-swap (slotRuled (recordOf b) k) (all k (slotRuled (recordOf b))))
       (λ (n : has held k ≡ false).
       ap (λ (bs : List ℕ). obeyed bs (drop a ws)) (bits-no k held n)
       ∙ rules-below k a w (omega arith) (omega (arith, e, ap sizesOf (bits-no k held n)))
-      ∙ sym (ap (both (all k (slotGood (recordOf b)))) (slot-blank k n) ∙ both-yes (all k (slotGood (recordOf b)))))
+      ∙ sym (ap (both (all k (slotRuled (recordOf b)))) (slot-blank k n) ∙ both-yes (all k (slotRuled (recordOf b)))))
       (true-or-false (has held k))
+
+  -- the state word of the record is that of the body
+  state-in : stateGoodIn b ≡ pick (has (heldOf (recordOf b)) 16) (stateHeld (getD (slotOf 16 (recordOf b)) 0 0)) true
+  unfolding stateGoodIn slotFilled
+  state-in =
+      let h : heldOf (recordOf b) ≡ heldOf b = record-word b 1 (omega arith) (body-some b l) in
+      let some : 0 < fieldSize 16 = size-some 16 (omega arith) (omega arith) in
+      ⊎-elim
+      (λ (y : has (heldOf b) 16 ≡ true).
+      rw (h, y, record-slot b l 16 (slotted-all 16 (omega arith) (omega arith)), y)
+      (ap stateHeld (sym (getD-part (placed 31 (heldOf b) 16) (fieldSize 16) 0 (drop headWords b) some ∙ getD-drop headWords b (placed 31 (heldOf b) 16 + 0) 0
+      ∙ ap (λ (k : ℕ). getD b (headWords + k) 0) (add-zero (placed 31 (heldOf b) 16))))))
+      (λ (y : has (heldOf b) 16 ≡ false). rw (h, y)) (true-or-false (has (heldOf b) 16))
 
   -- the counts are those of the body
   count-same : (k : ℕ) → k < 4 → countGoodAt b k ≡ countGoodAt (recordOf b) k
@@ -190,19 +204,57 @@ module _ (b : List ℕ) (l : length b ≡ pageBodyWords (heldOf b)) where
     body-ill i = good-head-ill (recordOf b) head head-same (not-true head i)
 
     module _ (i : not head ≡ false) where
-      held-within : bitAnd (heldOf b) slotMask ≡ heldOf b
-      held-within = head-within b _ (sym e ∙ not-false head i)
+      body-within : bitAnd (heldOf b) slotMask ≡ heldOf b
+      body-within = held-within (heldOf b) (head-within b _ (sym e ∙ not-false head i))
 
       pub body-held : heldOf b < 2 ^ 31
-      body-held = rw held-within at (lt-of-le-of-lt (and-le-r (heldOf b) slotMask) slots-small)
+      body-held = within-small (heldOf b) body-within
 
-      -- the walk begins one word before the held words
-      pub body-rules : (kept : Bool) → kept ≡ obeyed (bitsOf 31 (heldOf b)) (drop 1 (take (length b - (headWords - 1)) (drop (headWords - 1) b)))
-          → kept ≡ recordGood (recordOf b)
-      body-rules kept g =
+      -- the walk begins one word before the held words; `state` is the answer to the state word
+      pub body-rules : (kept state r : Bool) → kept ≡ obeyed (bitsOf 31 (heldOf b)) (drop 1 (take (length b - (headWords - 1)) (drop (headWords - 1) b)))
+          → state ≡ stateGoodIn b → r ≡ both kept state → r ≡ recordGood (recordOf b)
+      body-rules kept state r g f o =
           let d : drop 1 (take (length b - (headWords - 1)) (drop (headWords - 1) b)) ≡ drop headWords b = ap (drop 1) (rest-whole (headWords - 1) b)
           ∙ drop-drop 1 (headWords - 1) b in
-          good-slots (recordOf b) head head-same kept (not-false head i) (g ∙ rw d (rules-below 31 0 held-within (omega arith) (zero-add _)))
+          let ruled : kept ≡ all 31 (slotRuled (recordOf b)) = g ∙ rw d (rules-below 31 0 body-within (omega arith) (zero-add _)) in
+          good-slots (recordOf b) head head-same r (not-false head i) (o ∙ ap₂ both ruled (f ∙ state-in) ∙ sym (slots-apart (recordOf b)))
+
+-- ---- the state word of a body: w is the words of a body that holds the fields below 16 alone
+
+module _ (b : List ℕ) (l : length b ≡ pageBodyWords (heldOf b)) where
+  pub state-absent : (heldOf b / 2 ^ 16 % 2 ≡ 1 → ⊥) → true ≡ stateGoodIn b
+  unfolding stateGoodIn
+  state-absent h = rw (ne-eqb (heldOf b / 2 ^ 16 % 2) 1 h)
+
+  module _ (w : ℕ) (f : w ≡ pageBodyWords (heldOf b % 2 ^ 16)) (h : heldOf b / 2 ^ 16 % 2 ≡ 1) where
+    pub state-below : headWords ≤ w
+    unfolding pageBodyWords
+    state-below = omega (arith, f)
+
+    behind : w ≡ headWords + sizesOf (bitsOf 16 (heldOf b))
+    unfolding pageBodyWords
+    behind =
+        f ∙ ap (λ (k : List ℕ). headWords + sizesOf k)
+        (bits-trim 16 31 (heldOf b % 2 ^ 16) (omega arith) (mod-lt (heldOf b) (omega arith)) ∙ bits-mod 16 (heldOf b))
+
+    state-last : length b ≡ headWords + placed 31 (heldOf b) 16 + 1 + (w - headWords)
+    unfolding pageBodyWords fieldSize
+    state-last = omega (arith, l, behind, placed-split 31 (heldOf b) 16 (omega arith) (eq-eqb _ 1 h))
+
+    pub state-some : 1 ≤ length b
+    state-some = omega (arith, state-last)
+
+    pub state-there : w - headWords ≤ length b - 1
+    state-there = omega (arith, state-last)
+
+    pub state-inside : length b - 1 - (w - headWords) < length b
+    state-inside = omega (arith, state-last)
+
+    pub state-answer : (r : Bool) → r ≡ stateHeld (getD b (length b - 1 - (w - headWords)) 0) → r ≡ stateGoodIn b
+    unfolding stateGoodIn
+    state-answer r g =
+        let place : length b - 1 - (w - headWords) ≡ headWords + placed 31 (heldOf b) 16 = omega (arith, state-last) in
+        g ∙ ap (λ (k : ℕ). stateHeld (getD b k 0)) place ∙ rw (eq-eqb (heldOf b / 2 ^ 16 % 2) 1 h)
 
 -- ---- the page: k is the answer to its contents, l that to its list, and n is S
 

@@ -31,6 +31,7 @@ use Rattle.words.specs.Pieces.{pieces}
 use Rattle.page.specs.Body.{pageBody, pageBodyWords}
 use Rattle.page.specs.Layout.{contentsWords, pairAt, offsetOf, pairOf, pageFrom, savedBody, pairsOf, bodiesOf, bodiesFrom, pageOf, pageLength, mostWords}
 use Rattle.page.specs.Save.{sizeLimit, lengthList, lengthOf, saveOf}
+use Rattle.record.proofs.HoldLaws.{held-within}
 use Rattle.page.proofs.BodyLaws.{good-within, body-length}
 use Rattle.page.proofs.LayoutLaws.{offset-first, offset-next, offset-inside}
 use Rattle.page.proofs.Bounds.{page-between, page-small, page-whole}
@@ -110,7 +111,7 @@ module _ (r page : List ℕ) (at : ℕ) (l : length r ≡ recordWords) (g : reco
   squeeze-slots = ap length slots-seen ∙ part-length headWords slotWords r (omega arith)
 
   pub squeeze-held : bitAnd (heldOf r) slotMask ≡ heldOf r
-  squeeze-held = good-within r g
+  squeeze-held = held-within (heldOf r) (good-within r g)
 
   pub squeeze-room : (page′ : List ℕ) → page′ ≡ put at headWords (part 0 headWords r) page
       → at + headWords + sizesOf (bitsOf 31 (heldOf r)) ≤ length page′

@@ -7,7 +7,7 @@ ghost use Rattle.record.specs.Good.{recordGood};
 ghost use Rattle.table.specs.Identifiers.{listGood};
 ghost use Rattle.page.specs.Body.{pageBodyWords, recordOf};
 ghost use Rattle.page.specs.Layout.{contentsWords, bodiesIn, beginsAt};
-ghost use Rattle.page.specs.inner.Tested.{pairGood, pairsGood, contentsGood, identifierAt, Gathered, recordGoodIn, pageOk};
+ghost use Rattle.page.specs.inner.Tested.{pairGood, pairsGood, contentsGood, identifierAt, Gathered, stateGoodIn, recordGoodIn, pageOk};
 
 // Whether pair s is right, where the bodies before it end at a place: its offset is that place, its body ends inside the page, and its length is that of the
 // body's held indicator. The table of sizes is lent.
@@ -81,8 +81,24 @@ fn list_good(page: &[u32], n: usize) -> bool
     table::inner::list_good(&ids, 0, 1, n)
 }
 
-// Whether the record of a body is good: the body's first words are, and the held fields obey their rules. The slots of the other fields would be zero. `walk`
-// skips the first word that it is given, where the body of a packet has its indicator; so it is given the held words with the one word before them.
+// Whether the state word of a body, where it has one, can be held. Behind it stand the words of the fields below 16 alone, so it is found from the body's end.
+fn state_good(body: &[u32]) -> bool
+    requires { ⌜ length (now body) ≡ pageBodyWords (heldOf (now body)) ⌝ }
+    ensures { λ r. ⌜ r ≡ stateGoodIn (now (body .entry)) ⌝ }
+{
+    let held = body[1];
+    if (held >> 16) % 2 == 1 {
+        let sizes = fields::inner::SIZES;
+        let below = crate::bodies::body_words(held % 0x1_0000, &sizes);
+        let at = body.len() - 1 - (below - record::inner::HEAD_WORDS);
+        return record::inner::state_held(body[at]);
+    }
+    true
+}
+
+// Whether the record of a body is good: the body's first words are, the held fields obey their rules, and the state word can be held. The slots of the other
+// fields would be zero. `walk` skips the first word that it is given, where the body of a packet has its indicator; so it is given the held words with the one
+// word before them.
 fn body_good(body: &[u32]) -> bool
     requires { ⌜ length (now body) ≡ pageBodyWords (heldOf (now body)) ⌝ }
     ensures { λ r. ⌜ r ≡ recordGood (recordOf (now (body .entry))) ⌝ }
@@ -91,7 +107,7 @@ fn body_good(body: &[u32]) -> bool
         return false;
     }
     let walked = fields::inner::walk(body[1], &body[record::inner::HEAD_WORDS - 1..]);
-    walked.kept
+    words::inner::both_of(walked.kept, state_good(body))
 }
 
 // Whether the record of body s is good.

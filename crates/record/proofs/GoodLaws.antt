@@ -13,7 +13,7 @@ use Rattle.words.specs.Part.{part}
 use Rattle.words.specs.All.{all}
 use Rattle.words.specs.Outcome.{accepted}
 use Rattle.words.proofs.Cases.{true-or-false, same-or-not, both-left, both-right, both-true, both-yes, both-no, both-assoc, neither, pick-true, true-is-false}
-use Rattle.words.proofs.AllLaws.{all-none, all-more, all-end, all-fails, all-at, all-intro, all-same}
+use Rattle.words.proofs.AllLaws.{all-none, all-more, all-end, all-fails, all-at, all-intro, all-same, all-both, all-only}
 use Rattle.words.proofs.PartLaws.{seen, getD-part, part-part, part-length, part-whole}
 use Rattle.fields.specs.Sizes.{fieldSize}
 use Rattle.fields.specs.Rules.{ruleOf}
@@ -157,6 +157,31 @@ held-state b ws t e f =
     ruled : (s : Bool) → stateHeld (getD ws 0 0) ≡ s → both (ruleOf 16 ws) s ≡ s
     ruled true y = both-true _ _ (state-ruled (getD ws 0 0) y ws refl) refl
     ruled false y = both-no (ruleOf 16 ws)
+
+-- ---- the slots, where the state word is asked apart
+
+-- the slot of bit b is by the field's rule alone
+abbrev pub slotRuled : List ℕ → ℕ → Bool
+slotRuled r b = pick (slotted b) (pick (has (heldOf r) b) (ruleOf b (slotOf b r)) (zeros (slotOf b r))) true
+
+module _ (r : List ℕ) where
+  abbrev stated : ℕ → Bool
+  stated b = pick (both (slotted b) (both (has (heldOf r) b) (eqb b 16))) (stateHeld (getD (slotOf b r) 0 0)) true
+
+  slot-both : (b : ℕ) → slotGood r b ≡ both (slotRuled r b) (stated b)
+  unfolding slotGood heldRule
+  slot-both b =
+      ⊎-elim
+      (λ (o : slotted b ≡ true).
+      ⊎-elim (λ (h : has (heldOf r) b ≡ true). rw (o, h)) (λ (h : has (heldOf r) b ≡ false). rw (o, h) (sym (both-yes (zeros (slotOf b r)))))
+      (true-or-false (has (heldOf r) b)))
+      (λ (o : slotted b ≡ false). rw o) (true-or-false (slotted b))
+
+  pub slots-apart : all 31 (slotGood r) ≡ both (all 31 (slotRuled r)) (pick (has (heldOf r) 16) (stateHeld (getD (slotOf 16 r) 0 0)) true)
+  slots-apart =
+      all-same (slotGood r) _ 31 (λ b h. slot-both b) ∙ all-both (slotRuled r) stated 31
+      ∙ ap (both (all 31 (slotRuled r)))
+      (all-only stated 31 16 (omega arith) (λ i n. rw (ne-eqb i 16 n, both-no (has (heldOf r) i), both-no (slotted i))) ∙ rw (slotted-all 16 (omega arith) (omega arith), both-yes (has (heldOf r) 16)))
 
 -- ---- words that are zero, piece by piece
 

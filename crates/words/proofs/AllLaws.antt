@@ -3,9 +3,9 @@ use Rattle.words.proofs.Kit.{_≡_, refl, sym, _∙_, Bool, true, false
 use Rattle.words.proofs.Kit.{le-ltb, eqb, ltb, getD}
 use native.Mathlib.Nat.{not-suc-le-zero}
 use native.Mathlib.Numerals.{add-one}
-use Rattle.words.specs.Tests.{pick}
+use Rattle.words.specs.Tests.{pick, both}
 use Rattle.words.specs.All.{all, firstOf, tabled}
-use Rattle.words.proofs.Cases.{le-or-lt, true-is-false, both-left, both-right, both-no}
+use Rattle.words.proofs.Cases.{le-or-lt, same-or-not, same-test, true-is-false, both-left, both-right, both-no}
 
 -- ---- a loop's start, a turn that passes, its end; one that fails
 pub all-none : (f : ℕ → Bool) → all 0 f ≡ true
@@ -47,6 +47,22 @@ pub all-same : (f g : ℕ → Bool) (n : ℕ) → ((i : ℕ) → i < n → f i �
 unfolding all
 all-same f g zero h = refl
 all-same f g (suc n) h = rw (all-same f g n (λ i k. h i (omega arith)), h n (omega arith))
+
+-- two tests at each number, and one that can fail at one number alone
+both-swapped : (a b c d : Bool) → both (both a b) (both c d) ≡ both (both a c) (both b d)
+both-swapped true true c d = refl
+both-swapped true false c d = sym (both-no c)
+both-swapped false b c d = refl
+
+pub all-both : (f g : ℕ → Bool) (n : ℕ) → all n (λ i. both (f i) (g i)) ≡ both (all n f) (all n g)
+unfolding all
+all-both f g zero = refl
+all-both f g (suc n) = rw (all-both f g n) (both-swapped (all n f) (all n g) (f n) (g n))
+
+pub all-only : (f : ℕ → Bool) (n k : ℕ) → k < n → ((i : ℕ) → (i ≡ k → ⊥) → f i ≡ true) → all n f ≡ f k
+all-only f n k h e =
+    same-test (all n f) (f k) (all-at f n k h)
+    (λ y. all-intro f n (λ i g. ⊎-elim (λ (j : i ≡ k). rw j y) (λ (o : i ≡ k → ⊥). e i o) (same-or-not i k)))
 
 -- ---- the first number that passes
 

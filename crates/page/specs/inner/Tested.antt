@@ -1,8 +1,13 @@
 -- The tests that a program makes of a page: its contents, its list, and each body's record. That they pass exactly the well-made pages is `page-tested`
 -- (proofs/Exact.antt); no promise of a public call speaks of them.
-use Rattle.words.specs.Kit.{_≡_, ℕ, _+_, _≤_, _<_, Bool, List, eqb, leb, length, getD}
-use Rattle.words.specs.Tests.{both}
+use Rattle.words.specs.Kit.{_≡_, ℕ, _+_, _≤_, _<_, Bool, true, List, eqb, leb, length, getD}
+use Rattle.words.specs.Tests.{pick, both}
+use Rattle.words.specs.Word.{has}
+use Rattle.words.specs.SetBits.{bitsOf, above}
 use Rattle.words.specs.All.{all}
+use Rattle.fields.specs.Sizes.{sizesOf}
+use Rattle.record.specs.Layout.{headWords, heldOf}
+use Rattle.record.specs.State.{stateHeld}
 use Rattle.record.specs.Good.{recordGood}
 use Rattle.table.specs.Identifiers.{listed, listGood}
 use Rattle.page.specs.Body.{pageBodyWords}
@@ -35,6 +40,10 @@ identifierAt p s = getD p (offsetAt p s) 0
 -- a list of the identifiers of n bodies
 abbrev pub Gathered : ℕ → List ℕ → List ℕ → Type 0
 Gathered n p ids = (s : ℕ) → s < n → listed ids s ≡ identifierAt p s
+
+-- where a body has a state word, which stands behind the words of the fields above 16, it can be held
+unfoldable pub stateGoodIn : List ℕ → Bool
+stateGoodIn b = pick (has (heldOf b) 16) (stateHeld (getD b (headWords + sizesOf (above 16 (bitsOf 31 (heldOf b)))) 0)) true
 
 -- held fields, counts and rules: the record that body s gives is good
 unfoldable pub recordGoodIn : List ℕ → ℕ → Bool

@@ -1,4 +1,4 @@
--- `body_good` meets its promise: first words that are not good end it, and else the walk over the held words answers (`body-rules`).
+-- `body_good` meets its promise: first words that are not good end it, and else the walk over the held words and the state word answer (`body-rules`).
 use Rattle.words.proofs.Kit.{_≤_, arith, length, needs}
 use Rattle.record.specs.Layout.{headWords}
 use Rattle.page.proofs.BodyLaws.{body-some}
@@ -16,4 +16,4 @@ body-good-spec =
     (tie.spec
     (λ c κs. search body-some) (λ c. search body-ill) (λ c. omega (arith, first-words (search))) (λ c. search needs) (λ c. search needs)
     (λ c. omega (arith, first-words (search))) (λ c. omega (arith, first-words (search))) (λ c. search needs) (λ c κs. search body-held)
-    (λ c. search body-rules))
+    (λ c κs. search needs) (λ c κs. search needs) (λ c. search body-rules))
