@@ -37,8 +37,8 @@
 #include <stdint.h>
 
 #define VRT49_VERSION_MAJOR 0
-#define VRT49_VERSION_MINOR 12
-#define VRT49_VERSION_PATCH 1
+#define VRT49_VERSION_MINOR 13
+#define VRT49_VERSION_PATCH 0
 
 #ifdef __cplusplus
 extern "C" {
@@ -104,7 +104,7 @@ static inline const char *vrt49_name(uint32_t number)
 #define VRT49_FIELD_WORDS 13                 /* a held field, at most */
 #define VRT49_ENTRY_WORDS 5                  /* an entry of vrt49_play_run */
 #define VRT49_TABLE_WORDS(s) (1 + 88 * (s))  /* the layout of a table of s streams */
-#define VRT49_PAGE_WORDS(s) (2 + 90 * (s))   /* a page of s streams, at most */
+#define VRT49_PAGE_WORDS(s) (2 + 89 * (s))   /* a page of s streams, at most */
 #define VRT49_ITEMS_MAX 2097120              /* items that are packed or unpacked at once */
 
 /* The type of a packet. */
@@ -133,7 +133,8 @@ enum vrt49_tsf {
     VRT49_TSF_FREE_RUNNING = 3  /* samples since any moment */
 };
 
-/* The fields of a type 4 body, by their bit of the indicator word. A table holds 30 to 10. */
+/* The fields of a type 4 body, by their bit of the indicator word. A table holds 30 to 10 but 22,
+   whose count is of one data packet; of 16 it holds what enum vrt49_state_bit names. */
 enum vrt49_bit {
     VRT49_BIT_REFERENCE_POINT = 30,               /* 1 word */
     VRT49_BIT_BANDWIDTH = 29,                     /* 2 words: a frequency */
@@ -143,13 +144,13 @@ enum vrt49_bit {
     VRT49_BIT_IF_BAND_OFFSET = 25,                /* 2 words: a frequency */
     VRT49_BIT_LEVEL = 24,                         /* 1 word: a level */
     VRT49_BIT_GAIN = 23,                          /* 1 word: a gain */
-    VRT49_BIT_OVER_RANGE_COUNT = 22,              /* 1 word */
+    VRT49_BIT_OVER_RANGE_COUNT = 22,              /* 1 word; not held */
     VRT49_BIT_SAMPLE_RATE = 21,                   /* 2 words: a frequency */
     VRT49_BIT_TIMESTAMP_ADJUSTMENT = 20,          /* 2 words */
     VRT49_BIT_TIMESTAMP_CALIBRATION_TIME = 19,    /* 1 word */
     VRT49_BIT_TEMPERATURE = 18,                   /* 1 word: a temperature */
     VRT49_BIT_DEVICE = 17,                        /* 2 words */
-    VRT49_BIT_STATE = 16,                         /* 1 word */
+    VRT49_BIT_STATE = 16,                         /* 1 word; held by its indicators */
     VRT49_BIT_FORMAT = 15,                        /* 2 words: for vrt49_unpack */
     VRT49_BIT_GPS_GEOLOCATION = 14,               /* 11 words */
     VRT49_BIT_INS_GEOLOCATION = 13,               /* 11 words */
@@ -173,6 +174,23 @@ enum vrt49_trailer_bit {
     VRT49_TRAILER_USER = 0x00F
 };
 
+/* The indicators of a held state word, field 16, by the bits of their enables. An accepted Context
+   packet that carries the field replaces those that it enables, each by its value, and all user
+   bits; the others stay. Over-range and sample loss speak of one data packet, and are not held:
+   their bits are 0. vrt49_held_words gives the word, vrt49_state_holds and vrt49_state_on what it
+   says. */
+enum vrt49_state_bit {
+    VRT49_STATE_CALIBRATED_TIME = 31,
+    VRT49_STATE_VALID_DATA = 30,
+    VRT49_STATE_REFERENCE_LOCK = 29,
+    VRT49_STATE_AGC = 28,
+    VRT49_STATE_DETECTED_SIGNAL = 27,
+    VRT49_STATE_SPECTRAL_INVERSION = 26
+};
+
+#define VRT49_STATE_BELOW 12   /* how far below its enable the value of an indicator stands */
+#define VRT49_STATE_USER 0xFFu /* the user bits of a state word */
+
 /* The kinds of reading. */
 enum vrt49_kind {
     VRT49_KIND_FREQUENCY = 1,   /* whole hertz, and parts of 2^20 */
@@ -180,7 +198,7 @@ enum vrt49_kind {
     VRT49_KIND_GAIN = 3,        /* dB, of stages 1 and 2 */
     VRT49_KIND_TEMPERATURE = 4, /* degrees Celsius */
     VRT49_KIND_OTHER = 5,       /* held: its words by vrt49_held_words */
-    VRT49_KIND_ABSENT = 6       /* no accepted Context packet carried it: not zero */
+    VRT49_KIND_ABSENT = 6       /* not held, which is not zero: none was carried, or it is 22 */
 };
 
 /* ---- answers by name
@@ -408,14 +426,14 @@ uint32_t vrt49_readings(const uint32_t *table, size_t table_n, size_t stream, ui
                         uint32_t parts[21], int64_t hertz[21], float first[21], float second[21]);
 
 /* The held words of a stream's field, at the front of out: TABLE, STREAM, VALUE, ROOM. length: how
-   many, 0 where the field is absent. */
+   many, 0 where the field is absent, as 22 always is. */
 uint32_t vrt49_held_words(const uint32_t *table, size_t table_n, size_t stream, uint32_t bit,
                           uint32_t *out, size_t room, size_t *length);
 
 /* ---- what a table says of a stream */
 
 /* The stream's identifier, and its held indicator: bit b is set exactly where the field of bit b is
-   held. TABLE, STREAM. */
+   held, so 22 never is. TABLE, STREAM. */
 uint32_t vrt49_identity(const uint32_t *table, size_t table_n, size_t stream, uint32_t *identifier,
                         uint32_t *held);
 
@@ -510,6 +528,21 @@ static inline vrt49_shown vrt49_shown_of(const vrt49_panel *panel, uint32_t bit)
 static inline double vrt49_hertz(const vrt49_shown *shown)
 {
     return (double)shown->hertz + shown->parts / 1048576.0;
+}
+
+/* Whether a held state word has an indicator, a bit of enum vrt49_state_bit: 1, or 0 where no
+   accepted Context packet has enabled it yet. Of another bit it is 0. */
+static inline int vrt49_state_holds(uint32_t state, uint32_t bit)
+{
+    return bit >= VRT49_STATE_SPECTRAL_INVERSION && bit <= VRT49_STATE_CALIBRATED_TIME &&
+           (state >> bit & 1) != 0;
+}
+
+/* Whether an indicator of a held state word is on: 1; or 0 where it is off, or where the word does
+   not have it. */
+static inline int vrt49_state_on(uint32_t state, uint32_t bit)
+{
+    return vrt49_state_holds(state, bit) && (state >> (bit - VRT49_STATE_BELOW) & 1) != 0;
 }
 
 #ifdef __cplusplus

@@ -1,5 +1,6 @@
 /* lines.c: what is printed: lines, or rows of CSV, and the summary. Values are those of the panel:
-   in lines frequencies are in MHz to a millihertz, in CSV they are in hertz, exactly. */
+   in lines frequencies are in MHz to a millihertz, in CSV they are in hertz, exactly. The state is
+   said by its held indicators, in CSV as its held word. */
 #include <inttypes.h>
 #include <stdio.h>
 
@@ -28,7 +29,6 @@ static const struct {
     const char *text;
 } OTHERS[] = {
     {VRT49_BIT_REFERENCE_POINT, "reference point"},
-    {VRT49_BIT_OVER_RANGE_COUNT, "over-range count"},
     {VRT49_BIT_TIMESTAMP_ADJUSTMENT, "timestamp adjustment"},
     {VRT49_BIT_TIMESTAMP_CALIBRATION_TIME, "timestamp calibration time"},
     {VRT49_BIT_DEVICE, "device"},
@@ -41,6 +41,20 @@ static const struct {
     {VRT49_BIT_EPHEMERIS_REFERENCE, "ephemeris reference"},
 };
 enum { OTHERS_N = sizeof OTHERS / sizeof OTHERS[0] };
+
+/* The indicators of a held state word, in the order of the lines. */
+static const struct {
+    uint32_t bit;
+    const char *text;
+} INDICATORS[] = {
+    {VRT49_STATE_CALIBRATED_TIME, "calibrated time"},
+    {VRT49_STATE_VALID_DATA, "valid data"},
+    {VRT49_STATE_REFERENCE_LOCK, "reference lock"},
+    {VRT49_STATE_AGC, "AGC"},
+    {VRT49_STATE_DETECTED_SIGNAL, "detected signal"},
+    {VRT49_STATE_SPECTRAL_INVERSION, "spectral inversion"},
+};
+enum { INDICATORS_N = sizeof INDICATORS / sizeof INDICATORS[0] };
 
 /* The types of packets by name. */
 static const char *const TYPES[] = {"data without identifier", "data",
@@ -172,15 +186,38 @@ static const char *put_values(const vrt49_panel *now, const vrt49_panel *before,
     return between[0] ? "; also " : "";
 }
 
-/* The values of the fields of the set bits, then the names of those that have none; and the line's
-   end. */
-static void put_fields(const vrt49_panel *now, const vrt49_panel *before, uint32_t bits)
+/* What is held of the state: each indicator, on or off, and the user bits. */
+static void put_state(uint32_t state)
 {
-    const char *between = put_values(now, before, bits);
+    size_t i;
+    for (i = 0; i < INDICATORS_N; i++)
+        if (vrt49_state_holds(state, INDICATORS[i].bit))
+            printf("%s %s, ", INDICATORS[i].text,
+                   vrt49_state_on(state, INDICATORS[i].bit) ? "on" : "off");
+    printf("user bits 0x%02" PRIX32, state & VRT49_STATE_USER);
+}
+
+/* The name of a field that has no value; behind that of the state what is held of it. */
+static void put_name(const stream *of, size_t i)
+{
+    printf("%s", OTHERS[i].text);
+    if (OTHERS[i].bit != VRT49_BIT_STATE)
+        return;
+    printf(" (");
+    put_state(of->state);
+    printf(")");
+}
+
+/* The values of the stream's fields of the set bits, then the names of those that have none; and
+   the line's end. */
+static void put_fields(const stream *of, const vrt49_panel *before, uint32_t bits)
+{
+    const char *between = put_values(&of->panel, before, bits);
     size_t i;
     for (i = 0; i < OTHERS_N; i++)
         if (bits >> OTHERS[i].bit & 1) {
-            printf("%s%s", between, OTHERS[i].text);
+            printf("%s", between);
+            put_name(of, i);
             between = ", ";
         }
     puts("");
@@ -222,7 +259,7 @@ void tell_columns(void)
 {
     puts("packet,word,event,stream,identifier,type,missing,unsure_since,refusal,name,changed,"
          "in_doubt,tsi,seconds,tsf,fraction,rf_hz,if_hz,rf_offset_hz,if_band_offset_hz,"
-         "bandwidth_hz,sample_rate_hz,level_dbm,gain_1_db,gain_2_db,temperature_c");
+         "bandwidth_hz,sample_rate_hz,level_dbm,gain_1_db,gain_2_db,temperature_c,state");
 }
 
 /* The value of a row's field, of a gain both; nothing where it is absent or there is no stream. */
@@ -241,6 +278,16 @@ static void put_cell(const stream *of, uint32_t bit)
         putchar(',');
     if (shown.kind == VRT49_KIND_GAIN)
         printf("%.10g", (double)shown.levels[1]);
+}
+
+/* The held state word of a row's stream, which ends the row; nothing where it is absent or there is
+   no stream. */
+static void put_state_cell(const stream *of)
+{
+    if (of && holds_state(of))
+        printf(",0x%08" PRIX32 "\n", of->state);
+    else
+        puts(",");
 }
 
 /* Where it stands and what it is: packet,word,event,stream,identifier,type. */
@@ -293,7 +340,7 @@ static void row(const survey *all, const stream *of, const packet *at, const cha
     put_when(good ? &read : NULL);
     for (i = 0; i < VALUES_N; i++)
         put_cell(of, VALUES[i].bit);
-    puts("");
+    put_state_cell(of);
 }
 
 /* ---- what happens, in the survey's manner */
@@ -311,7 +358,7 @@ void tell_tuning(const survey *all, const stream *of, const packet *at, uint32_t
     put_front(at);
     put_stream(all, of);
     printf(tuning ? " tuned: " : " changed: ");
-    put_fields(&of->panel, before, changed);
+    put_fields(of, before, changed);
 }
 
 /* The row of missing packets. */
@@ -401,18 +448,29 @@ static void put_strangers(const survey *all)
         printf("not declared: no identifier, packets %s\n", grouped(all->unnamed));
 }
 
-/* What a stream did: its packets by type, its last tuning, and where it had none or cannot be
-   trusted. */
-static void put_summary(const survey *all, const stream *of)
+/* What a stream holds at the end: its last tuning, and its state where it has one. */
+static void put_last(const stream *of)
 {
     uint32_t held = of->held & VALUE_FIELDS;
-    printf("%6d 0x%08" PRIX32, (int)(of - all->streams), of->identifier);
-    put_counts(all, of);
     printf("       last tuning: ");
     if (held != 0)
-        put_fields(&of->panel, NULL, held);
+        put_fields(of, NULL, held);
     else
         puts("none");
+    if (!holds_state(of))
+        return;
+    printf("       state: ");
+    put_state(of->state);
+    puts("");
+}
+
+/* What a stream did: its packets by type, its last tuning and state, and where it had no tuning or
+   one that cannot be trusted. */
+static void put_summary(const survey *all, const stream *of)
+{
+    printf("%6d 0x%08" PRIX32, (int)(of - all->streams), of->identifier);
+    put_counts(all, of);
+    put_last(of);
     if (of->untuned != 0)
         printf("       without a tuning: %s data packets\n", grouped(of->untuned));
     if (of->doubt.total == 0 && of->doubt.fields == 0)

@@ -32,6 +32,11 @@ vrt49_shown shown_of(const stream *of, uint32_t bit)
     return vrt49_shown_of(&of->panel, bit);
 }
 
+int holds_state(const stream *of)
+{
+    return (of->held >> VRT49_BIT_STATE & 1) != 0;
+}
+
 int has_identifier(const vrt49_packet *read)
 {
     return read->type != VRT49_TYPE_DATA_NO_ID && read->type != VRT49_TYPE_EXTENSION_DATA_NO_ID;
@@ -54,12 +59,15 @@ static int is_open(const recording *from)
            (from->words[0] <= VRT49_STREAMS_MAX && from->have <= from->words[0]);
 }
 
-/* Asks the stream's own table what it holds, and what the panel shows of it. */
+/* Asks the stream's own table what it holds, what the panel shows of it, and for its state word. */
 static void show(stream *of)
 {
+    size_t length;
     accepted(vrt49_identity(of->table, VRT49_TABLE_WORDS(1), 0, &of->identifier, &of->held),
              "vrt49_identity");
     accepted(vrt49_show_all(of->table, VRT49_TABLE_WORDS(1), 0, &of->panel), "vrt49_show_all");
+    accepted(vrt49_held_words(of->table, VRT49_TABLE_WORDS(1), 0, VRT49_BIT_STATE, &of->state, 1,
+                              &length), "vrt49_held_words");
 }
 
 /* Starts the own tables of the streams from the table of all. */

@@ -73,7 +73,8 @@ typedef struct {
     uint32_t identifier;
     uint32_t table[VRT49_TABLE_WORDS(1)]; /* its own: the tuning at its last Context packet */
     uint32_t held;                        /* the fields that it holds there */
-    vrt49_panel panel;                    /* and what the panel shows of them */
+    vrt49_panel panel;                    /* what the panel shows of them, */
+    uint32_t state;                       /* and its state word, 0 where it is absent */
     uint64_t context;                     /* the number of its last Context packet */
     uint64_t since;                       /* its data packets since then */
     uint64_t untuned;                     /* those before it held a field of the tuning */
@@ -125,6 +126,9 @@ void accepted(uint32_t number, const char *call);
 
 /* What the panel shows of a field of the stream. */
 vrt49_shown shown_of(const stream *of, uint32_t bit);
+
+/* Whether the stream holds a state word. */
+int holds_state(const stream *of);
 
 /* Whether a packet that was read has an identifier. */
 int has_identifier(const vrt49_packet *read);

@@ -17,7 +17,7 @@ u32 CALL(put_back)(const u32 *, size_t, u32 *, size_t, size_t *);
 u32 CALL(reading)(const u32 *, size_t, size_t, u32, u32 *, u32 *, int64_t *, float *);
 u32 CALL(readings)(const u32 *, size_t, size_t, u32 *, u32 *, int64_t *, float *, float *);
 u32 CALL(held_words)(const u32 *, size_t, size_t, u32, u32 *, size_t, size_t *);
-enum { RECORD = 88, LONGEST = 2882 };
+enum { RECORD = 88, LONGEST = 2850 };
 static u32 state = 12345;
 static u32 word(void) {
     state = state * 1664525 + 1013904223;
@@ -50,11 +50,13 @@ static size_t context(u32 *w, u32 identifier, size_t size, const u32 *body) {
 static const u32 small[] = {1u << 29 | 1 << 27 | 1 << 24 | 1 << 23 | 1 << 21 | 1 << 18, 1, 2, 3, 4, 0xff80, 6, 7, 8, 0xffe0};
 // Fields 29, 27, 23, 21, 20 and 19, whose first words are all 2^16 or more.
 static const u32 large[] = {1u << 29 | 1 << 27 | 1 << 23 | 1 << 21 | 1 << 20 | 1 << 19, 0x10001, 2, 0xfff20003, 4, 0x7fff0001, 0x01000007, 8, 0x00010009, 10, 0xff80ff80};
-// All 21 fields of bits 30 to 10, whose words are their own places, but for the format's: 16 bits in fields of 16.
+// All 21 fields of bits 30 to 10, of which 22 is not held. Their words are their own places, but for the format's, 16 bits in fields of 16, and the
+// state's, which has over-range set, another value without its enable, and user bits.
 static size_t all_fields(u32 *w, u32 identifier) {
     u32 body[75] = {0x7ffffc00};
     for (u32 i = 1; i < 75; i++)
         body[i] = i;
+    body[23] = 0xf20ab05a;
     body[24] = 0x3cf;
     return context(w, identifier, 5 + 75, body);
 }
@@ -65,7 +67,7 @@ static u64 sum(u64 x, const u32 *w, size_t n) {
 }
 int main(int argc, char **argv) {
     // CALL(read write play save put_back reading readings held_words) KIND(data context large all) SIZE TIMES: SIZE is body words of a data
-    // packet, or streams of a table; all holds 21 fields of each stream, else six are held
+    // packet, or streams of a table; all holds 20 fields of each stream, else six are held
     if (argc != 5)
         return 2;
     const char *kind = argv[2];

@@ -24,6 +24,6 @@ done
 for s in 1 32; do
     row reading data $s "sample rate, 6 fields held, S $s"
     row readings data $s "6 fields held, S $s"
-    row readings all $s "21 fields held, S $s"
+    row readings all $s "20 fields held, S $s"
     row held_words data $s "sample rate, 6 fields held, S $s"
 done

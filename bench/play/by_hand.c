@@ -8,13 +8,17 @@ typedef uint32_t u32;
 typedef uint8_t u8;
 enum { EMPTY = 1, TYPE, BITS, SHORT, CUT, CLASS, TIME, INDICATOR, LAYOUT, FIELD, STREAM, TABLE = 18 };
 enum { HEAD = 14, RECORD = 88, ENTRY = 5 };
-#define HELD 0x7ffffc00u
+// the fields of fixed size, 30 to 10, and those of them that are held: all but the over-range count, 22
+#define FIXED 0x7ffffc00u
+#define HELD 0x7fbffc00u
 #define TIME_LIMIT 1000000000000u
 // the words of a field of fixed size, and the place of its slot in a record, by its bit
 static const u8 sizes[32] = {0, 0, 0, 0, 0, 0, 0, 0, 0, 0, 1, 13, 13, 11, 11, 2,
                              1, 2, 1, 1, 2, 2, 1, 1, 1, 2, 2, 2,  2,  2,  1,  0};
 static const u8 slots[32] = {0,  0,  0,  0,  0,  0,  0,  0,  0,  0,  87, 74, 61, 50, 39, 37,
                              36, 34, 33, 32, 30, 28, 27, 26, 25, 23, 21, 19, 17, 15, 14, 0};
+// the slots of the over-range count, which stays zero, and of the state
+enum { OVER_RANGE = 27, STATE = 36 };
 // the place of a type's count in a record
 static const u8 counts[6] = {0, 2, 0, 5, 8, 11};
 struct packet {
@@ -35,7 +39,14 @@ static int format_ok(u32 w) {
         return 0;
     return item + ev + ch <= f;
 }
-static inline int rule_ok(u32 bit, const u32 *f) {
+// The bits that a state word speaks of: those of its enables 31 to 26 that are set, the value of each, twelve
+// below, and the user bits.
+static inline u32 spoken(u32 w) {
+    u32 e = w >> 26;
+    return e << 26 | e << 14 | 0xff;
+}
+// Whether a field obeys its rule; a held state has no bits but those that it speaks of.
+static inline int rule_ok(u32 bit, const u32 *f, int held) {
     switch (bit) {
     case 29:
     case 21:
@@ -46,7 +57,7 @@ static inline int rule_ok(u32 bit, const u32 *f) {
     case 17:
         return !(f[0] >> 24) && !(f[1] >> 16);
     case 16:
-        return !(f[0] & 0x00f00f00);
+        return !(f[0] & (held ? ~spoken(f[0]) : 0x00f00f00));
     case 15:
         return format_ok(f[0]);
     case 9:
@@ -78,7 +89,7 @@ static __attribute__((noinline)) u32 check_context(const u32 *body, size_t n) {
         }
         if (n - at < size)
             return LAYOUT;
-        ok &= rule_ok(bit, body + at);
+        ok &= rule_ok(bit, body + at, 0);
         at += size;
     }
     if (at != n)
@@ -125,7 +136,7 @@ static int record_good(const u32 *r) {
             return 0;
     const u32 *slot = r + HEAD;
     for (u32 bit = 30; bit >= 10; bit--) {
-        if (!(held >> bit & 1 ? rule_ok(bit, slot) : all_zero(slot, sizes[bit])))
+        if (!(held >> bit & 1 ? rule_ok(bit, slot, 1) : all_zero(slot, sizes[bit])))
             return 0;
         slot += sizes[bit];
     }
@@ -144,10 +155,8 @@ static int table_good(const u32 *t, size_t n) {
             return 0;
     return 1;
 }
-static __attribute__((noinline)) void hold(u32 *r, const u32 *body) {
-    u32 bits = body[0] & HELD;
-    r[1] |= bits;
-    body++;
+// Each field of the bits into its slot; they stand in the body one after the other.
+static inline void fill(u32 *r, const u32 *body, u32 bits) {
     while (bits) {
         u32 bit = __builtin_clz(bits) ^ 31;
         size_t n = sizes[bit];
@@ -155,6 +164,25 @@ static __attribute__((noinline)) void hold(u32 *r, const u32 *body) {
         memcpy(r + slots[bit], body, n * 4);
         body += n;
     }
+}
+// Holds a packet's fields where the over-range count or the state is among them. Both are copied with the rest;
+// then the count is cleared, and of the old state comes back what the new one does not speak of.
+static __attribute__((noinline)) void hold_state(u32 *r, const u32 *body) {
+    u32 bits = body[0] & FIXED, old = r[STATE];
+    r[1] |= bits & HELD;
+    fill(r, body + 1, bits);
+    r[OVER_RANGE] = 0;
+    u32 mask = spoken(r[STATE]);
+    r[STATE] = (r[STATE] & mask) | (old & ~mask);
+}
+static __attribute__((noinline)) void hold(u32 *r, const u32 *body) {
+    u32 bits = body[0] & FIXED;
+    if (bits & (1 << 22 | 1 << 16)) {
+        hold_state(r, body);
+        return;
+    }
+    r[1] |= bits;
+    fill(r, body + 1, bits);
 }
 // Plays a packet that was read; gives the stream, or -1 where there is none, and the missing that it adds.
 static inline long hear(u32 *t, const struct packet *p, u32 *missing) {

@@ -47,6 +47,26 @@ static size_t context(u32 *w, u32 s, u32 count) {
     w[n++] = word() >> 16;
     return n;
 }
+// A context packet that carries fields 29, 27, 24, 22, 21 and 16: the over-range count and any state.
+static size_t stated(u32 *w, u32 s, u32 count) {
+    size_t n = 0;
+    w[n++] = 0x40600000 | count << 16 | 15;
+    w[n++] = identifier(s);
+    w[n++] = word();
+    w[n++] = any(100);
+    w[n++] = word();
+    w[n++] = 1u << 29 | 1 << 27 | 1 << 24 | 1 << 22 | 1 << 21 | 1 << 16;
+    w[n++] = word() >> 1;
+    w[n++] = word();
+    w[n++] = word();
+    w[n++] = word();
+    w[n++] = word() >> 16;
+    w[n++] = word();
+    w[n++] = word() >> 1;
+    w[n++] = word();
+    w[n++] = word() & 0xff0ff0ff;
+    return n;
+}
 // A packet of any type with any parts and fields; in one of three, a bit or the size is changed, so that some
 // are refused for each reason.
 static size_t mixed(u32 *w, u32 s, u32 count) {
@@ -75,6 +95,8 @@ static size_t mixed(u32 *w, u32 s, u32 count) {
                 u32 more = bit == 9 ? any(4) : bit == 8 ? any(2) : 0;
                 for (int i = 0; i < sizes[bit]; i++)
                     w[n++] = any(16) ? any(256) : word() >> 1;
+                if (bit == 16 && any(8))
+                    w[n - 1] = word() & 0xff0ff0ff;
                 if (bit == 15)
                     w[n - 2] = any(4) ? 0xa00003cf : word() & 0xffff0fff;
                 if (bit == 9)
@@ -105,7 +127,7 @@ static u64 sum(u64 x, const u32 *w, size_t n) {
     return x;
 }
 int main(int argc, char **argv) {
-    // MODE KIND(0 data 1 context 2 mixed) STREAMS PACKETS
+    // MODE KIND(0 data 1 context 2 mixed 3 context with state) STREAMS PACKETS
     // modes: 0 no call, 1 a run of 0 packets, 2 a run of all, 3 a run of all and then one of 0 packets,
     // 4 a run from each packet, and after it one of 0 packets over a table with a bit changed
     if (argc != 5)
@@ -124,7 +146,7 @@ int main(int argc, char **argv) {
         u32 s = i % streams;
         last[s] = (last[s] + (any(8) ? 1 : 3)) % 16;
         places[i] = n;
-        n += (kind == 0 ? data : kind == 1 ? context : mixed)(w + n, s, last[s]);
+        n += (kind == 0 ? data : kind == 1 ? context : kind == 2 ? mixed : stated)(w + n, s, last[s]);
     }
     u64 r = 0, x = 0;
     if (mode == 1)

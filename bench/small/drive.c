@@ -40,7 +40,7 @@ static u64 sum(u64 x, const u32 *w, size_t n) {
         x = x * 31 + w[i];
     return x;
 }
-// A table of so many streams, of which each holds the six fields, or all 21.
+// A table of so many streams, of which each holds the six fields, or all that can be held: 20.
 static void table(size_t streams, int all) {
     u32 w[2 + 75] = {0}, n = all ? 75 : sizeof small / sizeof *small;
     for (size_t s = 0; s < streams; s++)
@@ -51,6 +51,7 @@ static void table(size_t streams, int all) {
         w[2] = 0x7ffffc00;
         for (u32 i = 1; i < n; i++)
             w[2 + i] = i;
+        w[2 + 23] = 0xf20ab05a; // the state, with over-range set, another value without its enable, and user bits
         w[2 + 24] = processing; // field 15 has a rule that 24 breaks
     }
     for (size_t s = 0; s < streams; s++) {

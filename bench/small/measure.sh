@@ -20,7 +20,7 @@ for s in 1 32; do
     row start - $s "S $s"
 done
 for s in 1 32; do
-    row well_made all $s "21 fields held, S $s"
+    row well_made all $s "20 fields held, S $s"
 done
 for call in well_made page_length identity counts own_table changed; do
     for s in 1 32; do

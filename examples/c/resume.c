@@ -30,20 +30,27 @@ static int read_file(const char *name, uint32_t *to, size_t most, size_t *n)
     return good;
 }
 
+/* Writes a word as its four bytes, the highest first. */
+static void put_word(uint32_t word, FILE *file)
+{
+    int shift;
+    for (shift = 24; shift >= 0; shift -= 8)
+        putc((int)(word >> shift & 255), file);
+}
+
 /* Writes a file beside the old one, and puts it in its place when it is whole; 0 if it cannot. */
 static int write_file(const char *name, const uint32_t *from, size_t n)
 {
     char beside[4096];
     FILE *file;
     size_t i;
-    int shift, good = snprintf(beside, sizeof beside, "%s.new", name) < (int)sizeof beside;
+    int good = snprintf(beside, sizeof beside, "%s.new", name) < (int)sizeof beside;
     errno = ENAMETOOLONG;
     file = good ? fopen(beside, "wb") : NULL;
     if (!file)
         return 0;
     for (i = 0; i < n; i++)
-        for (shift = 24; shift >= 0; shift -= 8)
-            putc((int)(from[i] >> shift & 255), file);
+        put_word(from[i], file);
     good = !ferror(file);
     good = fclose(file) == 0 && good && rename(beside, name) == 0;
     if (!good)

@@ -33,7 +33,7 @@ HEADERS = [
     ('/* 2 words: for vrt49_unpack */', '/* 1 word: for vrt49_unpack */', 'VRT49_BIT_FORMAT has 1'),
     ('/* 2 words: for vrt49_unpack */', '/* for vrt49_unpack */', 'are not said for every field'),
     ('(1 + 88 * (s))', '(1 + 87 * (s))', 'VRT49_TABLE_WORDS(s) is'),
-    ('(2 + 90 * (s))', '(2 + 88 * (s))', 'VRT49_PAGE_WORDS(s) is'),
+    ('(2 + 89 * (s))', '(2 + 90 * (s))', 'VRT49_PAGE_WORDS(s) is'),
     ('VRT49_ENTRY_WORDS 5', 'VRT49_ENTRY_WORDS 4', 'VRT49_ENTRY_WORDS is 4'),
     ('VRT49_STREAMS_MAX 32', 'VRT49_STREAMS_MAX 33', 'VRT49_STREAMS_MAX is 33'),
     ('VRT49_FIELD_WORDS 13', 'VRT49_FIELD_WORDS 11', 'VRT49_FIELD_WORDS is 11'),
@@ -76,6 +76,11 @@ HEADERS = [
     ('VRT49_TRAILER_AGC = 0x100', 'VRT49_TRAILER_AGC = 0x200', 'VRT49_TRAILER_AGC is 0x200'),
     ('VRT49_TRAILER_USER = 0x00F', 'VRT49_TRAILER_USER = 0x00E', 'VRT49_TRAILER_USER is 0x00E'),
     ('    VRT49_TRAILER_OVER_RANGE = 0x020,\n', '', 'VRT49_TRAILER_OVER_RANGE is missing'),
+    ('VRT49_STATE_AGC = 28', 'VRT49_STATE_AGC = 27', 'VRT49_STATE_AGC is 27'),
+    ('    VRT49_STATE_CALIBRATED_TIME = 31,\n', '', 'VRT49_STATE_CALIBRATED_TIME is missing'),
+    ('    VRT49_STATE_SPECTRAL_INVERSION = 26\n', '    VRT49_STATE_SPECTRAL_INVERSION = 26,\n    VRT49_STATE_OVER_RANGE = 25\n', 'VRT49_STATE_OVER_RANGE is 25'),
+    ('VRT49_STATE_BELOW 12', 'VRT49_STATE_BELOW 11', 'VRT49_STATE_BELOW is 11'),
+    ('VRT49_STATE_USER 0xFFu', 'VRT49_STATE_USER 0xFu', 'VRT49_STATE_USER is 0xFu'),
     ('/* A trailer word, taken apart. */', '/* A trailer word, taken apart' + 80 * '.' + ' */', ' columns'),
 ]
 
@@ -97,6 +102,10 @@ MANUALS = [
     ('| 0x040 | `VRT49_TRAILER_SP', '| 0x080 | `VRT49_TRAILER_SP', 'the row of `VRT49_TRAILER_SPECTRAL_INVERSION` does not agree'),
     ('| 18 | valid data |', '| 18 | data |', 'the row of `VRT49_TRAILER_VALID_DATA` does not agree'),
     ('`VRT49_TRAILER_SAMPLE_LOSS`', '`VRT49_TRAILER_LOSS`', 'VRT49_TRAILER_LOSS is missing'),
+    ('`VRT49_STATE_DETECTED_SIGNAL` |', '`VRT49_STATE_SIGNAL` |', 'VRT49_STATE_SIGNAL is missing'),
+    ('| `VRT49_STATE_CALIBRATED_TIME` |', '| `VRT49_STATE_VALID_DATA` |', 'the row of `VRT49_STATE_VALID_DATA` does not agree'),
+    ('OVER_RANGE` | never: it is of one data packet |', 'OVER_RANGE` | `VRT49_STATE_OVER_RANGE` |', 'VRT49_STATE_OVER_RANGE is missing'),
+    ('user-defined bits (7-0), which', 'user-defined bits (3-0), which', 'VRT49_STATE_USER is 0xFFu, in'),
 ]
 
 
