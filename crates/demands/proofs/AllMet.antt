@@ -20,6 +20,7 @@ use Rattle.demands.proofs.Packings.{packed-as, unpacked-as}
 use Rattle.demands.proofs.ShownAs.{shown-as}
 use Rattle.demands.proofs.RightLaws.{start-accepts, right-start, right-on, answers-on, past-on}
 use Rattle.demands.proofs.Resumed.{saves, resumes, no-room, days}
+use Rattle.demands.proofs.Lights.{lights-out}
 use Rattle.demands.proofs.PanelShows.{shows, changes}
 use Rattle.demands.proofs.OwnRight.{own-right}
 use Rattle.demands.proofs.RunLaws.{runs}
@@ -72,6 +73,7 @@ demand-3 = record {
   right = λ ids t d e packets. right-on ids [] packets (d .leaves) (right-start ids t d e);
   answers = λ ids t d e packets. answers-on ids [] packets (d .leaves) (right-start ids t d e);
   past = λ ids t d e packets. past-on ids packets (d .leaves) (right-start ids t d e .streams) ∙ start-well-made ids t d e .past;
+  lights-out = lights-out;
   shows = shows;
   changes = changes;
   own = own-right;

@@ -105,25 +105,36 @@ module _ (r q : List ℕ) (lr : length r ≡ recordWords) (lq : length q ≡ rec
 
 -- ---- a table
 
--- the rules look at a stream's own packets alone: where these are the same, two right tables have the same record
-pub records-same : (ids : List ℕ) (ps qs : List (List ℕ)) (t u : List ℕ) (p : Right ids ps t) (q : Right ids qs u) (s : ℕ) (h : s < length ids)
-    → own s (traceOf ids ps) ≡ own s (traceOf ids qs) → recordAt s t ≡ recordAt s u
-records-same ids ps qs t u p q s h o =
+-- where the rules say the same of a stream, two right tables have the same record
+records-alike : (ids : List ℕ) (ps qs : List (List ℕ)) (t u : List ℕ) (p : Right ids ps t) (q : Right ids qs u) (s : ℕ) (h : s < length ids)
+    → ((x : Thing) → lastCarried x (own s (traceOf ids ps)) ≡ lastCarried x (own s (traceOf ids qs)))
+    → ((kind : ℕ) → countsOf kind (own s (traceOf ids ps)) ≡ countsOf kind (own s (traceOf ids qs))) → recordAt s t ≡ recordAt s u
+records-alike ids ps qs t u p q s h last counts =
     record-by (recordAt s t) (recordAt s u) (record-whole ids t (right-listed p) s h) (record-whole ids u (right-listed q) s h)
     (well-record t (p .made) s (rw (p .streams) h)) (well-record u (q .made) s (rw (q .streams) h))
-    (λ x. p .held s h x ∙ ap (lastCarried x) o ∙ sym (q .held s h x))
+    (λ x. p .held s h x ∙ last x ∙ sym (q .held s h x))
     (record-identifier s t ∙ p .list s h ∙ sym (q .list s h) ∙ sym (record-identifier s u))
-    (λ kind k. p .counts s h kind k ∙ ap (λ (l : List Arrival). countRule (countsOf kind l)) o ∙ sym (q .counts s h kind k))
+    (λ kind k. p .counts s h kind k ∙ ap countRule (counts kind) ∙ sym (q .counts s h kind k))
+
+-- they look at a stream's own packets alone
+pub records-same : (ids : List ℕ) (ps qs : List (List ℕ)) (t u : List ℕ) (p : Right ids ps t) (q : Right ids qs u) (s : ℕ) (h : s < length ids)
+    → own s (traceOf ids ps) ≡ own s (traceOf ids qs) → recordAt s t ≡ recordAt s u
+records-same ids ps qs t u p q s h o = records-alike ids ps qs t u p q s h (λ x. ap (lastCarried x) o) (λ kind. ap (countsOf kind) o)
 
 pub layout-is : {ids : List ℕ} {packets : List (List ℕ)} {t : List ℕ} → Right ids packets t → tableFrom (length ids) (λ s. recordAt s t) ≡ layoutOf ids t
 layout-is {ids} {packets} {t} p = rw (p .streams) at (table-again t (well-whole t (p .made)))
 
+pub layouts-alike : (ids : List ℕ) (ps qs : List (List ℕ)) (t u : List ℕ) → Right ids ps t → Right ids qs u
+    → ((s : ℕ) (x : Thing) → lastCarried x (own s (traceOf ids ps)) ≡ lastCarried x (own s (traceOf ids qs)))
+    → ((s kind : ℕ) → countsOf kind (own s (traceOf ids ps)) ≡ countsOf kind (own s (traceOf ids qs))) → layoutOf ids t ≡ layoutOf ids u
+layouts-alike ids ps qs t u p q last counts =
+    sym (layout-is p)
+    ∙ table-same (length ids) (λ s. recordAt s t) (λ s. recordAt s u) (λ s h. records-alike ids ps qs t u p q s h (last s) (counts s))
+    ∙ layout-is q
+
 pub layouts-same : (ids : List ℕ) (ps qs : List (List ℕ)) (t u : List ℕ) → Right ids ps t → Right ids qs u
     → ((s : ℕ) → own s (traceOf ids ps) ≡ own s (traceOf ids qs)) → layoutOf ids t ≡ layoutOf ids u
-layouts-same ids ps qs t u p q o =
-    sym (layout-is p)
-    ∙ table-same (length ids) (λ s. recordAt s t) (λ s. recordAt s u) (λ s h. records-same ids ps qs t u p q s h (o s))
-    ∙ layout-is q
+layouts-same ids ps qs t u p q o = layouts-alike ids ps qs t u p q (λ s x. ap (lastCarried x) (o s)) (λ s kind. ap (countsOf kind) (o s))
 
 pub determined : Determined
 determined ids packets t u p q = layouts-same ids packets packets t u p q (λ s. refl)

@@ -30,6 +30,8 @@ pub mod ThingLaws
 pub mod RightLaws
 -- the rules leave nothing open
 pub mod Determined
+-- overload lights go out
+pub mod Lights
 -- what is seen is what is held
 pub mod PanelShows
 -- a stream's own table is right

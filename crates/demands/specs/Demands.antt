@@ -30,6 +30,7 @@ use Rattle.demands.specs.Trace.{traceOf, own, fieldCarried, answersAfter
 use Rattle.demands.specs.Program.{Program, Accepts, AreWords, playAll, saidAll}
 use Rattle.demands.specs.FieldFound.{FieldFound}
 use Rattle.demands.specs.Right.{Right, pastOf}
+use Rattle.demands.specs.Lights.{LightsOut}
 use Rattle.demands.specs.PanelShows.{changedBy, PanelShows}
 use Rattle.demands.specs.OwnRight.{OwnRight}
 use Rattle.demands.specs.Resumed.{Saves, Resumes, Stop, Day, DayRight}
@@ -118,6 +119,8 @@ pub record Demand3 (P : Program) : Type 0 where
       → saidAll P (d .leaves) packets ≡ answersAfter [] (traceOf ids packets)
   pub past : (ids t : List ℕ) (d : Done ℕ (List ℕ)) → P .start ids t ≡ accepted d → (packets : List (List ℕ))
       → pastOf ids (playAll P (d .leaves) packets) ≡ pastOf ids t
+  -- document 02, C-11: over-range, sample loss and field 22 leave no trace
+  pub lights-out : LightsOut P
   -- what the panel and the caller see of a stream is that value, and these counts
   pub shows : (ids : List ℕ) (packets : List (List ℕ)) (t : List ℕ) → Right ids packets t → (s : ℕ) → s < length ids → PanelShows P ids packets t s
   -- which fields two tables do not hold alike, such as those before a packet and after it: those whose values, by what was last carried, are not the same

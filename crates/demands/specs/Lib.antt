@@ -10,6 +10,8 @@ pub mod Things
 pub mod Trace
 -- tables that the rules fix
 pub mod Right
+-- what lasts for one data packet leaves no trace
+pub mod Lights
 -- what the panel and the caller see
 pub mod PanelShows
 -- a stream's own table

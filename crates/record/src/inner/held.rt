@@ -118,10 +118,11 @@ pub fn hold(rec: &mut [u32], body: &[u32])
     requires { ⌜ (length (now rec) ≡ recordWords) × (contextOf (now body) ≡ accepted tt) ⌝ }
     ensures { λ _. ⌜ now (rec .exit) ≡ holdRecord (now (body .entry)) (now (rec .entry)) ⌝ }
 {
+    let bits = body[0] & HELD;
     let held = rec[crate::inner::HELD_AT];
     hold_fields(
         &mut rec[crate::inner::HEAD_WORDS..crate::inner::RECORD_WORDS],
         body,
     );
-    rec[crate::inner::HELD_AT] = held | (body[0] & HELD);
+    rec[crate::inner::HELD_AT] = held | bits;
 }

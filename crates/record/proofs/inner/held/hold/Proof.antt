@@ -13,5 +13,5 @@ pub hold-spec : {M : Type 1} → statement M
 hold-spec =
     tie.close
     (tie.spec
-    (λ c. search needs) (λ c. search needs) (λ c. search needs) (λ c. search needs) (λ c κs. (search slots-long, search)) (λ c. search body-some)
+    (λ c. search body-some) (λ c. search needs) (λ c. search needs) (λ c. search needs) (λ c. search needs) (λ c κs. (search slots-long, search))
     (λ c. search needs) (λ c. search needs) returns)

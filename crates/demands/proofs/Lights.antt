@@ -1,0 +1,112 @@
+-- Overload lights go out. The idea: two packets that differ in these bits and in field 22 alone tell the same of every thing (`told-alike`), so the rules say the
+-- same of all streams after the one and after the other, and leave nothing else open (`records-alike`).
+use Rattle.words.proofs.Kit.{_≡_, refl, sym, ap, ap₂, _∙_, Bool, true, false, not, ⊎-elim, List, [], _∷_, _++_, ℕ, _+_, _-_, _%_, _^_, _≤_, _<_, arith}
+use Rattle.words.proofs.Kit.{ne-eqb, eqb-true, eqb, leb, length, getD}
+use native.Mathlib.Nat.{mod-lt}
+use borrow.Author.Tests.{leb-true}
+use lib.Pow.{pow-pos}
+use lib.ListN.{take-append-drop}
+use Rattle.words.specs.Tests.{pick, both, among}
+use Rattle.words.specs.Word.{has}
+use Rattle.words.specs.Outcome.{Outcome, accepted, leftOf}
+use Rattle.words.proofs.Cases.{true-or-false, true-is-false, both-left, both-right}
+use Rattle.words.proofs.BitLaws.{has-low, word-same}
+use Rattle.fields.specs.Layout.{indicatorOf, fieldOf}
+use Rattle.table.specs.Layout.{layoutWords}
+use Rattle.play.specs.Play.{playOf}
+use Rattle.demands.specs.Things.{Thing, wholeField, indicator, userBits, kept, whole, persistent, told}
+use Rattle.demands.specs.Trace.{Arrival, heardBy, traceOf, own, valueCarried, orElse, lastCarried, countsOf}
+use Rattle.demands.specs.Program.{ours}
+use Rattle.demands.specs.Right.{Right, layoutOf, pastOf}
+use Rattle.demands.specs.Lights.{SameButLights, LightsOut}
+use Rattle.demands.proofs.RuleLaws.{own-append, last-more, counts-append}
+use Rattle.demands.proofs.RightLaws.{trace-append, right-more, past-on}
+use Rattle.demands.proofs.Determined.{layouts-alike}
+
+-- a bit that is none of the four
+apart : (i : ℕ) → (i ≡ 25 → ⊥) → (i ≡ 24 → ⊥) → (i ≡ 13 → ⊥) → (i ≡ 12 → ⊥) → among i (25 ∷ 24 ∷ 13 ∷ 12 ∷ []) ≡ false
+apart i a b c d = rw (ne-eqb i 25 a, ne-eqb i 24 b, ne-eqb i 13 c, ne-eqb i 12 d)
+
+module _ (ids ws vs : List ℕ) (p : SameButLights ids ws vs) where
+  abbrev one : Arrival
+  one = p .one
+
+  abbrev other : Arrival
+  other = p .other
+
+  -- ---- what they tell
+
+  user-same : getD (fieldOf 16 (one .body)) 0 0 % 2 ^ 8 ≡ getD (fieldOf 16 (other .body)) 0 0 % 2 ^ 8
+  user-same =
+      word-same 8 _ _ (mod-lt _ (pow-pos 8)) (mod-lt _ (pow-pos 8))
+      (λ i h.
+      has-low (getD (fieldOf 16 (one .body)) 0 0) 8 i h ∙ p .state i (apart i (λ e. omega arith) (λ e. omega arith) (λ e. omega arith) (λ e. omega arith))
+      ∙ sym (has-low (getD (fieldOf 16 (other .body)) 0 0) 8 i h))
+
+  told-alike : (x : Thing) → told x (indicatorOf (one .body)) (λ b. fieldOf b (one .body)) ≡ told x (indicatorOf (other .body)) (λ b. fieldOf b (other .body))
+  told-alike (wholeField b) =
+      ⊎-elim
+      (λ (w : whole b ≡ true).
+      let k = both-left (kept b) (not (eqb b 16)) w in
+      let no : (n : ℕ) → not (eqb b n) ≡ true → b ≡ n → ⊥ = λ n e i. true-is-false (sym e ∙ ap not (eq-test b n i)) in
+      rw (p .carried, p .fields b (no 22 (both-right (both (leb 10 b) (leb b 30)) (not (eqb b 22)) k)) (no 16 (both-right (kept b) (not (eqb b 16)) w))))
+      (λ (w : whole b ≡ false). rw w) (true-or-false (whole b))
+    where
+      eq-test : (b n : ℕ) → b ≡ n → eqb b n ≡ true
+      eq-test b n i = rw i
+  told-alike (indicator e) =
+      ⊎-elim
+      (λ (s : persistent e ≡ true).
+      let low : 26 ≤ e = leb-true 26 e (both-left (leb 26 e) (leb e 31) s) in
+      let high : e ≤ 31 = leb-true e 31 (both-right (leb 26 e) (leb e 31) s) in
+      let enable = p .state e (apart e (λ i. omega arith) (λ i. omega arith) (λ i. omega arith) (λ i. omega arith)) in
+      let value = p .state (e - 12) (apart (e - 12) (λ i. omega arith) (λ i. omega arith) (λ i. omega arith) (λ i. omega arith)) in
+      rw (p .carried, enable, value))
+      (λ (s : persistent e ≡ false). rw s) (true-or-false (persistent e))
+  told-alike userBits = rw (p .carried, user-same)
+
+  value-alike : (x : Thing) → valueCarried x one ≡ valueCarried x other
+  value-alike x = rw (p .kind, told-alike x)
+
+  -- ---- and so what the rules say of each stream, with the one behind some packets and with the other
+
+  abbrev ends : ℕ → Arrival → List Arrival
+  ends s a = pick (eqb (a .stream) s) (a ∷ []) []
+
+  last-alike : (t : Bool) (x : Thing) (before : List Arrival) → lastCarried x (before ++ pick t (one ∷ []) []) ≡ lastCarried x (before ++ pick t (other ∷ []) [])
+  last-alike true x before = last-more x before one ∙ ap (λ (v : _). orElse v (lastCarried x before)) (value-alike x) ∙ sym (last-more x before other)
+  last-alike false x before = refl
+
+  counts-alike : (t : Bool) (kind : ℕ) (before : List Arrival) → countsOf kind (before ++ pick t (one ∷ []) []) ≡ countsOf kind (before ++ pick t (other ∷ []) [])
+  counts-alike true kind before =
+      counts-append kind before (one ∷ []) ∙ rw (p .kind, p .count) (sym (counts-append kind before (other ∷ [])))
+  counts-alike false kind before = refl
+
+  module _ (packets : List (List ℕ)) where
+    own-with : (us : List ℕ) (a : Arrival) → heardBy ids us ≡ accepted a → (s : ℕ)
+        → own s (traceOf ids (packets ++ (us ∷ []))) ≡ own s (traceOf ids packets) ++ pick (eqb (a .stream) s) (a ∷ []) []
+    own-with us a e s =
+        ap (own s) (trace-append ids packets (us ∷ [])) ∙ own-append s (traceOf ids packets) (heardBy ids us ∷ []) ∙ rw e
+
+    last-same : (s : ℕ) (x : Thing) → lastCarried x (own s (traceOf ids (packets ++ (ws ∷ [])))) ≡ lastCarried x (own s (traceOf ids (packets ++ (vs ∷ []))))
+    last-same s x =
+        ap (lastCarried x) (own-with ws one (p .hears-one) s)
+        ∙ last-alike (eqb (one .stream) s) x (own s (traceOf ids packets))
+        ∙ ap (λ (n : ℕ). lastCarried x (own s (traceOf ids packets) ++ pick (eqb n s) (other ∷ []) [])) (p .stream)
+        ∙ ap (lastCarried x) (sym (own-with vs other (p .hears-other) s))
+
+    counts-same : (s kind : ℕ) → countsOf kind (own s (traceOf ids (packets ++ (ws ∷ [])))) ≡ countsOf kind (own s (traceOf ids (packets ++ (vs ∷ []))))
+    counts-same s kind =
+        ap (countsOf kind) (own-with ws one (p .hears-one) s)
+        ∙ counts-alike (eqb (one .stream) s) kind (own s (traceOf ids packets))
+        ∙ ap (λ (n : ℕ). countsOf kind (own s (traceOf ids packets) ++ pick (eqb n s) (other ∷ []) [])) (p .stream)
+        ∙ ap (countsOf kind) (sym (own-with vs other (p .hears-other) s))
+
+-- the layout is the same, and so are the words past it, which stay
+pub lights-out : LightsOut ours
+lights-out ids packets t r ws vs p =
+    let layout =
+    layouts-alike ids _ _ _ _ (right-more ids packets t r ws) (right-more ids packets t r vs) (last-same ids ws vs p packets) (counts-same ids ws vs p packets) in
+    let past = past-on ids (ws ∷ []) t (r .streams) ∙ sym (past-on ids (vs ∷ []) t (r .streams)) in
+    sym (take-append-drop (layoutWords (length ids)) (leftOf (playOf t ws) t)) ∙ ap₂ (λ (x y : List ℕ). x ++ y) layout past
+    ∙ take-append-drop (layoutWords (length ids)) (leftOf (playOf t vs) t)
