@@ -12,16 +12,20 @@ use Rattle.words.specs.Outcome.{Outcome, accepted, leftOf}
 use Rattle.words.proofs.Cases.{true-or-false, true-is-false, both-left, both-right}
 use Rattle.words.proofs.BitLaws.{has-low, word-same}
 use Rattle.fields.specs.Layout.{indicatorOf, fieldOf}
-use Rattle.table.specs.Layout.{layoutWords}
+use Rattle.record.specs.Layout.{heldOf}
+use Rattle.table.specs.Layout.{streamsOf, layoutWords, recordAt}
+use Rattle.table.specs.Well.{wellMade}
 use Rattle.play.specs.Play.{playOf}
 use Rattle.demands.specs.Things.{Thing, wholeField, indicator, userBits, kept, whole, persistent, told}
 use Rattle.demands.specs.Trace.{Arrival, heardBy, traceOf, own, valueCarried, orElse, lastCarried, countsOf}
 use Rattle.demands.specs.Program.{ours}
 use Rattle.demands.specs.Right.{Right, layoutOf, pastOf}
 use Rattle.demands.specs.Lights.{SameButLights, LightsOut}
+use Rattle.demands.specs.WellMade.{stateIn}
 use Rattle.demands.proofs.RuleLaws.{own-append, last-more, counts-append}
 use Rattle.demands.proofs.RightLaws.{trace-append, right-more, past-on}
 use Rattle.demands.proofs.Determined.{layouts-alike}
+use Rattle.demands.proofs.WellMade.{judged}
 
 -- a bit that is none of the four
 apart : (i : ℕ) → (i ≡ 25 → ⊥) → (i ≡ 24 → ⊥) → (i ≡ 13 → ⊥) → (i ≡ 12 → ⊥) → among i (25 ∷ 24 ∷ 13 ∷ 12 ∷ []) ≡ false
@@ -110,3 +114,9 @@ lights-out ids packets t r ws vs p =
     let past = past-on ids (ws ∷ []) t (r .streams) ∙ sym (past-on ids (vs ∷ []) t (r .streams)) in
     sym (take-append-drop (layoutWords (length ids)) (leftOf (playOf t ws) t)) ∙ ap₂ (λ (x y : List ℕ). x ++ y) layout past
     ∙ take-append-drop (layoutWords (length ids)) (leftOf (playOf t vs) t)
+
+-- of a well-made table field 22 is not held, and a held state word has neither over-range nor sample loss, neither enable nor value
+pub never-lit : (t : List ℕ) → wellMade t ≡ true → (s : ℕ) → s < streamsOf t → let r = recordAt s t in
+    (has (heldOf r) 22 ≡ false)
+    × (has (heldOf r) 16 ≡ true → (e : ℕ) → 24 ≤ e → e ≤ 25 → (has (stateIn r) e ≡ false) × (has (stateIn r) (e - 12) ≡ false))
+never-lit t w s h = let c = judged .tables t .0 w .records s h in (c .never, c .unlit)

@@ -1,7 +1,7 @@
 -- One packet more, in the record of its stream. The idea: what a record holds of a thing afterwards is what the packet carried of it, and else what it held
 -- (`held-after`): of a field by `comes`, of an indicator by `lights`; the count of the packet's type goes on, and the others stay (`count-after`).
 use Rattle.words.proofs.Kit.{_≡_, refl, sym, ap, _∙_, Bool, true, false, not, ⊎-elim, List, [], _∷_, ℕ, zero, suc, _+_, _-_, _≤_, _<_, arith, eq-eqb}
-use Rattle.words.proofs.Kit.{ne-eqb, le-leb, eqb, leb, length, getD}
+use Rattle.words.proofs.Kit.{ne-eqb, le-leb, not-true, eqb, leb, length, getD}
 use mathlib.Core.Option.{none, some}
 use borrow.Author.Tests.{leb-true}
 use lib.Pow.{pow-pos}
@@ -69,11 +69,7 @@ whole-held : (b : ℕ) → whole b ≡ true → holds b ≡ true
 whole-held b w = sym (kept-same b) ∙ both-left (kept b) (not (eqb b 16)) w
 
 whole-other : (b : ℕ) → whole b ≡ true → eqb b 16 ≡ false
-whole-other b w = not-false′ (eqb b 16) (both-right (kept b) (not (eqb b 16)) w)
-  where
-    not-false′ : (t : Bool) → not t ≡ true → t ≡ false
-    not-false′ true e = sym e
-    not-false′ false e = refl
+whole-other b w = not-true (eqb b 16) (both-right (kept b) (not (eqb b 16)) w)
 
 -- field 16 has a slot, and is held
 pub state-slotted : slotted 16 ≡ true
@@ -163,6 +159,10 @@ module _ (body r : List ℕ) (good : Good r) where
       rw (state-enable word old e low (omega arith), value)
       (lights (has word e) (has old e) (has word (e - 12)) (has old (e - 12)) (has (heldOf r) 16) (dark e))
 
+  field-after : (b : ℕ) → whole b ≡ true → slotAfterBody b body (slotOf b r) ≡ pick (both (has fields b) true) (fieldOf b body) (slotOf b r)
+  unfolding slotAfter
+  field-after b w = rw (whole-held b w, whole-other b w)
+
   told-after : (x : Thing) → told x (heldAfter fields (heldOf r)) (λ b. slotAfterBody b body (slotOf b r))
       ≡ orElse (told x fields (λ b. fieldOf b body)) (heldIn x r)
   told-after (wholeField b) =
@@ -171,10 +171,6 @@ module _ (body r : List ℕ) (good : Good r) where
       rw (w, held-bit fields (heldOf r) b, whole-held b w, field-after b w)
       (comes (has fields b) (has (heldOf r) b) (fieldOf b body) (slotOf b r)))
       (λ w. rw w) (true-or-false (whole b))
-    where
-      field-after : (b : ℕ) → whole b ≡ true → slotAfterBody b body (slotOf b r) ≡ pick (both (has fields b) true) (fieldOf b body) (slotOf b r)
-      unfolding slotAfter
-      field-after b w = rw (whole-held b w, whole-other b w)
   told-after (indicator e) =
       ⊎-elim
       (λ p.

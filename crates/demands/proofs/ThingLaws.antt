@@ -52,6 +52,13 @@ module _ (r : List ℕ) (l : length r ≡ recordWords) (g : Good r) where
   whole-there b n =
       ⊎-elim (λ h. rw (h, kept-same b ∙ g .bits b h, ne-eqb b 16 n)) (λ h. rw (h, both-no (whole b))) (true-or-false (has (heldOf r) b))
 
+  -- the slot of field 16 is one word
+  slot-word : slotOf 16 r ≡ getD (slotOf 16 r) 0 0 ∷ []
+  unfolding slotOf slotsOf
+  slot-word =
+      let w = state-word (part headWords slotWords r) (part-length headWords slotWords r (omega (arith, l))) in
+      w ∙ sym (ap (λ (ws : List ℕ). getD ws 0 0 ∷ []) w)
+
   module _ (h : has (heldOf r) 16 ≡ true) where
     good-state : stateHeld state ≡ true
     unfolding heldRule
@@ -93,12 +100,6 @@ module _ (r : List ℕ) (l : length r ≡ recordWords) (g : Good r) where
 
     slot-is : slotOf 16 r ≡ stateOf held ∷ []
     slot-is = slot-word ∙ ap (λ (n : ℕ). n ∷ []) (sym state-is)
-      where
-        slot-word : slotOf 16 r ≡ getD (slotOf 16 r) 0 0 ∷ []
-        unfolding slotOf slotsOf
-        slot-word =
-            let w = state-word (part headWords slotWords r) (part-length headWords slotWords r (omega (arith, l))) in
-            w ∙ sym (ap (λ (ws : List ℕ). getD ws 0 0 ∷ []) w)
 
   pub field-held : (b : ℕ) → pick (has (heldOf r) b) (some (slotOf b r)) none ≡ fieldBy b (λ x. heldIn x r)
   field-held b =

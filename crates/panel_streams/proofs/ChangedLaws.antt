@@ -1,4 +1,4 @@
--- Fields that are not the same in two records. The idea: a word marked bit by bit has the bits whose tests hold (`marked-has`), so a loop that marks one bit
+-- Fields that are not the same in two records. The idea: a word marked bit by bit has the bits whose tests hold, so a loop that marks one bit
 -- more goes from `marked k` to `marked (k + 1)`; and the held words of a field are parts of the two records at one place, of the same words where they are as
 -- many and none of them differs.
 use Rattle.words.proofs.Kit.{_≡_, refl, sym, ap, ap₂, _∙_, Bool, true, false, not, ⊎-elim, List, ℕ, zero, suc, _+_, _-_, _*_, _/_, _%_, _^_, _≤_, _<_, arith}
@@ -10,14 +10,14 @@ use lib.Seq.{ext-getD}
 use lib.Pow.{pow-mono, high, low}
 use Rattle.words.specs.Numbers.{TABLE, STREAM}
 use Rattle.words.specs.Tests.{when, both, sameWords}
-use Rattle.words.specs.Word.{has}
+use Rattle.words.specs.Word.{has, marked}
 use Rattle.words.specs.Part.{part}
 use Rattle.words.specs.All.{all}
 use Rattle.words.specs.Outcome.{refused, accepted, checked}
 use Rattle.words.proofs.Cases.{same-test, true-or-false, both-left, both-right, both-no, same-or-not, true-is-false, same-words, words-same}
 use Rattle.words.proofs.RefusalLaws.{first-passed, first-refused, first-fine, either-passed}
 use Rattle.words.proofs.PowerLaws.{halves}
-use Rattle.words.proofs.BitLaws.{has-low}
+use Rattle.words.proofs.BitLaws.{marked-small, marked-has, marked-none}
 use Rattle.words.proofs.SetBitLaws.{has-above}
 use Rattle.words.proofs.AllLaws.{all-at, all-intro, all-more, all-fails}
 use Rattle.words.proofs.PartLaws.{seen, part-length, getD-part}
@@ -30,7 +30,7 @@ use Rattle.record.proofs.HeldWordsLaws.{held-most, held-part, held-length}
 use Rattle.table.specs.Layout.{streamsOf, base, Has, recordAt}
 use Rattle.table.specs.Well.{wellMade}
 use Rattle.table.proofs.WellLaws.{layout-has, well-whole, well-few}
-use Rattle.panel_streams.specs.Changed.{marked, differs, changedIn, changedList, changedOf, changedPaper}
+use Rattle.panel_streams.specs.Changed.{differs, changedIn, changedList, changedOf, changedPaper}
 use Rattle.panel_streams.specs.inner.Asked.{changedChecks}
 use Rattle.panel_streams.specs.declared.changes.Changed.{Changed}
 use Rattle.words.specs.declared.Check.{Check}

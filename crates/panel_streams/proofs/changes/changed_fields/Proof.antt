@@ -1,6 +1,7 @@
 -- `changed_fields` meets its promise: the bits passed are marked.
 use Rattle.words.proofs.Kit.{_≡_, _-_, _≤_, needs}
-use Rattle.panel_streams.specs.Changed.{marked, differs}
+use Rattle.words.specs.Word.{marked}
+use Rattle.panel_streams.specs.Changed.{differs}
 use Rattle.panel_streams.proofs.ChangedLaws.{marking-start, marking-small, marking-turn, marking-end}
 use Rattle.panel_streams.proofs.changes.changed_fields.Statement.{statement}
 use Rattle.panel_streams.proofs.changes.changed_fields.Tie as tie
