@@ -533,7 +533,7 @@ def wrong_over_range_counts():
         bent(joined(changed(right, {1: indicator | 1 << 22})), "bodies")
         with_word = body(7, {**held, 22: [5]})
         bent(joined(changed(with_word, {1: indicator})), "bodies")
-    # Of 32 streams the longest page there was, and the longest there is.
+    # The longest page that there is, and with field 22 in its last stream.
     many = [body(0x300 + i, every_field()) for i in range(32)]
     beside(joined(*many), "indicator", room=2817)
     many[31] = body(0x31F, {**every_field(), 22: [5]})
