@@ -3,15 +3,16 @@
     python3 tools/compare/make_survey.py [--packets N] [--streams S] [--seed K] [--dwell D]
         [--payload W] [--loss P] [--sparing R] [--end cut|type|bits|class|field] FILE
 
-FILE is a recording as vrtplay and vrtshow take it.  Each receiver hops through the channels
-of its band and sends a Context packet at every hop, a whole one now and then, some that
-change nothing, some that change the temperature or the state alone, some with a count of the
-samples over range; data follows.  A state word enables some indicators, on and off, and has
-values without their enables, over-range and sample loss among them.  The first R receivers are sparing: they send what changed alone, now and then in several packets, all of
-it at every sixteenth hop, and every third of them never again.  Packets are lost, single and
-in bursts, Context packets among them.  The last receiver is silent for a while.  Streams that
-are not declared join for a while, and a few packets have no identifier.  --end spoils the
-last packet.  The same arguments make the same recording.
+FILE is a recording as vrtplay and vrtshow take it.  Each receiver hops through the channels of
+its band and sends a Context packet at every hop, a whole one now and then, some that change
+nothing, some that change the temperature or the state alone, some with a count of the samples
+over range; data follows.  A state word enables some indicators, on and off, and has values
+without their enables, over-range and sample loss among them.  The first R receivers are
+sparing: they send what changed alone, now and then in several packets, all of it at every
+sixteenth hop, and every third of them never again.  Packets are lost, single and in bursts,
+Context packets among them.  The last receiver is silent for a while.  Streams that are not
+declared join for a while, and a few packets have no identifier.  --end spoils the last packet.
+The same arguments make the same recording.
 """
 
 import argparse

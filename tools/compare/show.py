@@ -1049,20 +1049,17 @@ def states_of_a_stream():
     column = ["0x60040000", "0x6000005A"]
     last = "valid data off, reference lock off, user bits 0x5A"
     yield "on, off and user bits", s.sent, said, last, column
-    s, said, column, held = Sender(), [], [], []
-    for place, (enable, name) in enumerate(INDICATORS.items()):
-        # on, over-range lit, the value without the enable, off
-        for word, lit in ((on[enable], "on"), (0x02002000, ""), (1 << enable - 12, ""), (1 << enable, "off")):
-            s.tells(state=word)
-            if lit:
-                held = held[:place] + [f"{name} {lit}"]
-                said.append(f"changed: state ({', '.join(held)}, user bits 0x00)")
-                state = sum(1 << one for one in list(INDICATORS)[: place + 1])
-                state |= 1 << enable - 12 if lit == "on" else 0
-                column.append(f"0x{state:08X}")
-    yield "each indicator, one after another", s.sent, said, ", ".join([*held, "user bits 0x00"]), column
-    s = Sender().tells(state=0).tells(state=0x000FF000).tells(state=0x03003000).tells(state=0x0300300F)
-    s.tells(state=0x0F).tells(state=0xF0).tells(rf=1)
+    s, said, column, before, enables = Sender(), [], [], "", 0
+    for enable, name in INDICATORS.items():
+        # on; over-range, and the value alone, which change nothing; off
+        s.tells(state=on[enable]).tells(state=0x02002000).tells(state=1 << enable - 12)
+        s.tells(state=1 << enable)
+        said += [f"changed: state ({before}{name} {lit}, user bits 0x00)" for lit in ("on", "off")]
+        before, enables = f"{before}{name} off, ", enables | 1 << enable
+        column += [f"0x{enables | 1 << enable - 12:08X}", f"0x{enables:08X}"]
+    yield "each indicator, one after another", s.sent, said, f"{before}user bits 0x00", column
+    s = Sender().tells(state=0).tells(state=0x000FF000).tells(state=0x03003000)
+    s.tells(state=0x0300300F).tells(state=0x0F).tells(state=0xF0).tells(rf=1)
     said = ["changed: state (user bits 0x00)", "changed: state (user bits 0x0F)"]
     said += ["changed: state (user bits 0xF0)", "tuned: RF 1 MHz"]
     column = ["0x00000000", "0x0000000F", "0x000000F0", "0x000000F0"]
@@ -1074,11 +1071,11 @@ def states_of_a_stream():
     said = [f"changed: state ({first})", "changed: temperature 1 degrees C"]
     said.append(f"changed: temperature 1 -> 2 degrees C; also reference point, state ({last})")
     yield "all of them", s.sent, said, last, ["0xFC0FC0FF", "0xFC0FC0FF", "0xFC07C000"]
-    s = Sender().tells(over=5).tells(over=6, rf=1, rate=2).tells(over=7, warm=64).tells(over=8).data()
+    s = Sender().tells(over=5).tells(over=6, rf=1, rate=2).tells(over=7, warm=64).tells(over=8)
     said = ["tuned: RF 1 MHz, sample rate 2 MHz", "changed: temperature 1 degrees C"]
     yield "over-range counts", s.sent, said, None, ["", ""]
-    s = Sender().tells(state=on[28], rf=1).loses().tells(state=1 << 28 | 1).data().loses(2, 1).data()
-    s.tells(over=1, rf=1)
+    s = Sender().tells(state=on[28], rf=1).loses().tells(state=1 << 28 | 1).data()
+    s.loses(2, 1).data().tells(over=1, rf=1)
     said = ["tuned: RF 1 MHz; also state (AGC on, user bits 0x00)", "missing 1 of type 4 (Context)"]
     said += ["changed: state (AGC off, user bits 0x01)", "missing 2 of type 1 (data)"]
     said += ["tuning trusted again"]
@@ -1087,8 +1084,9 @@ def states_of_a_stream():
     s = Sender().tells(state=on[26])
     Sender(8, s.sent).tells(state=on[27])
     s.sent.append(packet(4, [1 << 16, 1 << 20], identifier=7, count=1))
-    said = ["changed: state (spectral inversion on, user bits 0x00)", "refused 11", "refused 10"]
-    yield "refused packets", s.sent, said, "spectral inversion on, user bits 0x00", ["0x04004000", "", ""]
+    last = "spectral inversion on, user bits 0x00"
+    said = [f"changed: state ({last})", "refused 11", "refused 10"]
+    yield "refused packets", s.sent, said, last, ["0x04004000", "", ""]
 
 
 def states():

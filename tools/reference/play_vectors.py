@@ -587,7 +587,9 @@ def each_choice_of_enables():
             ([ALL_OFF | 0x3C, enables | VALUES | 0x03003000], ALL_OFF | values)
             for enables, values in chosen
         ])
-        states_of([([enables | VALUES | 0x81], enables | values | 0x81) for enables, values in chosen])
+        states_of([
+            ([enables | VALUES | 0x81], enables | values | 0x81) for enables, values in chosen
+        ])
 
 
 def state_words():

@@ -1,7 +1,8 @@
-"""The answers about single streams, held against the samples and sentences of document 01,
-the sentences of C-11 of document 02, and words laid out by hand.  Each number is worked out on paper from docs/LAYOUT.md:
-word 1 + 88 s has the identifier of stream s, the next word its held indicator, then come
-three words for each of the types 1, 3, 4 and 5, and then the slots."""
+"""The answers about single streams, held against the samples and sentences of document 01, the
+sentences of C-11 of document 02, and words laid out by hand.  Each number is worked out on
+paper from docs/LAYOUT.md: word 1 + 88 s has the identifier of stream s, the next word its
+held indicator, then come three words for each of the types 1, 3, 4 and 5, and then the
+slots."""
 
 import unittest
 
