@@ -516,15 +516,16 @@ def over_range_counts():
         (context(1 << 22, [6], identifier=7, count=2), (4, 0, 0)),
         (context(1 << 31, identifier=7, count=3), (4, 0, 0)),
     ]
-    recording([7], packets, after={indicator_place(): 1 << 23, slot_place(23): 0xFEED, 28: 0})
+    after = {indicator_place(): 1 << 23, slot_place(23): 0xFEED, slot_place(22): 0}
+    recording([7], packets, after=after)
     # With each other field, in a stream of its own, and with all those behind it: their
     # words are those after its own.
     ids, packets, after = [], [], {}
     for stream, (bit, n) in enumerate(HELD):
         ids.append(0x2200 + bit)
         words = [*other(bit), ONES] if bit > 22 else [ONES, *other(bit)]
-        carried_words = context(1 << 22 | 1 << bit, words, identifier=ids[stream])
-        packets.append((carried_words, (4, stream, 0)))
+        sent = context(1 << 22 | 1 << bit, words, identifier=ids[stream])
+        packets.append((sent, (4, stream, 0)))
         after.update({indicator_place(stream): 1 << bit, slot_place(22, stream): 0})
         after.update(at_places(slot_place(bit, stream), other(bit)))
     recording(ids, packets, after=after)
@@ -552,8 +553,8 @@ def states_of(streams):
     for stream, (words, held) in enumerate(streams):
         ids.append(0x1600 + stream)
         for count, word in enumerate(words):
-            carried_word = context(1 << 16, [word], identifier=ids[stream], count=count)
-            packets.append((carried_word, (4, stream, 0)))
+            sent = context(1 << 16, [word], identifier=ids[stream], count=count)
+            packets.append((sent, (4, stream, 0)))
         after.update({indicator_place(stream): 1 << 16, slot_place(16, stream): held})
     recording(ids, packets, after=after)
 
@@ -586,9 +587,6 @@ def each_choice_of_enables():
         states_of([
             ([ALL_OFF | 0x3C, enables | VALUES | 0x03003000], ALL_OFF | values)
             for enables, values in chosen
-        ])
-        states_of([
-            ([enables | VALUES | 0x81], enables | values | 0x81) for enables, values in chosen
         ])
 
 
