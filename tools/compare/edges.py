@@ -299,6 +299,29 @@ def states():
         yield ALL_ON | 1 << bit, bit < 8 or bool(ALL_ON >> bit & 1)
 
 
+def spoilt_tables():
+    """Tables of one stream that are not well made: with a state word that cannot be held; with
+    field 22 held, its word not zero, or both, where nothing else is held and where all is."""
+    for word in (*[1 << bit for bit in range(12, 20)], 1 << 24, 1 << 25, 1 << 20, ALL_ON - (1 << 26)):
+        yield table.layout(holding_state(word))
+    for stream in (*holding_state(0), full_stream(7)):
+        for held, word in ((1 << 22, 0), (0, 5), (1 << 22, 5)):
+            words = table.layout([stream])
+            words[2], words[28] = words[2] | held, word
+            yield words
+
+
+def state_tables():
+    """Tables of one stream after state words and over-range counts, each with what is held."""
+    lent = table.layout([table.fresh_stream(7)])
+    for body in (
+        [1 << 22, 5], [1 << 16, 0], [1 << 16, BRIEF | 0x5A], [1 << 22 | 1 << 16, 6, ALL_ON],
+        [1 << 16, 1 << 29 | VALUES | 0xA5], [1 << 22 | 1 << 10, 7, 8], [1 << 16, ALL_OFF],
+    ):
+        lent = table.play_lent(lent, context(body))[1]
+        yield lent
+
+
 def tables():
     """Tables of one stream, fresh, started and full, of some and of 32."""
     yield table.layout([table.fresh_stream(7)])
@@ -321,13 +344,8 @@ def well_made(r):
     yield from map(ask, bits_of(three, [0, 1, 2, 90, 178, 264]))
     for word, good in states():
         yield sure(ask(table.layout(holding_state(word))), good)
-    # field 22 held, its word not zero, and both, in a stream that holds nothing and in one
-    # that holds all
-    for made in (one, full):
-        for held, word in ((1 << 22, 0), (0, 5), (1 << 22, 5)):
-            other = list(made)
-            other[2], other[28], other[11] = other[2] | held, word, 1
-            yield sure(ask(other), 0)
+    for spoilt in spoilt_tables():
+        yield sure(ask(spoilt), 0)
 
 
 def played_table(last, seen=1, missing=0):
@@ -384,24 +402,23 @@ def play(r):
     # both a table that is not well made and a packet that is refused
     yield sure(ask([0], []), 18)
     yield sure(ask([], [ONES]), 18)
+    for spoilt in spoilt_tables():
+        yield sure(ask(spoilt, packet(1, 0)), 18)
+        yield sure(ask(spoilt, context([1 << 22 | 1 << 16, 5, ALL_ON])), 18)
 
 
 def play_run(r):
     data = [*DATA, 0x14020005, 7, 0, 0, 0]
     # valid data on, an over-range count before a temperature, and lock off
     states = context([1 << 16, 0x40040001]) + context([1 << 22 | 1 << 18, 5, 64]) + context([1 << 16, 0x20000002])
+    lent = table.layout([table.fresh_stream(7)])
     cuts = [(recording, n) for recording in (data, states) for n in range(len(recording) + 1)]
     for recording, n in cuts:
         for entries in (0, 4, 5, 10, 14, 15):
             for start_at in (0, 5, 10, 11):
-                lent = table.layout([table.fresh_stream(7)])
-                said, written, after = calls.run(lent, recording[:n], start_at, entries // 5)
-                answer, packets, after_them = noisy(r, entries), calls.length_place(r), calls.length_place(r)
-                args = [given(lent), given(recording[:n]), start_at, answer, packets, after_them]
-                yield calls.Case(args, 0, {
-                    0: calls.array("I", after), 3: calls.put(answer, written),
-                    4: calls.put(packets, said[1:2]), 5: calls.put(after_them, said[2:]),
-                })
+                yield sure(calls.play_run_of(r, lent, recording[:n], start_at, entries), 0)
+    for spoilt in spoilt_tables():
+        yield sure(calls.play_run_of(r, spoilt, data, 0, 10), 18)
 
 
 def page_length(r):
@@ -410,9 +427,11 @@ def page_length(r):
             ([table.fresh_stream(i) for i in range(streams)], 2 + 16 * streams),
             ([full_stream(i) for i in range(streams)], 2 + 89 * streams),
         ):
-            place = calls.length_place(r)
-            assert page.page_length(table.layout(made)) == ("length", length)
-            yield calls.Case([given(table.layout(made)), place], 0, {1: calls.put(place, [length])})
+            case = calls.page_length_of(r, table.layout(made))
+            assert case.after[1][0] == length
+            yield sure(case, 0)
+    for spoilt in spoilt_tables():
+        yield sure(calls.page_length_of(r, spoilt), 18)
 
 
 def save(r):
@@ -421,13 +440,11 @@ def save(r):
         lent = table.layout(made)
         length = 2 + 89 * streams
         for room in (length, length + 1, length - 1, 0):
-            out, place = noisy(r, room), calls.length_place(r)
-            (said, what), after = page.save(lent, list(out.entries))
-            args = [given(lent), out, place]
-            if room < length:
-                yield sure(calls.refused(args, what), 13)
-            else:
-                yield calls.Case(args, 0, {1: calls.array("I", after), 2: calls.put(place, [length])})
+            yield sure(calls.save_of(r, lent, room), 0 if room >= length else 13)
+    for lent in state_tables():
+        yield sure(calls.save_of(r, lent, 91), 0)
+    for spoilt in spoilt_tables():
+        yield sure(calls.save_of(r, spoilt, 92), 18)
 
 
 def put_back(r):
@@ -461,8 +478,61 @@ def put_back(r):
         yield sure(ask(page.page_of([full_stream(i) for i in range(streams)]), 2817), 0)
 
 
+# What a table says of a stream: state words and field 22; the rest is among the other cases.
+
+
+def reading(r):
+    for lent in state_tables():
+        for bit in range(10, 31):
+            yield sure(calls.reading_of(r, lent, 0, bit), 0)
+    for spoilt in spoilt_tables():
+        for bit in (22, 16):
+            yield sure(calls.reading_of(r, spoilt, 0, bit), 18)
+
+
+def readings(r):
+    for lent in state_tables():
+        yield sure(calls.readings_of(r, lent, 0), 0)
+    for spoilt in spoilt_tables():
+        yield sure(calls.readings_of(r, spoilt, 0), 18)
+
+
+def held_words(r):
+    for lent in state_tables():
+        for room in (0, 1, 2):
+            yield sure(calls.held_words_of(r, lent, 0, 22, room), 0)
+            yield sure(calls.held_words_of(r, lent, 0, 16, room), 0 if room or not lent[2] >> 16 & 1 else 13)
+    for spoilt in spoilt_tables():
+        for bit in (22, 16):
+            yield sure(calls.held_words_of(r, spoilt, 0, bit, 2), 18)
+
+
+def identity(r):
+    for lent in state_tables():
+        yield sure(calls.identity_of(r, lent, 0), 0)
+    for spoilt in spoilt_tables():
+        yield sure(calls.identity_of(r, spoilt, 0), 18)
+
+
+def own_table(r):
+    for lent in state_tables():
+        yield sure(calls.own_table_of(r, lent, 0, 89), 0)
+    for spoilt in spoilt_tables():
+        yield sure(calls.own_table_of(r, spoilt, 0, 89), 18)
+
+
+def changed(r):
+    made = [*state_tables()]
+    for before in made:
+        for after in made:
+            yield sure(calls.changed_of(r, before, 0, after, 0), 0)
+    for spoilt in spoilt_tables():
+        yield sure(calls.changed_of(r, spoilt, 0, made[0], 0), 18)
+        yield sure(calls.changed_of(r, made[0], 0, spoilt, 0), 18)
+
+
 def edges(name):
-    """The edges of a call, the same each time; trailer_word, reading, readings, held_words
-    and what a table says of a stream have theirs among the others."""
+    """The edges of a call, the same each time; trailer_word and counts have theirs among the
+    others."""
     make = globals().get(name.removeprefix("vrt49_"))
     return list(make(random.Random(f"edges {name}"))) if make else []
