@@ -461,6 +461,17 @@ def run(lent, words, start_at, entries):
     return ("ran", len(written) // 5, place), written, after + lent[len(after) :]
 
 
+def play_run_of(r, lent, words, start_at, room):
+    answer, packets, after_them = noisy(r, room), length_place(r), length_place(r)
+    args = [given(lent), given(words), start_at, answer, packets, after_them]
+    said, written, after = run(lent, words, start_at, room // 5)
+    if said[0] == "refused":
+        return refused(args, said[1])
+    return Case(args, 0, {
+        0: array("I", after), 3: put(answer, written), 4: put(packets, said[1:2]), 5: put(after_them, said[2:]),
+    })
+
+
 def play_run(r):
     lent = lent_table(r)
     words, places = [], []
@@ -474,21 +485,14 @@ def play_run(r):
     if r.randrange(20) == 0:
         start_at = r.choice((len(words), len(words) + 1, 2**32, 2**64 - 1, r.randrange(len(words) + 1)))
     room = r.choice((5 * len(places), 5 * len(places) + r.randrange(12), r.randrange(5 * len(places) + 1), 500))
-    answer, packets, after_them = noisy(r, room), length_place(r), length_place(r)
-    lent_args = [given(lent), given(words), start_at, answer, packets, after_them]
-    said, written, after = run(lent, words, start_at, room // 5)
-    if said[0] == "refused":
-        return refused(lent_args, said[1])
-    return Case(lent_args, 0, {
-        0: array("I", after), 3: put(answer, written), 4: put(packets, said[1:2]), 5: put(after_them, said[2:]),
-    })
+    return play_run_of(r, lent, words, start_at, room)
 
 
 # Pages.
 
 
-def page_length(r):
-    lent, length = lent_table(r), length_place(r)
+def page_length_of(r, lent):
+    length = length_place(r)
     args = [given(lent), length]
     said, what = page.page_length(lent)
     if said == "refused":
@@ -496,18 +500,26 @@ def page_length(r):
     return Case(args, 0, {1: put(length, [what])})
 
 
-def save(r):
-    lent, length = lent_table(r), length_place(r)
-    said, needed = page.page_length(lent)
-    room = 100 if said == "refused" else needed + r.choice((0, 0, 1, 3, 50))
-    if r.randrange(8) == 0:
-        room = around(r, room)
-    out = noisy(r, room)
+def page_length(r):
+    return page_length_of(r, lent_table(r))
+
+
+def save_of(r, lent, room):
+    out, length = noisy(r, room), length_place(r)
     args = [given(lent), out, length]
     (said, what), after = page.save(lent, list(out.entries))
     if said == "refused":
         return refused(args, what)
     return Case(args, 0, {1: array("I", after), 2: put(length, [what])})
+
+
+def save(r):
+    lent = lent_table(r)
+    said, needed = page.page_length(lent)
+    room = 100 if said == "refused" else needed + r.choice((0, 0, 1, 3, 50))
+    if r.randrange(8) == 0:
+        room = around(r, room)
+    return save_of(r, lent, room)
 
 
 def put_back(r):
@@ -537,7 +549,7 @@ def some_place(r, lent):
     stream = r.randrange(streams)
     held = lent[2 + 88 * stream] if len(lent) > 2 + 88 * stream else 0
     bits = [bit for bit in table.HELD_BITS if held >> bit & 1]
-    bit = r.choice(bits) if bits and r.randrange(6) else r.randrange(10, 31)
+    bit = r.choice(bits) if bits and r.randrange(6) else r.choice((*range(10, 31), 22, 22, 22))
     if r.randrange(15) == 0:
         stream = r.choice((streams, streams + 1, 32, 2**32, 2**32 + stream, 2**64 - 1))
     if r.randrange(15) == 0:
@@ -574,9 +586,7 @@ def reading_numbers(said):
     return KINDS[said[0]], 0, 0, *levels, *[0] * (2 - len(levels))
 
 
-def reading(r):
-    lent = panel_table(r)
-    stream, bit = some_place(r, lent)
+def reading_of(r, lent, stream, bit):
     kind, parts_place, hertz, levels = noisy(r, 1), noisy(r, 1), noisy(r, 1, "Q"), noisy(r, 2)
     args = [given(lent), stream, bit, kind, parts_place, hertz, levels]
     said = panel.reading(lent, stream, bit)
@@ -587,10 +597,13 @@ def reading(r):
     return Case(args, 0, after)
 
 
-def readings(r):
-    """Entry i of each column is what a reading of bit 30 - i gives."""
+def reading(r):
     lent = panel_table(r)
-    stream, _ = some_place(r, lent)
+    return reading_of(r, lent, *some_place(r, lent))
+
+
+def readings_of(r, lent, stream):
+    """Entry i of each column is what a reading of bit 30 - i gives."""
     columns = [noisy(r, 21, code) for code in "IIQII"]
     args = [given(lent), stream, *columns]
     said = panel.readings(lent, stream)
@@ -600,10 +613,14 @@ def readings(r):
     return Case(args, 0, {2 + i: put(*both) for i, both in enumerate(zip(columns, zip(*rows)))})
 
 
-def held_words(r):
+def readings(r):
     lent = panel_table(r)
-    stream, bit = some_place(r, lent)
-    out, length = noisy(r, r.choice((0, 1, 2, 2, 13, 13, 13, 14, 20))), length_place(r)
+    stream, _ = some_place(r, lent)
+    return readings_of(r, lent, stream)
+
+
+def held_words_of(r, lent, stream, bit, room):
+    out, length = noisy(r, room), length_place(r)
     args = [given(lent), stream, bit, out, length]
     (said, what), after = panel.held_words(lent, stream, bit, list(out.entries))
     if said == "refused":
@@ -611,18 +628,27 @@ def held_words(r):
     return Case(args, 0, {3: array("I", after), 4: put(length, [what])})
 
 
+def held_words(r):
+    lent = panel_table(r)
+    return held_words_of(r, lent, *some_place(r, lent), r.choice((0, 1, 2, 2, 13, 13, 13, 14, 20)))
+
+
 # What a table says of a stream.
 
 
-def identity(r):
-    lent = lent_table(r)
-    stream, _ = some_place(r, lent)
+def identity_of(r, lent, stream):
     identifier, held = noisy(r, 1), noisy(r, 1)
     args = [given(lent), stream, identifier, held]
     said = streams.identity(lent, stream)
     if said[0] == "refused":
         return refused(args, said[1])
     return Case(args, 0, {2: put(identifier, [said[1]]), 3: put(held, [said[2]])})
+
+
+def identity(r):
+    lent = lent_table(r)
+    stream, _ = some_place(r, lent)
+    return identity_of(r, lent, stream)
 
 
 def counts(r):
@@ -637,10 +663,8 @@ def counts(r):
     return Case(args, 0, {3: put(answer, [1, *said[1:]] if said[0] == "started" else [0, 0, 0, 0])})
 
 
-def own_table(r):
-    lent = lent_table(r)
-    stream, _ = some_place(r, lent)
-    out, length = noisy(r, r.choice((0, 88, 89, 89, 89, 90, 120))), length_place(r)
+def own_table_of(r, lent, stream, room):
+    out, length = noisy(r, room), length_place(r)
     args = [given(lent), stream, out, length]
     (said, what), after = streams.own_table(lent, stream, list(out.entries))
     if said == "refused":
@@ -648,11 +672,26 @@ def own_table(r):
     return Case(args, 0, {2: array("I", after), 3: put(length, [what])})
 
 
+def own_table(r):
+    lent = lent_table(r)
+    stream, _ = some_place(r, lent)
+    return own_table_of(r, lent, stream, r.choice((0, 88, 89, 89, 89, 90, 120)))
+
+
 def played_on(r, lent):
     """The table after some packets of its own streams; a table that is not well made stays."""
     for _ in range(r.randrange(4)):
         lent = table.play_lent(lent, making.packet(r, r.choice((1, 4, 4)), declared(r, lent)))[1]
     return lent
+
+
+def changed_of(r, before, stream, after, other):
+    fields = noisy(r, 1)
+    args = [given(before), stream, given(after), other, fields]
+    said, what = streams.changed(before, stream, after, other)
+    if said == "refused":
+        return refused(args, what)
+    return Case(args, 0, {4: put(fields, [what])})
 
 
 def changed(r):
@@ -666,17 +705,12 @@ def changed(r):
     elif r.randrange(3) == 0:
         said, own = streams.own_table(before, stream, [0] * 89)
         before, stream = (own, 0) if said[0] == "table" else (before, stream)
-    fields = noisy(r, 1)
-    args = [given(before), stream, given(after), other, fields]
-    said, what = streams.changed(before, stream, after, other)
-    if said == "refused":
-        return refused(args, what)
-    return Case(args, 0, {4: put(fields, [what])})
+    return changed_of(r, before, stream, after, other)
 
 
 # The calls in drive.c's order: what each takes (its letters, as there), how many
 # cases, and the answers that must occur.  SIZE does not occur for a page: it has at
-# most 2,882 words.
+# most 2,850 words.
 
 Call = namedtuple("Call", "name takes make cases occur")
 

@@ -1,6 +1,7 @@
-"""Cases at the edges of document 01's rules, for each call: the samples of document
-01 with the number it states, every choice of optional parts, every bit of a field
-with a rule, every bit of a table and a page, every pair of counts."""
+"""Cases at the edges of document 01's rules, and of C-11's, for each call: the samples
+of document 01 with the number it states, every choice of optional parts, every bit of a
+field with a rule, every bit of a table and a page, every pair of counts, every choice of
+the enables of a state word."""
 
 import random
 
@@ -34,6 +35,8 @@ def full_field(bit):
         return [0x00010002, 0x00018001, 1, 2, 3, 4, 5, 6]
     if bit == 15:
         return [FORMAT, 0x00010002]
+    if bit == 16:
+        return [0xFC0A805A]
     return [bit * 5 + place for place in range(vrt49.FIXED_WORDS[bit])]
 
 
@@ -269,9 +272,54 @@ def start(r):
 
 
 def full_stream(identifier):
-    """A stream that has started all its counts and holds every field."""
+    """A stream that has started all its counts and holds every field that is held."""
     counts = {kind: {"seen": kind, "missing": 9, "last": kind} for kind in table.COUNTED_TYPES}
     return {"identifier": identifier, "counts": counts, "held": {bit: full_field(bit) for bit in table.HELD_BITS}}
+
+
+ALL_ON, ALL_OFF, VALUES, BRIEF = 0xFC0FC000, 0xFC000000, 0x000FC000, 0x03003000
+
+
+def holding_state(word):
+    """A table of one stream that holds a state word alone."""
+    stream = table.fresh_stream(7)
+    stream["counts"][4] = {"seen": 1, "missing": 0, "last": 3}
+    stream["held"] = {16: [word]}
+    return [stream]
+
+
+def states():
+    """State words with whether they can be held: every choice of enables with all the values
+    and with their own, and each bit alone, with and without all that can be held."""
+    for enables in range(64):
+        yield enables << 26 | enables << 14, True
+        yield enables << 26 | VALUES, enables == 63
+    for bit in range(32):
+        yield 1 << bit, bit < 8 or bit > 25
+        yield ALL_ON | 1 << bit, bit < 8 or bool(ALL_ON >> bit & 1)
+
+
+def spoilt_tables():
+    """Tables of one stream that are not well made: with a state word that cannot be held; with
+    field 22 held, its word not zero, or both, where nothing else is held and where all is."""
+    for word in (*[1 << bit for bit in range(12, 20)], 1 << 24, 1 << 25, 1 << 20, ALL_ON - (1 << 26)):
+        yield table.layout(holding_state(word))
+    for stream in (*holding_state(0), full_stream(7)):
+        for held, word in ((1 << 22, 0), (0, 5), (1 << 22, 5)):
+            words = table.layout([stream])
+            words[2], words[28] = words[2] | held, word
+            yield words
+
+
+def state_tables():
+    """Tables of one stream after state words and over-range counts, each with what is held."""
+    lent = table.layout([table.fresh_stream(7)])
+    for body in (
+        [1 << 22, 5], [1 << 16, 0], [1 << 16, BRIEF | 0x5A], [1 << 22 | 1 << 16, 6, ALL_ON],
+        [1 << 16, 1 << 29 | VALUES | 0xA5], [1 << 22 | 1 << 10, 7, 8], [1 << 16, ALL_OFF],
+    ):
+        lent = table.play_lent(lent, context(body))[1]
+        yield lent
 
 
 def tables():
@@ -294,6 +342,10 @@ def well_made(r):
     for made in (one, full):
         yield from map(ask, bits_of(made, range(len(made))))
     yield from map(ask, bits_of(three, [0, 1, 2, 90, 178, 264]))
+    for word, good in states():
+        yield sure(ask(table.layout(holding_state(word))), good)
+    for spoilt in spoilt_tables():
+        yield sure(ask(spoilt), 0)
 
 
 def played_table(last, seen=1, missing=0):
@@ -324,53 +376,75 @@ def play(r):
             yield ask(lent, context(body))
         for bit in range(8, 31):
             yield ask(lent, context(body_of(bit)))
+    # state words over none, over all on and over all off: the enables decide
+    for enables in range(64):
+        own = enables << 14
+        for before, word, after in (
+            (None, enables << 26 | VALUES | BRIEF, enables << 26 | own),
+            (ALL_ON | 0x5A, enables << 26 | BRIEF | 0xA5, ALL_ON - own | 0xA5),
+            (ALL_OFF | 0x5A, enables << 26 | VALUES, ALL_OFF | own),
+        ):
+            lent = table.layout(holding_state(before) if before else [table.fresh_stream(7)])
+            case = ask(lent, context([1 << 16, word]))
+            assert (case.after[0][2], case.after[0][37]) == (1 << 16, after)
+            yield sure(case, 0)
+    # the over-range count, alone and before each field, and before all of them
+    for lent in tables():
+        yield sure(ask(lent, context([1 << 22, ONES])), 0)
+    for bit in range(10, 22):
+        case = ask(table.layout([table.fresh_stream(7)]), context(body_of(22, bit)))
+        assert case.after[0][2] == 1 << bit and case.after[0][28] == 0
+        yield sure(case, 0)
+    yield sure(ask(table.layout([table.fresh_stream(7)]), context(body_of(*range(10, 23)))), 0)
     for kind in (0, 2):
         yield sure(ask(played_table(1), [kind << 28 | 1]), 11)
     yield sure(ask(played_table(1), [1 << 28 | 2, 8]), 11)
     # both a table that is not well made and a packet that is refused
     yield sure(ask([0], []), 18)
     yield sure(ask([], [ONES]), 18)
+    for spoilt in spoilt_tables():
+        yield sure(ask(spoilt, packet(1, 0)), 18)
+        yield sure(ask(spoilt, context([1 << 22 | 1 << 16, 5, ALL_ON])), 18)
 
 
 def play_run(r):
-    recording = [*DATA, 0x14020005, 7, 0, 0, 0]
-    for n in range(len(recording) + 1):
+    data = [*DATA, 0x14020005, 7, 0, 0, 0]
+    # valid data on, an over-range count before a temperature, and lock off
+    states = context([1 << 16, 0x40040001]) + context([1 << 22 | 1 << 18, 5, 64]) + context([1 << 16, 0x20000002])
+    lent = table.layout([table.fresh_stream(7)])
+    cuts = [(recording, n) for recording in (data, states) for n in range(len(recording) + 1)]
+    for recording, n in cuts:
         for entries in (0, 4, 5, 10, 14, 15):
             for start_at in (0, 5, 10, 11):
-                lent = table.layout([table.fresh_stream(7)])
-                said, written, after = calls.run(lent, recording[:n], start_at, entries // 5)
-                answer, packets, after_them = noisy(r, entries), calls.length_place(r), calls.length_place(r)
-                args = [given(lent), given(recording[:n]), start_at, answer, packets, after_them]
-                yield calls.Case(args, 0, {
-                    0: calls.array("I", after), 3: calls.put(answer, written),
-                    4: calls.put(packets, said[1:2]), 5: calls.put(after_them, said[2:]),
-                })
+                yield sure(calls.play_run_of(r, lent, recording[:n], start_at, entries), 0)
+    for spoilt in spoilt_tables():
+        yield sure(calls.play_run_of(r, spoilt, data, 0, 10), 18)
 
 
 def page_length(r):
     for streams in range(1, 33):
         for made, length in (
             ([table.fresh_stream(i) for i in range(streams)], 2 + 16 * streams),
-            ([full_stream(i) for i in range(streams)], 2 + 90 * streams),
+            ([full_stream(i) for i in range(streams)], 2 + 89 * streams),
         ):
-            place = calls.length_place(r)
-            assert page.page_length(table.layout(made)) == ("length", length)
-            yield calls.Case([given(table.layout(made)), place], 0, {1: calls.put(place, [length])})
+            case = calls.page_length_of(r, table.layout(made))
+            assert case.after[1][0] == length
+            yield sure(case, 0)
+    for spoilt in spoilt_tables():
+        yield sure(calls.page_length_of(r, spoilt), 18)
 
 
 def save(r):
     for streams in (1, 2, 31, 32):
         made = [full_stream(i) for i in range(streams)]
         lent = table.layout(made)
-        length = 2 + 90 * streams
+        length = 2 + 89 * streams
         for room in (length, length + 1, length - 1, 0):
-            out, place = noisy(r, room), calls.length_place(r)
-            (said, what), after = page.save(lent, list(out.entries))
-            args = [given(lent), out, place]
-            if room < length:
-                yield sure(calls.refused(args, what), 13)
-            else:
-                yield calls.Case(args, 0, {1: calls.array("I", after), 2: calls.put(place, [length])})
+            yield sure(calls.save_of(r, lent, room), 0 if room >= length else 13)
+    for lent in state_tables():
+        yield sure(calls.save_of(r, lent, 91), 0)
+    for spoilt in spoilt_tables():
+        yield sure(calls.save_of(r, spoilt, 92), 18)
 
 
 def put_back(r):
@@ -393,12 +467,72 @@ def put_back(r):
         yield from map(ask, bits_of(made, range(len(made))))
     three = page.page_of([table.fresh_stream(7), full_stream(8), table.fresh_stream(9)])
     yield from (ask(words, 265) for words in bits_of(three, range(9)))
+    for word, good in states():
+        yield sure(ask(page.page_of(holding_state(0))[:-1] + [word]), 0 if good else 19)
+    # field 22 held, with its word and without it
+    for made, stream in ((page.page_of(holding_state(5)), 0), (full, 0), (three, 1)):
+        yield sure(ask(making.hold_count(r, made, stream), 265), 19)
+        held = made[2 + 2 * stream] + 1
+        yield sure(ask(made[:held] + [made[held] | 1 << 22] + made[held + 1 :], 265), 19)
     for streams in (31, 32):
         yield sure(ask(page.page_of([full_stream(i) for i in range(streams)]), 2817), 0)
 
 
+# What a table says of a stream: state words and field 22; the rest is among the other cases.
+
+
+def reading(r):
+    for lent in state_tables():
+        for bit in range(10, 31):
+            yield sure(calls.reading_of(r, lent, 0, bit), 0)
+    for spoilt in spoilt_tables():
+        for bit in (22, 16):
+            yield sure(calls.reading_of(r, spoilt, 0, bit), 18)
+
+
+def readings(r):
+    for lent in state_tables():
+        yield sure(calls.readings_of(r, lent, 0), 0)
+    for spoilt in spoilt_tables():
+        yield sure(calls.readings_of(r, spoilt, 0), 18)
+
+
+def held_words(r):
+    for lent in state_tables():
+        for room in (0, 1, 2):
+            yield sure(calls.held_words_of(r, lent, 0, 22, room), 0)
+            yield sure(calls.held_words_of(r, lent, 0, 16, room), 0 if room or not lent[2] >> 16 & 1 else 13)
+    for spoilt in spoilt_tables():
+        for bit in (22, 16):
+            yield sure(calls.held_words_of(r, spoilt, 0, bit, 2), 18)
+
+
+def identity(r):
+    for lent in state_tables():
+        yield sure(calls.identity_of(r, lent, 0), 0)
+    for spoilt in spoilt_tables():
+        yield sure(calls.identity_of(r, spoilt, 0), 18)
+
+
+def own_table(r):
+    for lent in state_tables():
+        yield sure(calls.own_table_of(r, lent, 0, 89), 0)
+    for spoilt in spoilt_tables():
+        yield sure(calls.own_table_of(r, spoilt, 0, 89), 18)
+
+
+def changed(r):
+    made = [*state_tables()]
+    for before in made:
+        for after in made:
+            yield sure(calls.changed_of(r, before, 0, after, 0), 0)
+    for spoilt in spoilt_tables():
+        yield sure(calls.changed_of(r, spoilt, 0, made[0], 0), 18)
+        yield sure(calls.changed_of(r, made[0], 0, spoilt, 0), 18)
+
+
 def edges(name):
-    """The edges of a call, the same each time; trailer_word, reading, readings, held_words
-    and what a table says of a stream have theirs among the others."""
+    """The edges of a call, the same each time; trailer_word and counts have theirs among the
+    others."""
     make = globals().get(name.removeprefix("vrt49_"))
     return list(make(random.Random(f"edges {name}"))) if make else []

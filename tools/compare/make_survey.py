@@ -3,14 +3,16 @@
     python3 tools/compare/make_survey.py [--packets N] [--streams S] [--seed K] [--dwell D]
         [--payload W] [--loss P] [--sparing R] [--end cut|type|bits|class|field] FILE
 
-FILE is a recording as vrtplay and vrtshow take it.  Each receiver hops through the channels
-of its band and sends a Context packet at every hop, a whole one now and then, some that
-change nothing, some that change the temperature or the state alone; data follows.  The first
-R receivers are sparing: they send what changed alone, now and then in several packets, all of
-it at every sixteenth hop, and every third of them never again.  Packets are lost, single and
-in bursts, Context packets among them.  The last receiver is silent for a while.  Streams that
-are not declared join for a while, and a few packets have no identifier.  --end spoils the
-last packet.  The same arguments make the same recording.
+FILE is a recording as vrtplay and vrtshow take it.  Each receiver hops through the channels of
+its band and sends a Context packet at every hop, a whole one now and then, some that change
+nothing, some that change the temperature or the state alone, some with a count of the samples
+over range; data follows.  A state word enables some indicators, on and off, and has values
+without their enables, over-range and sample loss among them.  The first R receivers are
+sparing: they send what changed alone, now and then in several packets, all of it at every
+sixteenth hop, and every third of them never again.  Packets are lost, single and in bursts,
+Context packets among them.  The last receiver is silent for a while.  Streams that are not
+declared join for a while, and a few packets have no identifier.  --end spoils the last packet.
+The same arguments make the same recording.
 """
 
 import argparse
@@ -62,6 +64,7 @@ class Receiver:
         self.dwell = max(2, dwell + chance.randrange(-(dwell // 4), dwell // 4 + 1))
         self.left, self.channel, self.bandwidth, self.direction = 0, 0, self.usual, 1
         self.temperature, self.state, self.hops = 28.0 + number, 0, 0
+        self.lamps = random.Random(identifier)  # of its own: the hops do not follow from them
         self.counts = {kind: chance.randrange(16) for kind in (1, 3, 4, 5)}
 
     def made(self, kind, clock, body, **rest):
@@ -71,6 +74,13 @@ class Receiver:
             kind, body, identifier=self.identifier, count=count, tsi=1, tsf=2,
             seconds=START + second, fraction=fraction, **rest,
         )
+
+    def light(self):
+        """Another state word: user bits stay, mostly."""
+        enables = sum(1 << bit for bit in range(31, 23, -1) if self.lamps.random() < 0.3)
+        values = sum(1 << bit for bit in range(19, 11, -1) if self.lamps.random() < 0.5)
+        user = self.lamps.getrandbits(8) if self.lamps.random() < 0.2 else self.state & 0xFF
+        self.state = enables | values | user
 
     def tuning(self, whole):
         centre = self.first + self.spacing * self.channel
@@ -85,6 +95,8 @@ class Receiver:
         if whole:
             fields |= {24: [halves(-20 - self.channel / 4, 128)], 23: [halves(10, 128, -3.5)]}
             fields |= {21: frequency(self.bandwidth * 1.25), 15: [FORMAT, 0], 16: [self.state]}
+            if self.state >> 25 & 1:
+                fields |= {22: [self.channel]}
         return fields
 
     def sent(self, clock, fields):
@@ -125,9 +137,10 @@ class Receiver:
                     self.temperature += 0.25
                     return self.sent(clock, {18: [halves(self.temperature, 64)]})
                 if draw < 0.006:
-                    self.state ^= 0x80080000
+                    self.light()
                     return self.sent(clock, {16: [self.state]})
-                return self.sent(clock, {})
+                over = {22: [self.hops]} if self.lamps.random() < 0.5 else {}
+                return self.sent(clock, over)
             if draw < 0.05 and self.number % 8 == 5:
                 return self.made(3 if draw < 0.03 else 5, clock, [1, 2, 3])
             body = [self.chance.getrandbits(32) for _ in range(payload)]
@@ -137,6 +150,8 @@ class Receiver:
             whole |= self.hop()
         self.left, self.hops = self.dwell, self.hops + 1
         self.temperature += self.chance.choice((0, 0.25, 0.5)) * (45 - self.temperature) / 30
+        if self.lamps.random() < 0.3:
+            self.light()
         if self.sparing and self.hops > 1 and (self.number % 3 == 2 or self.hops % 16):
             return self.spare(clock)
         return self.sent(clock, self.tuning(whole or self.sparing))

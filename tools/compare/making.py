@@ -124,8 +124,23 @@ def payload_format(r):
 # Fields and bodies.
 
 
+def state_word(r):
+    """A state word that keeps the rule of its field: any; or with few enables, their values
+    and others set or not; or with the two indicators that are not held, alone or not."""
+    kind = r.randrange(6)
+    if kind < 2:
+        return word(r) & ~0x00F00F00 & ONES
+    enables = sum(1 << bit for bit in table.PERSISTENT if r.randrange(3) == 0)
+    values = sum(1 << bit for bit in table.PERSISTENT.values() if r.randrange(2))
+    brief = r.getrandbits(32) & 0x03003000
+    user = r.choice((0, 0xFF, r.getrandbits(8)))
+    return (enables | values | user, enables | values | brief | user, brief | user, user)[kind - 2]
+
+
 def field(r, bit):
     """The words of a field of bits 30 to 10 that keeps its rule."""
+    if bit == table.STATE_BIT:
+        return [state_word(r)]
     made = words(r, FIXED_WORDS[bit])
     if bit in (29, 21):
         made[0] &= 0x7FFFFFFF
@@ -133,11 +148,16 @@ def field(r, bit):
         made[0] &= 0xFFFF
     if bit == 17:
         made = [made[0] & 0xFFFFFF, made[1] & 0xFFFF]
-    if bit == 16:
-        made[0] &= ~0x00F00F00 & ONES
     if bit == 15:
         made[0] = format_first(r) | r.randrange(2) << 23
     return made
+
+
+def held_field(r, bit):
+    """The words of a field as a table may hold it."""
+    if bit == table.STATE_BIT:
+        return [table.state_after(0, state_word(r))]
+    return field(r, bit)
 
 
 def gps_ascii(r):
@@ -166,8 +186,11 @@ def indicator(r):
 
 
 def context_body(r):
-    """A type 4 body as document 01 says."""
+    """A type 4 body as document 01 says; the state word and the over-range count are
+    among its fields more often than others."""
     body = [indicator(r)]
+    if r.randrange(4) == 0:
+        body[0] |= r.choice((1 << 16, 1 << 16, 1 << 22, 1 << 22 | 1 << 16))
     for bit in range(30, 7, -1):
         if body[0] >> bit & 1:
             body += gps_ascii(r) if bit == 9 else lists(r) if bit == 8 else field(r, bit)
@@ -326,8 +349,8 @@ def stream(r, identifier):
     counts = {kind: count(r) for kind in table.COUNTED_TYPES}
     held = {}
     if counts[4]["last"] is not None and r.randrange(5):
-        carried = indicator(r)
-        held = {bit: field(r, bit) for bit in table.HELD_BITS if carried >> bit & 1}
+        carried = indicator(r) | r.choice((0, 0, 1 << 16))
+        held = {bit: held_field(r, bit) for bit in table.HELD_BITS if carried >> bit & 1}
     return {"identifier": identifier, "counts": counts, "held": held}
 
 
@@ -339,11 +362,22 @@ def some_streams(r, n=None):
 # Where a bend of a record is worth while: identifier, held indicator, counts.
 FRONT_WORDS = 14
 
+# The slots of the over-range count, which is never held, and of the state word.
+COUNT_SLOT, STATE_SLOT = 27, 36
+
+
+def bend_state(r, held):
+    """A held state word with a bit that none may have, or with a value and not its enable."""
+    if r.randrange(2):
+        return held | 1 << r.choice((25, 24, 13, 12))
+    enable, value = r.choice(list(table.PERSISTENT.items()))
+    return held & ~(1 << enable) | 1 << value
+
 
 def bend_table(r, made):
     """The words of a table, bent where a rule looks."""
     bent_words = list(made)
-    kind = r.randrange(9)
+    kind = r.randrange(11)
     record = 1 + 88 * r.randrange((len(made) - 1) // 88)
     if kind == 0:
         return bend_length(r, made)
@@ -369,6 +403,15 @@ def bend_table(r, made):
     elif kind == 7:
         # type 4 not started
         bent_words[record + 8 : record + 11] = [0, 0, 0]
+    elif kind == 8:
+        # the over-range count held, its word not zero, or both
+        way = r.randrange(3)
+        bent_words[record + 1] |= (way != 1) << 22
+        bent_words[record + COUNT_SLOT] = word(r) if way else 0
+    elif kind == 9:
+        # a state word held that cannot be
+        bent_words[record + 1] |= 1 << 16
+        bent_words[record + STATE_SLOT] = bend_state(r, bent_words[record + STATE_SLOT])
     else:
         return bent(r, made)
     return bent_words
@@ -382,12 +425,33 @@ def some_table(r, n=None):
     return made + words(r, r.choice((0, 0, 0, 1, 7, 90)))
 
 
+def field_place(at, indicator, bit):
+    """Where the words of a field are, or would be, in a body that begins at a place."""
+    higher = [one for one in table.FIELD_BITS if one > bit and indicator >> one & 1]
+    return at + FRONT_WORDS + sum(FIXED_WORDS[one] for one in higher)
+
+
+def hold_count(r, made, stream):
+    """The words of a page in which a stream holds the over-range count, with its word; the
+    lengths and offsets are right."""
+    at = made[2 + 2 * stream]
+    place = field_place(at, made[at + 1], 22)
+    other = made[:place] + [word(r)] + made[place:]
+    other[at + 1] |= 1 << 22
+    other[1] += 1
+    other[3 + 2 * stream] += 1
+    for behind in range(stream + 1, made[0]):
+        other[2 + 2 * behind] += 1
+    return other
+
+
 def bend_page(r, made):
     """The words of a page, bent where a rule looks."""
     bent_words = list(made)
     n = made[0]
-    kind = r.randrange(10)
-    at = made[2 + 2 * r.randrange(n)]
+    kind = r.randrange(12)
+    stream = r.randrange(n)
+    at = made[2 + 2 * stream]
     if kind == 0:
         return bend_length(r, made)
     if kind == 1:
@@ -414,6 +478,11 @@ def bend_page(r, made):
         if place + 1 < n:
             bent_words[4 + 2 * place] += 1
             bent_words[5 + 2 * place] -= 1
+    elif kind == 9:
+        return hold_count(r, made, stream)
+    elif kind == 10 and made[at + 1] >> 16 & 1:
+        place = field_place(at, made[at + 1], 16)
+        bent_words[place] = bend_state(r, bent_words[place])
     else:
         return bent(r, made)
     return bent_words

@@ -73,15 +73,20 @@ VALUES = {
 }
 TUNING = {29, 28, 27, 26, 25, 24, 23, 21}
 OTHERS = {
-    30: "reference point", 22: "over-range count", 20: "timestamp adjustment",
-    19: "timestamp calibration time", 17: "device", 16: "state", 15: "payload format",
-    14: "GPS geolocation", 13: "INS geolocation", 12: "ECEF ephemeris",
-    11: "relative ephemeris", 10: "ephemeris reference",
+    30: "reference point", 20: "timestamp adjustment", 19: "timestamp calibration time",
+    17: "device", 16: "state", 15: "payload format", 14: "GPS geolocation",
+    13: "INS geolocation", 12: "ECEF ephemeris", 11: "relative ephemeris",
+    10: "ephemeris reference",
+}
+# The indicators of a state word that are held, by their enables; a value is 12 bits below.
+INDICATORS = {
+    31: "calibrated time", 30: "valid data", 29: "reference lock", 28: "AGC",
+    27: "detected signal", 26: "spectral inversion",
 }
 CSV_HEAD = (
     "packet,word,event,stream,identifier,type,missing,unsure_since,refusal,name,changed,in_doubt,"
     "tsi,seconds,tsf,fraction,rf_hz,if_hz,rf_offset_hz,if_band_offset_hz,bandwidth_hz,"
-    "sample_rate_hz,level_dbm,gain_1_db,gain_2_db,temperature_c"
+    "sample_rate_hz,level_dbm,gain_1_db,gain_2_db,temperature_c,state"
 )
 MOST_COLUMNS, STRANGERS = 2048, 8
 # The first bytes of captures: pcap in both orders, to microseconds and nanoseconds; pcapng.
@@ -134,6 +139,17 @@ def shown(held, bit):
     if VALUES[bit][1] == "MHz":
         return megahertz(values[0])
     return " and ".join(exact(value) for value in values)
+
+
+def state_text(held):
+    """What is held of the state word: each indicator, on or off, and the user bits."""
+    word = held[16][0]
+    said = [
+        f"{name} {'on' if word >> enable - 12 & 1 else 'off'}"
+        for enable, name in INDICATORS.items()
+        if word >> enable & 1
+    ]
+    return ", ".join([*said, f"user bits 0x{word & 0xFF:02X}"])
 
 
 # What happens in a recording, by the reference.
@@ -330,6 +346,8 @@ def fields_text(event):
             old = f"{shown(event.before, bit)} -> " if bit in event.before else ""
             parts.append(f"{name} {old}{shown(event.held, bit)} {unit}")
     named = [name for bit, name in OTHERS.items() if bit in event.changed]
+    if 16 in event.changed:
+        named[named.index("state")] += f" ({state_text(event.held)})"
     text = ", ".join(parts)
     return text + ("; also " if parts and named else "") + ", ".join(named)
 
@@ -401,6 +419,8 @@ def summary(story):
         held = stream["held"]
         tuning = [f"{VALUES[b][0]} {shown(held, b)} {VALUES[b][1]}" for b in VALUES if b in held]
         said.append(f"       last tuning: {', '.join(tuning) or 'none'}")
+        if 16 in held:
+            said.append(f"       state: {state_text(held)}")
         trust = story.trust[place]
         if trust.untuned:
             said.append(f"       without a tuning: {trust.untuned:,} data packets")
@@ -444,6 +464,7 @@ def row_of(event):
             row += [exact(value) for value in values_of(event.held, bit)]
         else:
             row += [""] * (2 if bit == 23 else 1)
+    row.append(f"0x{event.held[16][0]:08X}" if event.held is not None and 16 in event.held else "")
     return ",".join(str(value) for value in row)
 
 
@@ -822,7 +843,7 @@ def values():
     packets = [tuned({bit: words[bit]}, i) for i, bit in enumerate(words)] * 2
     packets += [tuned(words, 5)] * 2
     for bit in words:
-        packets.append(tuned({bit: words[bit][:-1] + [words[bit][-1] ^ (0 if bit in (15, 16) else 1)]}))
+        packets.append(tuned({bit: words[bit][:-1] + [words[bit][-1] ^ (0 if bit == 15 else 1)]}))
     stamped = [
         packet(1, [1], identifier=7, tsi=tsi, tsf=tsf, seconds=ONES, fraction=fraction)
         for tsi in range(4) for tsf in range(4) for fraction in (0, 10**11, 10**12 - 1)
@@ -844,7 +865,7 @@ def seams():
 
 
 BIT_OF = {"rf": 27, "if_": 28, "off": 26, "if_off": 25, "wide": 29, "rate": 21}
-BIT_OF |= {"level": 24, "gain": 23, "warm": 18, "state": 16}
+BIT_OF |= {"level": 24, "gain": 23, "over": 22, "warm": 18, "state": 16, "point": 30}
 EIGHT = {"rf": 100, "if_": 10, "off": 1, "if_off": 2, "wide": 5, "rate": 6, "level": 640, "gain": 9}
 EIGHT_NAMES = "RF, IF, RF offset, IF band offset, bandwidth, sample rate, level, gain"
 
@@ -1014,6 +1035,79 @@ def doubts():
         for one, two in zip_longest(told, said):
             if one != two:
                 differs(f"{what}: the check itself", one, two)
+
+
+def states_of_a_stream():
+    """State words and over-range counts: what a case is, its packets, the parts of lines that
+    are to be said of them, the last state of the summary, and the state column of each row."""
+    on = {enable: 1 << enable | 1 << enable - 12 for enable in INDICATORS}
+    s = Sender().tells(rf=100, state=on[30] | 1 << 29).tells(state=1 << 30 | 0x5A)
+    said = [
+        "tuned: RF 100 MHz; also state (valid data on, reference lock off, user bits 0x00)",
+        "changed: state (valid data off, reference lock off, user bits 0x5A)",
+    ]
+    column = ["0x60040000", "0x6000005A"]
+    last = "valid data off, reference lock off, user bits 0x5A"
+    yield "on, off and user bits", s.sent, said, last, column
+    s, said, column, before, enables = Sender(), [], [], "", 0
+    for enable, name in INDICATORS.items():
+        # on; over-range, and the value alone, which change nothing; off
+        s.tells(state=on[enable]).tells(state=0x02002000).tells(state=1 << enable - 12)
+        s.tells(state=1 << enable)
+        said += [f"changed: state ({before}{name} {lit}, user bits 0x00)" for lit in ("on", "off")]
+        before, enables = f"{before}{name} off, ", enables | 1 << enable
+        column += [f"0x{enables | 1 << enable - 12:08X}", f"0x{enables:08X}"]
+    yield "each indicator, one after another", s.sent, said, f"{before}user bits 0x00", column
+    s = Sender().tells(state=0).tells(state=0x000FF000).tells(state=0x03003000)
+    s.tells(state=0x0300300F).tells(state=0x0F).tells(state=0xF0).tells(rf=1)
+    said = ["changed: state (user bits 0x00)", "changed: state (user bits 0x0F)"]
+    said += ["changed: state (user bits 0xF0)", "tuned: RF 1 MHz"]
+    column = ["0x00000000", "0x0000000F", "0x000000F0", "0x000000F0"]
+    yield "nothing that persists", s.sent, said, "user bits 0xF0", column
+    s = Sender().tells(state=0xFF0FF0FF).tells(warm=64).tells(state=0x80000000, warm=128, point=3)
+    every = [f"{name} on" for name in INDICATORS.values()]
+    first = ", ".join([*every, "user bits 0xFF"])
+    last = ", ".join(["calibrated time off", *every[1:], "user bits 0x00"])
+    said = [f"changed: state ({first})", "changed: temperature 1 degrees C"]
+    said.append(f"changed: temperature 1 -> 2 degrees C; also reference point, state ({last})")
+    yield "all of them", s.sent, said, last, ["0xFC0FC0FF", "0xFC0FC0FF", "0xFC07C000"]
+    s = Sender().tells(over=5).tells(over=6, rf=1, rate=2).tells(over=7, warm=64).tells(over=8)
+    said = ["tuned: RF 1 MHz, sample rate 2 MHz", "changed: temperature 1 degrees C"]
+    yield "over-range counts", s.sent, said, None, ["", ""]
+    s = Sender().tells(state=on[28], rf=1).loses().tells(state=1 << 28 | 1).data()
+    s.loses(2, 1).data().tells(over=1, rf=1)
+    said = ["tuned: RF 1 MHz; also state (AGC on, user bits 0x00)", "missing 1 of type 4 (Context)"]
+    said += ["changed: state (AGC off, user bits 0x01)", "missing 2 of type 1 (data)"]
+    said += ["tuning trusted again"]
+    column = ["0x10010000", "0x10010000", "0x10000001", "0x10000001", "0x10000001"]
+    yield "losses", s.sent, said, "AGC off, user bits 0x01", column
+    s = Sender().tells(state=on[26])
+    Sender(8, s.sent).tells(state=on[27])
+    s.sent.append(packet(4, [1 << 16, 1 << 20], identifier=7, count=1))
+    last = "spectral inversion on, user bits 0x00"
+    said = [f"changed: state ({last})", "refused 11", "refused 10"]
+    yield "refused packets", s.sent, said, last, ["0x04004000", "", ""]
+
+
+def states():
+    """What is held of state words, and that over-range counts are not, with all that is to be
+    said of it."""
+    for what, packets, said, last, column in states_of_a_stream():
+        story = hold(what, recording_of([7], *packets), orders=("big",))
+        told = lines(story, True)
+        if len(told) != len(said) or not all(part in line for part, line in zip(said, told)):
+            differs(f"{what}: the check itself", *told)
+        ends = [line for line in summary(story) if line.startswith("       state: ")]
+        if ends != ([f"       state: {last}"] if last else []):
+            differs(f"{what}: the check itself", *ends)
+        if [row.split(",")[-1] for row in rows(story, True)] != ["state", *column]:
+            differs(f"{what}: the check itself", *rows(story, True))
+    # of two streams, each its own; the last holds nothing
+    s = Sender().tells(state=1 << 31)
+    o = Sender(9, s.sent).tells(state=1 << 30 | 1 << 18, rf=3)
+    s.tells(state=1 << 19 | 1)
+    o.tells(state=1 << 30)
+    hold("states of two streams", recording_of([9, 8, 7], *s.sent))
 
 
 def pieces():
@@ -1299,8 +1393,8 @@ def progress():
 GROUPS = {
     group.__name__: group
     for group in (
-        samples, pictures, surveys, columns, million, values, seams, doubts, pieces, cut, live,
-        outside, behind, kept, failing, captures, tails, progress,
+        samples, pictures, surveys, columns, million, values, seams, doubts, states, pieces, cut,
+        live, outside, behind, kept, failing, captures, tails, progress,
     )
 }
 

@@ -1,8 +1,9 @@
 """Reference pages: a table of streams is saved as a page and put back from it.
 
-It is written from document 01 and from nothing else.  Tables and their words are
-those of table.py.  Words are whole numbers from 0 to 2^32 - 1 in a list; the
-sentences in quotation marks are document 01's own.
+It is written from document 01, from C-11 of document 02 and from nothing else.
+Tables and their words are those of table.py, and so is what a state word is that can
+be held.  Words are whole numbers from 0 to 2^32 - 1 in a list; the sentences in
+quotation marks are document 01's own, or C-11's where it is named.
 
 What a well-made page is stands here twice: by document 01's sentence, that some
 well-made table saves exactly its words, and by rules of the words themselves.
@@ -10,7 +11,7 @@ Putting back asks both and fails if they differ.
 """
 
 import table
-from table import COUNTED_TYPES, HELD_BITS, ROOM, TABLE
+from table import COUNTED_TYPES, FIELD_BITS, HELD_BITS, ROOM, STATE_BIT, TABLE
 from vrt49 import FIELD_RULES, FIXED_WORDS, bits
 
 # "Numbers given back", those of a page beside TABLE and ROOM.
@@ -115,7 +116,7 @@ def candidate(words):
         lent += [word_at(words, at + i) for i in range(FIRST_WORDS)]
         indicator = word_at(words, at + 1)
         at += FIRST_WORDS
-        for bit in HELD_BITS:
+        for bit in FIELD_BITS:
             if bits(indicator, bit, bit) == 1:
                 lent += [word_at(words, at + i) for i in range(FIXED_WORDS[bit])]
                 at += FIXED_WORDS[bit]
@@ -144,8 +145,19 @@ def bodies_of(words):
 
 
 def held_words(indicator):
-    """The words of the fields of an indicator."""
-    return sum(FIXED_WORDS[bit] for bit in HELD_BITS if bits(indicator, bit, bit) == 1)
+    """The words of the fields of an indicator, field 22 too, which no page may have."""
+    return sum(FIXED_WORDS[bit] for bit in FIELD_BITS if bits(indicator, bit, bit) == 1)
+
+
+def held_fields(body):
+    """The words of each field of a body, by bit."""
+    found = {}
+    at = FIRST_WORDS
+    for bit in FIELD_BITS:
+        if bits(body[1], bit, bit) == 1:
+            found[bit] = body[at : at + FIXED_WORDS[bit]]
+            at += FIXED_WORDS[bit]
+    return found
 
 
 def counts_of(body):
@@ -198,23 +210,29 @@ def different_identifiers(words):
 
 
 def only_fields_held(words):
-    # "Bits 31, 9 and 8 are not held", and bits 7 to 0 have no field
+    # "Bits 31, 9 and 8 are not held", and bits 7 to 0 have no field; C-11: "a page
+    # that holds field 22 ... is PAGE"
     return all(
-        bits(body[1], 31, 31) == 0 and bits(body[1], 9, 0) == 0 for body in bodies_of(words)
+        bits(body[1], 31, 31) == 0 and bits(body[1], 22, 22) == 0 and bits(body[1], 9, 0) == 0
+        for body in bodies_of(words)
     )
 
 
 def held_kept(words):
     # "held fields obey their rules"
-    for body in bodies_of(words):
-        at = FIRST_WORDS
-        for bit in HELD_BITS:
-            if bits(body[1], bit, bit) == 1:
-                field = body[at : at + FIXED_WORDS[bit]]
-                if bit in FIELD_RULES and not FIELD_RULES[bit](field):
-                    return False
-                at += FIXED_WORDS[bit]
-    return True
+    return all(
+        FIELD_RULES[bit](field)
+        for body in bodies_of(words)
+        for bit, field in held_fields(body).items()
+        if bit in FIELD_RULES
+    )
+
+
+def states_good(words):
+    # C-11: "those bits or a value without its enable"
+    return all(
+        table.state_good(held_fields(body).get(STATE_BIT, [0])[0]) for body in bodies_of(words)
+    )
 
 
 def not_started_zero(words):
@@ -236,7 +254,8 @@ def last_at_most_15(words):
 def held_after_start(words):
     # "no field held unless type 4 has started"
     return all(
-        counts_of(body)[COUNTED_TYPES.index(4)][2] != 0 or held_words(body[1]) == 0
+        counts_of(body)[COUNTED_TYPES.index(4)][2] != 0
+        or not any(bits(body[1], bit, bit) == 1 for bit in HELD_BITS)
         for body in bodies_of(words)
     )
 
@@ -250,6 +269,7 @@ STAGES = (
         ("identifiers", different_identifiers),
         ("indicator", only_fields_held),
         ("field", held_kept),
+        ("state", states_good),
         ("not started", not_started_zero),
         ("last", last_at_most_15),
         ("type 4", held_after_start),

@@ -21,19 +21,19 @@ import play_vectors
 import table
 from page import PAGE, SIZE
 from play_vectors import (
-    COUNTED, FIELD_EDGES, MOST_PACKETS, MOST_ROOM, PATTERN, SIZES, at_places, count_place,
-    indicator_place, other, random_ids, random_stores, record_place, short_packet, slot_place,
+    ALL_OFF, ALL_ON, COUNTED, FIELD_EDGES, HELD, HELD_BITS, INDICATORS, MOST_PACKETS, MOST_ROOM,
+    PATTERN, RIGHT_STATES, SIZES, WRONG_STATES, at_places, count_place, first_held,
+    indicator_place, other, random_held, random_ids, random_stores, record_place, short_packet,
+    slot_place, slots_of,
 )
-from read_vectors import (
-    FIXED, FIXED_BITS, ONES, Numbers, all_fixed, context, packet, plain, random_field,
-)
+from read_vectors import FIXED, FIXED_BITS, ONES, Numbers, all_fixed, context, packet
 from table import ROOM, TABLE
 
 ACCEPTED = 0
 MOST_STREAMS = 32
 MOST_PACKET_WORDS = 60_000
 MOST_PAGE = 3000
-PAGE_BUFFER = 2882
+PAGE_BUFFER = 2850
 # Buffers of so many words or fewer are written out whole.
 WHOLE = 200
 MOST_CUTS = 25
@@ -93,7 +93,8 @@ def played_recordings():
 
 
 def full_recordings():
-    """Streams that come to hold every field, one after another."""
+    """Streams that come to hold every field that is held, one after another: bodies of
+    87 words."""
     for n in (1, 2, 8, 32):
         ids = [0x51000000 + 7 * i for i in range(n)]
         packets = [
@@ -128,6 +129,31 @@ def split_recordings():
             packet(1, [9], identifier=7, count=5),
         ],
     )
+    # State words: each enables another indicator, on and off, or none; without an
+    # over-range count and with one.
+    states = []
+    for enable, value in INDICATORS:
+        states += [1 << enable | 1 << value, 0x02002000 | enable, 1 << enable]
+    states += [ALL_ON | 0x5A, 1 << 31 | 0xA5, 0x000FC000, 0]
+    for counted in ([], [5]):
+        indicator = 1 << 16 | len(counted) << 22
+        resumed(
+            [7],
+            [
+                context(indicator, [*counted, word], identifier=7, count=i % 16)
+                for i, word in enumerate(states)
+            ],
+        )
+    # Over-range counts alone, of both streams, between two state words of one.
+    resumed(
+        [8, 7],
+        [
+            context(1 << 16, [1 << 30 | 1 << 18 | 1], identifier=7),
+            context(1 << 22, [5], identifier=7, count=1),
+            context(1 << 22, [6], identifier=8),
+            context(1 << 16, [1 << 29 | 2], identifier=7, count=2),
+        ],
+    )
 
 
 # Pages that are built here, from the words of each body.
@@ -149,10 +175,8 @@ def body(identifier, held=None, counts=None):
     return words
 
 
-def every_field(choose=plain):
-    if choose is plain:
-        return {bit: plain(bit, n) for bit, n in FIXED}
-    return {bit: other(bit) for bit, _ in FIXED}
+def every_field(choose=first_held):
+    return {bit: choose(bit) for bit, _ in HELD}
 
 
 def joined(*bodies):
@@ -170,7 +194,7 @@ def page_from_words(lent):
     for stream in range(lent[0]):
         place = record_place(stream)
         words = lent[place : place + 14]
-        for bit, n in FIXED:
+        for bit, n in HELD:
             if lent[place + 1] >> bit & 1:
                 words += lent[slot_place(bit, stream) : slot_place(bit, stream) + n]
         bodies.append(words)
@@ -439,7 +463,7 @@ def orders():
 
 
 def wrong_held():
-    for bit, n in FIXED:
+    for bit, n in HELD:
         held = {bit: other(bit)}
         right = joined(body(7, held))
         beside(right, "bodies")
@@ -451,15 +475,17 @@ def wrong_held():
         bent(joined(body(7, held)[:-1]), "bodies")
         # Another bit: of as many words, if there is one without a rule, or not.
         for near in (bit + 1, bit - 1):
-            if near in SIZES and SIZES[near] != n:
+            if near == 22 and n == 1:
+                bent(changed(right, {5: 1 << near}), "indicator")
+            elif near in SIZES and SIZES[near] != n:
                 bent(changed(right, {5: 1 << near}), "bodies")
             elif near in SIZES and near not in FIELD_EDGES:
                 beside(changed(right, {5: 1 << near}), "bodies")
         # Among all the others.
         without = {one: words for one, words in every_field().items() if one != bit}
         beside(joined(body(7, without)), "bodies")
-        bent(changed(joined(body(7, without)), {5: FIXED_BITS}), "bodies")
-        bent(changed(joined(body(7, every_field())), {5: FIXED_BITS ^ 1 << bit}), "bodies")
+        bent(changed(joined(body(7, without)), {5: HELD_BITS}), "bodies")
+        bent(changed(joined(body(7, every_field())), {5: HELD_BITS ^ 1 << bit}), "bodies")
     # The word is the next stream's: a bit more in one and a bit fewer in the
     # other, the lengths as they were.
     words = joined(body(7, {30: [5]}), body(8, {23: [6]}))
@@ -481,14 +507,37 @@ def wrong_indicators():
         bent(joined(changed(started, {1: 1 << bit}) + [0]), "bodies")
         bent(joined(changed(started, {1: 1 << bit}) + [0, 0]), "bodies")
         # Among all the fields, and where type 4 has not started.
-        bent(joined(changed(body(7, every_field()), {1: FIXED_BITS | 1 << bit})), "indicator")
+        bent(joined(changed(body(7, every_field()), {1: HELD_BITS | 1 << bit})), "indicator")
         bent(joined(changed(body(7), {1: 1 << bit})), "indicator")
         bent(joined(FEW, changed(body(7), {1: 1 << bit})), "indicator")
     bent(joined(changed(body(7), {1: 0x800003FF})), "indicator")
-    bent(joined(changed(body(7, every_field()), {1: ONES})), "indicator")
-    for bit in (30, 23, 22, 19, 10):
+    bent(joined(changed(body(7, every_field()), {1: ONES})), "bodies")
+    for bit in (30, 23, 19, 16, 10):
         beside(joined(body(7, {bit: [0]})), "indicator")
     beside(joined(body(7, every_field())), "indicator")
+
+
+def wrong_over_range_counts():
+    """Field 22 held: with its word, in its place among the others, and without; and its
+    word without the bit."""
+    for word in (0, 5, ONES):
+        bent(joined(body(7, {22: [word]})), "indicator")
+        bent(joined(body(7, {23: [1], 22: [word], 21: [0, 2]})), "indicator")
+        bent(joined(body(7, {**every_field(), 22: [word]})), "indicator")
+        bent(joined(FEW, body(9, {30: [4], 22: [word]}), FULL), "indicator")
+    bent(joined(body(7, {22: [5]}, {4: [0, 0, 0]})), "indicator")
+    for held in ({}, {23: [1], 21: [0, 2]}, every_field()):
+        indicator = sum(1 << bit for bit in held)
+        right = body(7, held, {4: [1, 0, 1]})
+        beside(joined(right), "indicator")
+        bent(joined(changed(right, {1: indicator | 1 << 22})), "bodies")
+        with_word = body(7, {**held, 22: [5]})
+        bent(joined(changed(with_word, {1: indicator})), "bodies")
+    # The longest page that there is, and with field 22 in its last stream.
+    many = [body(0x300 + i, every_field()) for i in range(32)]
+    beside(joined(*many), "indicator", room=2817)
+    many[31] = body(0x31F, {**every_field(), 22: [5]})
+    bent(joined(*many), "indicator", room=2817)
 
 
 def wrong_lists():
@@ -528,7 +577,7 @@ def wrong_counts():
 
 def wrong_starts():
     others = {1: [1, 0, 1], 3: [1, 0, 1], 5: [1, 0, 1]}
-    for bit, n in FIXED:
+    for bit, _ in HELD:
         words = other(bit)
         bent(joined(body(7, {bit: words}, {4: [0, 0, 0]})), "type 4")
         # The other types have started; type 4 of the other stream.
@@ -552,8 +601,24 @@ def wrong_fields():
         bent(joined(ONE_WORD, among), "field")
         bent(joined(among, ONE_WORD), "field")
         beside(joined(body(7, {**every_field(), bit: right[0]}), ONE_WORD), "field")
-    free = {bit: [ONES] * n for bit, n in FIXED if bit not in FIELD_EDGES}
+    free = {bit: [ONES] * n for bit, n in HELD if bit not in FIELD_EDGES}
     beside(joined(body(7, free)), "field")
+
+
+def wrong_states():
+    """A held state word with over-range or sample loss, or a value without its enable."""
+    for word in WRONG_STATES:
+        bent(joined(body(7, {16: [word]})), "state")
+    for word in RIGHT_STATES:
+        beside(joined(body(7, {16: [word]})), "state")
+    bent(joined(body(7, {16: [ONES]})), "field", "state")
+    # Among all the fields, before and behind another stream.
+    for word in (1 << 25, 1 << 12, 1 << 19, ALL_ON - (1 << 26)):
+        among = body(7, {**every_field(), 16: [word]})
+        bent(joined(among), "state")
+        bent(joined(ONE_WORD, among), "state")
+        bent(joined(among, ONE_WORD), "state")
+    beside(joined(body(7, {**every_field(), 16: [ALL_OFF]}), ONE_WORD), "state")
 
 
 def many_streams():
@@ -568,6 +633,7 @@ def many_streams():
         for one, rule in (
             (body(0x200 + stream, {10: [3]}, {4: [0, 0, 0]}), "type 4"),
             (body(0x200 + stream, {18: [1 << 16]}), "field"),
+            (body(0x200 + stream, {16: [1 << 25]}), "state"),
             (body(0x200 + stream, counts={5: [0, 0, 17]}), "last"),
             (body(0x200 + stream, counts={5: [0, 1, 0]}), "not started"),
             (changed(bodies[stream], {1: 1}), "indicator"),
@@ -606,6 +672,7 @@ def rooms():
         (joined(FRESH, FRESH), "identifiers"),
         (joined(changed(FRESH, {1: 1 << 8})), "indicator"),
         (joined(body(7, {24: [1 << 16]})), "field"),
+        (joined(body(7, {16: [1 << 19]})), "state"),
         (joined(body(7, counts={1: [1, 0, 0]})), "not started"),
         (joined(body(7, counts={5: [1, 0, 17]})), "last"),
         (joined(body(7, {10: [3]}, {4: [0, 0, 0]})), "type 4"),
@@ -626,9 +693,9 @@ def random_body(numbers, identifier):
     held = {}
     if 4 in counts:
         chance = 1 + numbers.below(6)
-        for bit, n in FIXED:
+        for bit, n in HELD:
             if numbers.below(chance) == 0:
-                held[bit] = random_field(numbers, bit, n)
+                held[bit] = random_held(numbers, bit, n)
     return body(identifier, held, counts)
 
 
@@ -723,11 +790,12 @@ def tables_of_streams():
         fresh = table.start_lent(range(n), [PATTERN] * (1 + 88 * n))[1]
         full = list(fresh)
         for stream in range(n):
-            full[indicator_place(stream)] = FIXED_BITS
+            full[indicator_place(stream)] = HELD_BITS
             full[count_place(4, stream) + 2] = 1 + stream % 16
-            for place, word in at_places(slot_place(30, stream), all_fixed()).items():
+            slots = slots_of(first_held)
+            for place, word in at_places(slot_place(30, stream), slots).items():
                 full[place] = word
-        for words, need in ((fresh, 2 + 16 * n), (full, 2 + 90 * n)):
+        for words, need in ((fresh, 2 + 16 * n), (full, 2 + 89 * n)):
             if len(page_from_words(words)) != need:
                 sys.exit(f"a page of {n} streams has not {need} words")
             save(words, ROOM, need - 1, ())
@@ -921,10 +989,12 @@ def build():
     orders()
     wrong_held()
     wrong_indicators()
+    wrong_over_range_counts()
     wrong_lists()
     wrong_counts()
     wrong_starts()
     wrong_fields()
+    wrong_states()
     many_streams()
     rooms()
     random_pages()
@@ -953,8 +1023,8 @@ def fail(condition, message):
 
 def check(cover):
     """The cases that there have to be."""
-    # SIZE cannot be reached: 32 streams with every field held are 2,882 words.
-    fail(2 + 90 * 32 > page.MOST_WORDS, f"{SIZE} can be reached")
+    # SIZE cannot be reached: 32 streams with every field held are 2,850 words.
+    fail(2 + 89 * 32 > page.MOST_WORDS, f"{SIZE} can be reached")
     for label in cover.tally:
         fail(label not in LEAST, f"{label}: not an answer that is asked for")
     for label, n in LEAST.items():
@@ -965,7 +1035,7 @@ def check(cover):
         ("streams of a recording", cover.streams == every),
         ("streams of a page put back", cover.put_streams == every),
         ("streams of a table saved", cover.saved_streams == every),
-        ("lengths of a page", cover.lengths >= {18, 92, 514, 2882}),
+        ("lengths of a page", cover.lengths >= {18, 91, 514, 2850}),
         ("words past the second table", cover.past == {0, 1, 2}),
         ("PAGE before ROOM", {rule for a, b, rule in both_faults if a == PAGE} == set(page.RULES)),
         (
@@ -1007,8 +1077,8 @@ def main():
         expected += lines
     check(cover)
     text = "".join(line + "\n" for line in expected)
-    fail(len(given) > 1_200_000, f"the input has {len(given)} bytes, more than 1,200,000")
-    fail(len(text) > 1_200_000, f"the output has {len(text)} bytes, more than 1,200,000")
+    fail(len(given) > 1_300_000, f"the input has {len(given)} bytes, more than 1,300,000")
+    fail(len(text) > 1_000_000, f"the output has {len(text)} bytes, more than 1,000,000")
     with open(sys.argv[1], "wb") as file:
         file.write(given)
     with open(sys.argv[2], "w", encoding="ascii", newline="\n") as file:

@@ -1,8 +1,8 @@
 """Reference readings for the panel.
 
 It is written from document 01 and from nothing else.  Tables and their words are
-those of table.py; values are exact fractions.  The sentences in quotation marks
-are document 01's own.
+those of table.py, which never hold field 22; values are exact fractions.  The
+sentences in quotation marks are document 01's own.
 
 A reading is one of
 
@@ -17,7 +17,7 @@ A reading is one of
 from fractions import Fraction
 
 import table
-from table import HELD_BITS, ROOM, STREAM, TABLE
+from table import FIELD_BITS, ROOM, STREAM, TABLE
 
 # "Numbers given back", that of a reading beside TABLE and STREAM.
 VALUE = 14
@@ -98,8 +98,8 @@ def held_field(lent, stream, bit):
     found = table.table_of(lent)
     if stream >= len(found):
         return ("refused", STREAM)
-    # "a field bit is not 30 to 10"
-    if bit not in HELD_BITS:
+    # "a field bit is not 30 to 10"; 22 is one of them, and absent
+    if bit not in FIELD_BITS:
         return ("refused", VALUE)
     return ("held", found[stream]["held"].get(bit))
 
@@ -118,7 +118,7 @@ def readings(lent, stream):
     """The 21 readings of a stream, bit 30 first and bit 10 last, for the words of a
     table.  Each is ('refused', number) where the table or the stream is refused."""
     # "Reading: TABLE, STREAM, VALUE."  Of the bits 30 to 10, VALUE is given of none.
-    return [reading(lent, stream, bit) for bit in HELD_BITS]
+    return [reading(lent, stream, bit) for bit in FIELD_BITS]
 
 
 def held_words(lent, stream, bit, out):

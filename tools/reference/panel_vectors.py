@@ -20,20 +20,21 @@ import play_vectors
 import table
 from panel import VALUE
 from play_vectors import (
-    FIELD_EDGES, MOST_ROOM, PATTERN, SIZES, at_places, count_place, indicator_place, other,
-    random_ids, random_stores, record_place, slot_place,
+    ALL_OFF, ALL_ON, FIELD_EDGES, HELD, MOST_ROOM, PATTERN, RIGHT_STATES, SIZES, WRONG_STATES,
+    at_places, count_place, first_held, indicator_place, other, random_held, random_ids,
+    random_stores, record_place, slot_place,
 )
-from read_vectors import FIXED, ONES, Numbers, plain, random_field
+from read_vectors import FIXED, FIXED_BITS, ONES, Numbers, all_fixed, context
 from table import ROOM, STREAM, TABLE
 
 MOST_HELD = 20
 
 # What is asked.
-READING, HELD, SWEEP, READINGS = 1, 2, 3, 4
+READING, WORDS, SWEEP, READINGS = 1, 2, 3, 4
 
 FREQUENCIES = (29, 28, 27, 26, 25, 21)
 NOT_NEGATIVE = (29, 21)
-OTHERS = (30, 22, 20, 19, 17, 16, 15, 14, 13, 12, 11, 10)
+OTHERS = (30, 20, 19, 17, 16, 15, 14, 13, 12, 11, 10)
 BITS = tuple(bit for bit, _ in FIXED)
 
 # Bits that are not 30 to 10, those among them of which the lowest bits are.
@@ -216,12 +217,15 @@ def reading_of(bit, words):
 ABSENT = ("absent",)
 
 
+EVERY = {bit: first_held(bit) for bit, _ in HELD}
+OTHER_WORDS = {bit: other(bit) for bit, _ in HELD}
+
+
 def every_bit():
-    every = {bit: plain(bit, n) for bit, n in FIXED}
-    others = {bit: other(bit) for bit, _ in FIXED}
+    every, others = EVERY, OTHER_WORDS
     full = stored(fresh(), of_fields(every))
     nothing = stored(fresh(), at_places(count_place(4), [5, 6, 7]))
-    for bit, n in FIXED:
+    for bit, n in HELD:
         # Held: among all, alone, and with zero words.
         ask(full, 0, bit, reading_of(bit, every[bit]))
         ask(one_field(bit, others[bit]), 0, bit, reading_of(bit, others[bit]))
@@ -240,6 +244,60 @@ def every_bit():
             lent = stored(fresh((7, 8)), of_fields({bit: others[bit]}, stream))
             ask(lent, stream, bit, reading_of(bit, others[bit]))
             ask(lent, 1 - stream, bit, ABSENT)
+
+
+def carrying(indicator, words):
+    """A table of one stream after a packet that carries these fields."""
+    return table.play_lent(fresh(), context(indicator, words, identifier=7))[1]
+
+
+def over_range_counts():
+    """Bit 22: one of 30 to 10, and absent, whatever a packet carried; a table that holds
+    it is not well made."""
+    for lent in (
+        fresh(), stored(fresh(), of_fields(EVERY)), carrying(1 << 22, [5]),
+        carrying(FIXED_BITS, all_fixed()), one_field(23, [7]), one_field(21, [0, 9]),
+    ):
+        ask(lent, 0, 22, ABSENT)
+        ask(lent, 1, 22, refused(STREAM))
+        for room in (0, 1, MOST_HELD):
+            held(lent, 0, 22, room, ("held", 0))
+        held(lent, 1, 22, 1, refused(STREAM))
+        show(lent, 0, panel_of(lent))
+    for bit, _ in FIXED:
+        # Those behind it in a packet have their own words.
+        if bit < 22:
+            lent = carrying(1 << 22 | 1 << bit, [ONES, *other(bit)])
+            ask(lent, 0, bit, reading_of(bit, other(bit)))
+            held(lent, 0, bit, SIZES[bit], ("held", SIZES[bit]))
+    for word in (0, 5):
+        lent = one_field(22, [word])
+        for bit in (22, 23, 10):
+            ask(lent, 0, bit, refused(TABLE))
+            held(lent, 0, bit, MOST_HELD, refused(TABLE))
+        show(lent, 0, [refused(TABLE)] * 21)
+    ask(stored(fresh(), {slot_place(22): 1}), 0, 22, refused(TABLE))
+
+
+def states():
+    """Bit 16: other, and its held word, which need not be the one that was sent."""
+    for word, kept in (
+        (0, 0), (0x5A, 0x5A), (0xFF0FF0FF, ALL_ON | 0xFF), (0x03003000, 0), (0x000FC000, 0),
+        (ALL_OFF, ALL_OFF), (1 << 30 | 1 << 18 | 1 << 17, 1 << 30 | 1 << 18),
+    ):
+        lent = carrying(1 << 16, [word])
+        if lent[slot_place(16)] != kept:
+            sys.exit(f"after the state word {word} not {kept} is held")
+        ask(lent, 0, 16, ("other",))
+        held(lent, 0, 16, 2, ("held", 1))
+        held(lent, 0, 16, 0, refused(ROOM))
+        show(lent, 0, panel_of(lent))
+    for word in RIGHT_STATES[::3]:
+        held(one_field(16, [word]), 0, 16, 1, ("held", 1))
+    for word in WRONG_STATES[::2]:
+        ask(one_field(16, [word]), 0, 16, refused(TABLE))
+        held(one_field(16, [word]), 0, 16, 1, refused(TABLE))
+    show(one_field(16, [1 << 24]), 0, [refused(TABLE)] * 21)
 
 
 # Streams.
@@ -282,7 +340,7 @@ def streams():
 
 
 def wrong_bits():
-    full = stored(fresh(), of_fields({bit: plain(bit, n) for bit, n in FIXED}))
+    full = stored(fresh(), of_fields(EVERY))
     for bit in WRONG_BITS:
         ask(full, 0, bit, refused(VALUE))
         ask(fresh(), 0, bit, refused(VALUE))
@@ -330,8 +388,8 @@ def orders():
 
 
 def held_fields():
-    full = stored(fresh(), of_fields({bit: other(bit) for bit, _ in FIXED}))
-    for bit, n in FIXED:
+    full = stored(fresh(), of_fields(OTHER_WORDS))
+    for bit, n in HELD:
         lent = one_field(bit, other(bit))
         for room in sorted({0, n - 1}):
             held(lent, 0, bit, room, refused(ROOM))
@@ -342,7 +400,7 @@ def held_fields():
         # Absent, whatever the room.
         for room in (0, 1, n, MOST_HELD):
             held(fresh(), 0, bit, room, ("held", 0))
-        rest = {one: other(one) for one, _ in FIXED if one != bit}
+        rest = {one: words for one, words in OTHER_WORDS.items() if one != bit}
         held(stored(fresh(), of_fields(rest)), 0, bit, n - 1, ("held", 0))
         # In the second of two streams.
         lent = stored(fresh((7, 8), past=1), of_fields({bit: other(bit)}, 1))
@@ -394,6 +452,16 @@ def readings_of(fields):
     return [reading_of(bit, fields[bit]) if bit in fields else ABSENT for bit in BITS]
 
 
+def panel_of(lent, stream=0):
+    """What a stream of a well-made table reads as, from the words at their places."""
+    fields = {}
+    for bit, n in HELD:
+        if lent[indicator_place(stream)] >> bit & 1:
+            place = slot_place(bit, stream)
+            fields[bit] = lent[place : place + n]
+    return readings_of(fields)
+
+
 def show_every_stream(lent, fields, more=()):
     """Every stream of a table, by the fields that each holds, then the number past
     the last, and more that are not in the table."""
@@ -413,30 +481,28 @@ def held_by_streams(n, fields_of, past=0):
 
 
 def panels_of_streams():
-    every = {bit: plain(bit, n) for bit, n in FIXED}
-    others = {bit: other(bit) for bit, _ in FIXED}
     far = (33, 256, 1 << 16, 1 << 31, ONES)
 
     def in_turn(stream):
         # Nothing, all, all with other words, every second field, the other ones.
         which = stream % 5
         if which < 3:
-            return ({}, every, others)[which]
-        return {bit: others[bit] for bit in BITS if bit % 2 == which % 2}
+            return ({}, EVERY, OTHER_WORDS)[which]
+        return {bit: words for bit, words in OTHER_WORDS.items() if bit % 2 == which % 2}
 
     def scattered(stream):
         # Fields whose words are of the stream, each bit held by some streams.
         numbers = Numbers(6000 + stream)
         return {
-            bit: random_field(numbers, bit, n)
-            for bit, n in FIXED
+            bit: random_held(numbers, bit, n)
+            for bit, n in HELD
             if (bit + 7 * stream) % 5 < 2
         }
 
     for n in (1, 2, 5):
         show_every_stream(*held_by_streams(n, in_turn), (n + 1, 32))
         show_every_stream(*held_by_streams(n, scattered, past=2), far if n < 5 else ())
-        show_every_stream(*held_by_streams(n, lambda stream: every, past=n))
+        show_every_stream(*held_by_streams(n, lambda stream: EVERY, past=n))
     show_every_stream(*held_by_streams(32, scattered))
     lent, fields = held_by_streams(32, in_turn, past=83)
     for stream in (16, 31):
@@ -448,9 +514,9 @@ def panels_of_streams():
 
 
 def panels_of_fields():
-    for bit, n in FIXED:
+    for bit, n in HELD:
         # One field alone, with other words and with zeros; all the others.
-        rest = {one: other(one) for one in BITS if one != bit}
+        rest = {one: words for one, words in OTHER_WORDS.items() if one != bit}
         for fields in ({bit: other(bit)}, {bit: [0] * n}, rest):
             show(stored(fresh(), of_fields(fields)), 0, readings_of(fields))
     # Type 4 has started and nothing is held.
@@ -472,12 +538,7 @@ def panels_at_random():
         n = 1 + numbers.below(3)
         lent = stored(fresh(random_ids(numbers, n), turn % 3), random_stores(numbers, n))
         stream = numbers.below(n)
-        fields = {}
-        for bit, size in FIXED:
-            if lent[indicator_place(stream)] >> bit & 1:
-                place = slot_place(bit, stream)
-                fields[bit] = lent[place : place + size]
-        show(lent, stream, readings_of(fields))
+        show(lent, stream, panel_of(lent, stream))
 
 
 def panels_refused():
@@ -562,7 +623,7 @@ def of_case(k, one, cover):
     else:
         if one.room > MOST_HELD:
             sys.exit(f"case {k} has a room that is too large")
-        given = [HELD, len(one.words), *one.words, one.stream, one.bit, one.room]
+        given = [WORDS, len(one.words), *one.words, one.stream, one.bit, one.room]
         untouched = [PATTERN] * one.room
         found, after = panel.held_words(one.words, one.stream, one.bit, untouched)
         if found[0] == "refused":
@@ -643,6 +704,8 @@ def build():
     frequencies()
     halves()
     every_bit()
+    over_range_counts()
+    states()
     streams()
     wrong_bits()
     orders()
@@ -676,7 +739,7 @@ LEAST = {
     "readings": 150,
 }
 
-# The readings of each bit that there have to be.
+# The readings of each bit that there have to be; 22 has none.
 KINDS = {
     **{bit: "frequency" for bit in FREQUENCIES},
     **{bit: "other" for bit in OTHERS},
@@ -696,7 +759,9 @@ def check(cover):
     for label, n in LEAST.items():
         found = cover.tally.get(label, 0)
         fail(found < n, f"{label}: {found} cases, fewer than {n}")
-    fail(set(KINDS) != set(BITS), "a bit has no kind of reading")
+    fail({*KINDS, 22} != set(BITS), "a bit has no kind of reading")
+    read = {what for what, bit in cover.read if bit == 22}
+    fail(read != {"absent", "held none", "refused"}, f"bit 22 reads as {read}")
     for bit, kind in KINDS.items():
         for what in (kind, "absent", "held", "held none"):
             fail((what, bit) not in cover.read, f"bit {bit} does not read as {what}")
@@ -727,9 +792,10 @@ def check(cover):
 
 def check_panels(cover, rules):
     """The cases of all the readings that there have to be."""
-    for bit, kind in KINDS.items():
+    for bit in BITS:
         found = {what for what, one in cover.shown if one == bit}
-        fail(found != {kind, "absent", "refused"}, f"bit {bit} is shown as {found}")
+        kinds = {KINDS[bit]} if bit in KINDS else set()
+        fail(found != kinds | {"absent", "refused"}, f"bit {bit} is shown as {found}")
     for n in (1, 2, 5, 32):
         for stream in range(n):
             seen = (n, stream) in cover.shown_streams
@@ -761,7 +827,7 @@ def main():
         expected += lines
     check(cover)
     text = "".join(line + "\n" for line in expected)
-    fail(len(given) > 1_500_000, f"the input has {len(given)} bytes, more than 1,500,000")
+    fail(len(given) > 1_600_000, f"the input has {len(given)} bytes, more than 1,600,000")
     fail(len(text) > 5_200_000, f"the output has {len(text)} bytes, more than 5,200,000")
     with open(sys.argv[1], "wb") as file:
         file.write(given)

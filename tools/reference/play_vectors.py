@@ -44,6 +44,16 @@ SLOT_PLACES = {
 }
 SIZES = dict(FIXED)
 
+# The fields that are held, all but 22, and the word of their bits.
+HELD = tuple((bit, n) for bit, n in FIXED if bit != 22)
+HELD_BITS = FIXED_BITS - (1 << 22)
+
+# The enable and the value of each indicator of a state word: those that persist, and
+# over-range and sample loss, which do not.
+INDICATORS = ((31, 19), (30, 18), (29, 17), (28, 16), (27, 15), (26, 14))
+NOT_HELD = ((25, 13), (24, 12))
+ALL_ON, ALL_OFF, VALUES, USER = 0xFC0FC000, 0xFC000000, 0x000FC000, 0xFF
+
 recordings = []
 
 # Refusals of which one packet has both faults, the earlier one first.
@@ -379,7 +389,7 @@ def other(bit):
     if bit == 15:
         return [format_word(code=1, packing=12, item=12), 0x00030004]
     if bit == 16:
-        return [0x00010011]
+        return [0xA00A0011]
     if bit == 17:
         return [0x00FFFFFF, 0x0000FFFF]
     if bit in (24, 18):
@@ -389,13 +399,25 @@ def other(bit):
     return [ONES - i for i in range(n)]
 
 
+def first_held(bit):
+    """What is held of the words of plain where nothing was: of the state word not the
+    values 18 and 16, whose enables are not set.  The words of other replace it."""
+    return [0x80000044] if bit == 16 else plain(bit, SIZES[bit])
+
+
+def slots_of(choose):
+    """The words of all the slots, each field with what is chosen for it, and 22 with
+    none."""
+    return [word for bit, _ in FIXED for word in (choose(bit) if bit != 22 else [0])]
+
+
 def each_field():
-    for bit, n in FIXED:
+    for bit, n in HELD:
         place = slot_place(bit)
-        words, others = plain(bit, n), other(bit)
-        beside = 22 if bit == 23 else 23
+        words, others = first_held(bit), other(bit)
+        beside = 19 if bit == 23 else 23
         extra = slot_place(beside)
-        held = context(1 << bit, words, identifier=7)
+        held = context(1 << bit, plain(bit, n), identifier=7)
         again = context(1 << bit, others, identifier=7, count=1)
         without = context(1 << beside, [0xFEED], identifier=7, count=2)
         indicator = {indicator_place(): 1 << bit}
@@ -420,8 +442,8 @@ def each_field():
              (changed, (4, 0, 0))],
             after={**both, **at_places(place, others)},
         )
-        # Replaced by zeros and by the first words again: zero words may be held.
-        if bit != 15:
+        # Replaced by zeros: zero words may be held.
+        if bit not in (15, 16):
             zero = context(1 << bit, [0] * n, identifier=7, count=2)
             recording(
                 [7], [(again, (4, 0, 0)), (zero, (4, 0, 0))],
@@ -444,16 +466,17 @@ def each_field():
         all_but = context(FIXED_BITS ^ 1 << bit, rest, identifier=7, count=7)
         recording(
             [7], [(all_but, (4, 0, 0))],
-            after={indicator_place(): FIXED_BITS ^ 1 << bit, **at_places(place, [0] * n)},
+            after={indicator_place(): HELD_BITS ^ 1 << bit, **at_places(place, [0] * n)},
         )
         recording(
             [7], [(held, (4, 0, 0)), (all_but, (4, 0, 6))],
-            after={indicator_place(): FIXED_BITS, **at_places(place, words)},
+            after={indicator_place(): HELD_BITS, **at_places(place, words)},
         )
 
 
 def all_fields():
     others = [word for bit, _ in FIXED for word in other(bit)]
+    held = {indicator_place(): HELD_BITS, **at_places(slot_place(30), slots_of(other))}
     tail = [0x00ABCDEF, 1, 7] + lists_of(0, 2) + [8, 9]
     slots = record_place(0) + 14
     for indicator, words in (
@@ -465,23 +488,154 @@ def all_fields():
         first = context(indicator, words, identifier=7)
         recording(
             [7], [(first, (4, 0, 0))], room=89,
-            after={indicator_place(): FIXED_BITS, **at_places(slots, all_fixed())},
+            after={indicator_place(): HELD_BITS, **at_places(slots, slots_of(first_held))},
         )
         second = context(FIXED_BITS, others, identifier=7, count=1)
-        recording(
-            [7], [(first, (4, 0, 0)), (second, (4, 0, 0))],
-            after={indicator_place(): FIXED_BITS, **at_places(slots, others)},
-        )
+        recording([7], [(first, (4, 0, 0)), (second, (4, 0, 0))], after=held)
     # One field after another until all are held.
     for order in (FIXED, FIXED[::-1]):
         packets = [
             (context(1 << bit, other(bit), identifier=7, count=i % 16), (4, 0, 0))
             for i, (bit, _) in enumerate(order)
         ]
+        recording([7], packets, after=held)
+
+
+# Field 22, which has its word in a packet and is not held.
+
+
+def over_range_counts():
+    fresh = at_places(1, [7] + [0] * 87)
+    once = {**fresh, **at_places(count_place(4), [1, 0, 1])}
+    for word in (0, 1, ONES):
+        recording([7], [(context(1 << 22, [word], identifier=7), (4, 0, 0))], after=once)
+    # Again and again, and among packets that hold something.
+    packets = [
+        (context(1 << 23, [0xFEED], identifier=7), (4, 0, 0)),
+        (context(1 << 22, [5], identifier=7, count=1), (4, 0, 0)),
+        (context(1 << 22, [6], identifier=7, count=2), (4, 0, 0)),
+        (context(1 << 31, identifier=7, count=3), (4, 0, 0)),
+    ]
+    after = {indicator_place(): 1 << 23, slot_place(23): 0xFEED, slot_place(22): 0}
+    recording([7], packets, after=after)
+    # With each other field, in a stream of its own, and with all those behind it: their
+    # words are those after its own.
+    ids, packets, after = [], [], {}
+    for stream, (bit, n) in enumerate(HELD):
+        ids.append(0x2200 + bit)
+        words = [*other(bit), ONES] if bit > 22 else [ONES, *other(bit)]
+        sent = context(1 << 22 | 1 << bit, words, identifier=ids[stream])
+        packets.append((sent, (4, stream, 0)))
+        after.update({indicator_place(stream): 1 << bit, slot_place(22, stream): 0})
+        after.update(at_places(slot_place(bit, stream), other(bit)))
+    recording(ids, packets, after=after)
+    behind = sum(1 << bit for bit, _ in FIXED if bit < 22)
+    words = [word for bit, _ in FIXED if bit < 22 for word in other(bit)]
+    after = {indicator_place(): behind, **at_places(slot_place(30), [0] * 14)}
+    after.update(at_places(slot_place(21), words))
+    both = context(1 << 22 | behind, [0xABCD, *words], identifier=7)
+    recording([7], [(both, (4, 0, 0))], after=after)
+    # Without its word, with a word too many, and with a rule broken behind it.
+    for indicator, words, number in (
+        (1 << 22, [], LAYOUT), (1 << 22, [1, 2], LAYOUT), (1 << 22 | 1 << 10, [1], LAYOUT),
+        (1 << 22 | 1 << 18, [1, 0x10000], FIELD), (1 << 22 | 1 << 16, [1, 1 << 20], FIELD),
+    ):
+        recording([7], [(context(indicator, words, identifier=7), number)], after=fresh)
+
+
+# The state word.
+
+
+def states_of(streams):
+    """A recording in which each stream is sent state words: the words of each, and what
+    it is then meant to hold."""
+    ids, packets, after = [], [], {}
+    for stream, (words, held) in enumerate(streams):
+        ids.append(0x1600 + stream)
+        for count, word in enumerate(words):
+            sent = context(1 << 16, [word], identifier=ids[stream], count=count)
+            packets.append((sent, (4, stream, 0)))
+        after.update({indicator_place(stream): 1 << 16, slot_place(16, stream): held})
+    recording(ids, packets, after=after)
+
+
+def each_indicator():
+    """Each alone: on, off, and its value without its enable, where nothing is held and
+    where all are on and off."""
+    for before in ([], [ALL_ON | 0x5A], [ALL_OFF | 0xA5]):
+        held = before[0] & ~USER if before else 0
+        streams = []
+        for enable, value in INDICATORS:
+            enable, value = 1 << enable, 1 << value
+            streams.append(([*before, enable | value], held | enable | value))
+            streams.append(([*before, enable], (held | enable) & ~value))
+            streams.append(([*before, value], held))
+        for enable, value in NOT_HELD:
+            for word in (1 << enable | 1 << value, 1 << enable, 1 << value):
+                streams.append(([*before, word], held))
+        states_of(streams)
+
+
+def each_choice_of_enables():
+    """Those that are enabled are turned; the others stay, whatever their values are."""
+    for first in (0, 32):
+        chosen = [(enables << 26, enables << 14) for enables in range(first, first + 32)]
+        states_of([
+            ([ALL_ON | 0x0F, enables | 0xF0], ALL_ON - values | 0xF0)
+            for enables, values in chosen
+        ])
+        states_of([
+            ([ALL_OFF | 0x3C, enables | VALUES | 0x03003000], ALL_OFF | values)
+            for enables, values in chosen
+        ])
+
+
+def state_words():
+    on = {enable: 1 << enable | 1 << value for enable, value in INDICATORS}
+    states_of([
+        # Words of which nothing is held but the user bits.
+        ([0], 0), ([0x000FF000], 0), ([0x03003000], 0), ([USER], USER), ([0x0300305A], 0x5A),
+        # All that may be set.
+        ([0xFF0FF0FF], ALL_ON | USER), ([0xFF0000A5], ALL_OFF | 0xA5),
+        # User bits are replaced by every word, and leave the indicators.
+        ([USER, 0], 0), ([0x5A, 0xA5], 0xA5), ([ALL_ON | 0x5A, 0xA5], ALL_ON | 0xA5),
+        ([0x5A, on[29]], on[29]), ([on[29] | 1, 2, on[30] | 4], on[29] | on[30] | 4),
+        # One after another, and off again in another order.
+        (list(on.values()), ALL_ON),
+        ([*on.values(), *[1 << enable for enable in (28, 31, 26, 30, 27, 29)]], ALL_OFF),
+        # On, off, on; over-range lit in between and not said again.
+        ([on[30], 1 << 30, on[30]], on[30]), ([on[28], on[28] | 0x02002000, 0x02000000], on[28]),
+    ])
+    # The first word is 0; then packets without a state word, of every type, refused ones
+    # too, and of another stream.
+    others = [
+        (context(1 << 30, [5], identifier=7, count=1), (4, 0, 0)),
+        (context(1 << 31, identifier=7, count=2), (4, 0, 0)),
+        (packet(1, [1 << 16, ALL_OFF], identifier=7), (1, 0, 0)),
+        (packet(3, [1 << 16, ALL_OFF], identifier=7), (3, 0, 0)),
+        (packet(5, [1 << 16, ALL_OFF], identifier=7), (5, 0, 0)),
+        (context(1 << 16, [ALL_OFF | 1 << 20], identifier=7, count=3), FIELD),
+        (context(1 << 24 | 1 << 16, [1 << 16, ALL_OFF], identifier=7, count=3), FIELD),
+        (context(1 << 16, [ALL_OFF], identifier=8), (4, 1, 0)),
+        (context(1 << 16, [ALL_OFF], identifier=9), STREAM),
+    ]
+    for word, held in ((0, 0), (ALL_ON | 0x5A, ALL_ON | 0x5A), (0x03003000, 0)):
+        first = (context(1 << 16, [word], identifier=7), (4, 0, 0))
         recording(
-            [7], packets,
-            after={indicator_place(): FIXED_BITS, **at_places(slots, others)},
+            [7, 8], [first, *others],
+            after={
+                indicator_place(): 1 << 30 | 1 << 16, slot_place(16): held,
+                slot_place(16, 1): ALL_OFF,
+            },
         )
+    # Among all fields: the other words are replaced whole.
+    fields = [word for bit, _ in FIXED for word in ([on[31]] if bit == 16 else other(bit))]
+    held = slots_of(lambda bit: [on[31] | 1 << 26] if bit == 16 else other(bit))
+    packets = [
+        (context(1 << 16, [1 << 26 | 0x77], identifier=7), (4, 0, 0)),
+        (context(FIXED_BITS, fields, identifier=7, count=1), (4, 0, 0)),
+    ]
+    recording([7], packets, after={indicator_place(): HELD_BITS, **at_places(slot_place(30), held)})
 
 
 def not_held():
@@ -760,7 +914,8 @@ def wrong_layouts():
     )
     not_made({0: 3}, "layout", ids=(7, 8), room=264)
     # The whole of a second record, but of words that were not stored.
-    not_made({0: 2}, "indicator", "unheld", "field", "last", room=177, probe=PATTERN)
+    broken = ("indicator", "unheld", "field", "state", "last")
+    not_made({0: 2}, *broken, room=177, probe=PATTERN)
     neighbour({89: 7, 90: ONES}, "layout", room=177)
 
 
@@ -784,18 +939,23 @@ def wrong_lists():
 
 
 def wrong_indicators():
-    for bit in (31, *range(10)):
+    for bit in (31, 22, *range(10)):
         not_made({**START_4, indicator_place(): 1 << bit}, "indicator")
-    for bit in (31, 9, 8, 0):
+    for bit in (31, 22, 9, 8, 0):
         # Among fields that are held, and with type 4 not started.
-        fields = at_places(slot_place(30), all_fixed())
-        stores = {**START_4, indicator_place(): FIXED_BITS | 1 << bit, **fields}
+        fields = at_places(slot_place(30), slots_of(first_held))
+        stores = {**START_4, indicator_place(): HELD_BITS | 1 << bit, **fields}
         not_made(stores, "indicator")
         not_made({indicator_place(): 1 << bit}, "indicator")
         second = {indicator_place(1): 1 << bit, count_place(4, 1) + 2: 16}
         not_made(second, "indicator", ids=(7, 8))
-    not_made({**START_4, indicator_place(): 0x800003FF}, "indicator")
-    for bit, _ in FIXED:
+    not_made({**START_4, indicator_place(): 0x804003FF}, "indicator")
+    # Field 22 with a word.
+    for stream in (0, 1):
+        stores = {count_place(4, stream) + 2: 1, indicator_place(stream): 1 << 22}
+        stores[slot_place(22, stream)] = 5
+        not_made(stores, "indicator", "unheld", ids=(7, 8))
+    for bit, _ in HELD:
         neighbour(
             {**START_4, indicator_place(): 1 << bit, slot_place(bit): 0}, "indicator",
             after={indicator_place(): 1 << bit},
@@ -809,18 +969,22 @@ def wrong_unheld():
             word = (1, 1 << 31, ONES, PATTERN)[(bit + i) % 4]
             not_made({**START_4, slot_place(bit) + i: word}, "unheld")
     # Among all the others held.
-    fields = at_places(slot_place(30), all_fixed())
-    for bit, _ in FIXED:
-        stores = {**START_4, indicator_place(): FIXED_BITS ^ 1 << bit, **fields}
+    fields = at_places(slot_place(30), slots_of(first_held))
+    for word in (1, 1 << 31):
+        stores = {**START_4, indicator_place(): HELD_BITS, **fields, slot_place(22): word}
+        not_made(stores, "unheld")
+    for bit, _ in HELD:
+        stores = {**START_4, indicator_place(): HELD_BITS ^ 1 << bit, **fields}
         not_made(stores, "unheld")
         without = {**stores, **at_places(slot_place(bit), [0] * SIZES[bit])}
         neighbour(without, "unheld", after={slot_place(bit): 0})
     # In other streams, and with type 4 not started.
     for stream in range(3):
         not_made({slot_place(10, stream): 1}, "unheld", ids=(7, 8, 9), probe=7)
+        not_made({slot_place(22, stream): 1}, "unheld", ids=(7, 8, 9), probe=8)
         not_made({slot_place(30, stream): 1 << 31}, "unheld", ids=(7, 8, 9), probe=9)
-    everything = {**START_4, indicator_place(): FIXED_BITS, **fields}
-    neighbour(everything, "unheld", after={indicator_place(): FIXED_BITS, **fields})
+    everything = {**START_4, indicator_place(): HELD_BITS, **fields}
+    neighbour(everything, "unheld", after={indicator_place(): HELD_BITS, **fields})
     # Field 10's word is the layout's last; the word past it is free.
     neighbour({89: 5}, "unheld", after={88: 0})
 
@@ -850,7 +1014,7 @@ FIELD_EDGES = {
     ),
     16: (
         [[1 << place] for place in (23, 22, 21, 20, 11, 10, 9, 8)],
-        [[0xFF0FF0FF], [1 << 24 | 1 << 19], [1 << 12 | 1 << 7]],
+        [[ALL_ON | USER], [1 << 26 | 1 << 14], [1 << 7]],
     ),
     15: (
         [[FORMAT | 1 << place, 0] for place in (12, 13, 14, 15)]
@@ -882,18 +1046,62 @@ def wrong_fields():
             after = at_places(slot_place(bit), words)
             neighbour({**held, **after}, "field", after=after)
         # Among all the fields, in the second of two streams.
-        fields = at_places(slot_place(30, 1), all_fixed())
+        fields = at_places(slot_place(30, 1), slots_of(first_held))
         fields.update(at_places(slot_place(bit, 1), wrong[-1]))
-        stores = {count_place(4, 1) + 2: 16, indicator_place(1): FIXED_BITS, **fields}
+        stores = {count_place(4, 1) + 2: 16, indicator_place(1): HELD_BITS, **fields}
         not_made(stores, "field", ids=(7, 8), probe=7)
     # Fields without a rule.
     fields = {}
     indicator = 0
-    for bit, n in FIXED:
+    for bit, n in HELD:
         if bit not in FIELD_EDGES:
             indicator |= 1 << bit
             fields.update(at_places(slot_place(bit), [ONES] * n))
     neighbour({**START_4, indicator_place(): indicator, **fields}, "field", after=fields)
+
+
+# State words that keep the rule of the field and cannot be held, and some that can.
+WRONG_STATES = [
+    *[1 << bit for pair in NOT_HELD for bit in pair],
+    *[ALL_ON | 1 << bit for pair in NOT_HELD for bit in pair],
+    0x02002000, 0x01001000, 0x030030FF,
+    *[1 << value for _, value in INDICATORS],
+    *[ALL_OFF - (1 << enable) + (1 << value) for enable, value in INDICATORS],
+    *[ALL_ON - (1 << enable) | USER for enable, _ in INDICATORS],
+    VALUES, 0xFF0FF0FF,
+]
+RIGHT_STATES = [
+    0, 1, USER, ALL_OFF, ALL_ON, ALL_ON | USER,
+    *[1 << enable for enable, _ in INDICATORS],
+    *[1 << enable | 1 << value for enable, value in INDICATORS],
+    *[ALL_ON - (1 << enable) - (1 << value) for enable, value in INDICATORS],
+]
+
+
+def wrong_states():
+    held = {**START_4, indicator_place(): 1 << 16}
+    for word in WRONG_STATES:
+        not_made({**held, slot_place(16): word}, "state")
+    for word in RIGHT_STATES:
+        neighbour({**held, slot_place(16): word}, "state", after={slot_place(16): word})
+    not_made({**held, slot_place(16): ONES}, "field", "state")
+    # Among all the fields, in one of two streams.
+    for stream in (0, 1):
+        fields = at_places(slot_place(30, stream), slots_of(first_held))
+        stores = {count_place(4, stream) + 2: 16, indicator_place(stream): HELD_BITS, **fields}
+        for word in (1 << 25, 1 << 14):
+            not_made({**stores, slot_place(16, stream): word}, "state", ids=(7, 8))
+    # What is held goes on from there.
+    for before, word, after in (
+        (ALL_ON | 0x11, 1 << 29 | 0x22, ALL_ON - (1 << 17) | 0x22),
+        (0, 1 << 29 | 1 << 17, 1 << 29 | 1 << 17),
+        (1 << 26 | 1 << 14, 0x03003000 | 1 << 19, 1 << 26 | 1 << 14),
+    ):
+        recording(
+            [7], [(context(1 << 16, [word], identifier=7, count=1), (4, 0, 0))],
+            stores={**held, slot_place(16): before}, beside="state",
+            after={slot_place(16): after},
+        )
 
 
 def wrong_counts():
@@ -922,22 +1130,22 @@ def wrong_counts():
 
 
 def wrong_starts():
-    for bit, n in FIXED:
+    for bit, n in HELD:
         # The field's words zero, and not.
         not_made({indicator_place(): 1 << bit}, "type 4")
         not_made(
             {indicator_place(): 1 << bit, **at_places(slot_place(bit), other(bit))}, "type 4"
         )
-    fields = at_places(slot_place(30), all_fixed())
-    not_made({indicator_place(): FIXED_BITS, **fields}, "type 4")
+    fields = at_places(slot_place(30), slots_of(first_held))
+    not_made({indicator_place(): HELD_BITS, **fields}, "type 4")
     # The other types have started, or type 4 of the other stream.
     others = {count_place(kind) + 2: 5 for kind in (1, 3, 5)}
     not_made({**others, indicator_place(): 1 << 10}, "type 4")
     not_made({count_place(4, 1) + 2: 5, indicator_place(0): 1 << 10}, "type 4", ids=(7, 8))
     not_made({count_place(4, 0) + 2: 5, indicator_place(1): 1 << 10}, "type 4", ids=(7, 8))
     for last_plus_one in (1, 16):
-        stores = {count_place(4) + 2: last_plus_one, indicator_place(): FIXED_BITS, **fields}
-        neighbour(stores, "type 4", after={indicator_place(): FIXED_BITS, **fields})
+        stores = {count_place(4) + 2: last_plus_one, indicator_place(): HELD_BITS, **fields}
+        neighbour(stores, "type 4", after={indicator_place(): HELD_BITS, **fields})
     # Type 4 has started and nothing is held.
     neighbour(START_4, "type 4", after={indicator_place(): 0})
     neighbour(
@@ -1034,6 +1242,12 @@ def random_few(numbers):
     return body
 
 
+def random_held(numbers, bit, n):
+    """The words of a field as it may be held."""
+    words = random_field(numbers, bit, n)
+    return [table.state_after(0, words[0])] if bit == 16 else words
+
+
 def random_stores(numbers, n):
     stores = {}
     for stream in range(n):
@@ -1043,10 +1257,10 @@ def random_stores(numbers, n):
                 stores.update(at_places(count_place(kind, stream), count))
         if count_place(4, stream) in stores:
             indicator = 0
-            for bit, size in FIXED:
+            for bit, size in HELD:
                 if numbers.below(3) == 0:
                     indicator |= 1 << bit
-                    words = random_field(numbers, bit, size)
+                    words = random_held(numbers, bit, size)
                     stores.update(at_places(slot_place(bit, stream), words))
             stores[indicator_place(stream)] = indicator
     return stores
@@ -1064,6 +1278,17 @@ def carried(words, found):
             fields[bit] = words[place : place + n]
             place += n
     return fields
+
+
+def state_together(before, words):
+    """The state word that is held after these, taken together: of each indicator the
+    last word that enables it, and of the user bits the last one."""
+    held = before & ~USER | words[-1] & USER
+    for enable, value in INDICATORS:
+        enabling = [word for word in words if word >> enable & 1]
+        if enabling:
+            held = held & ~(1 << value) | 1 << enable | enabling[-1] & 1 << value
+    return held
 
 
 def check_together(k, before, after, played):
@@ -1086,11 +1311,14 @@ def check_together(k, before, after, played):
             expected[place + 1] = (before[place + 1] + missing) & ONES
             expected[place + 2] = counts[-1] + 1
         contexts = [carried(w, p) for s, p, w in played if s == stream and p.type == 4]
-        for bit, n in FIXED:
+        for bit, n in HELD:
             values = [fields[bit] for fields in contexts if bit in fields]
             if values:
                 place = slot_place(bit, stream)
-                expected[place : place + n] = values[-1]
+                last = values[-1]
+                if bit == 16:
+                    last = [state_together(before[place], [word for (word,) in values])]
+                expected[place : place + n] = last
                 expected[indicator_place(stream)] |= 1 << bit
     if after != expected:
         sys.exit(f"recording {k} has a table that does not follow from its packets")
@@ -1107,6 +1335,8 @@ class Coverage:
         self.follows = set()
         self.fields = set()
         self.bits = set()
+        self.states = set()
+        self.enables = set()
         self.broken = {}
         self.beside = {}
         self.past_2_32 = set()
@@ -1132,13 +1362,19 @@ def note_played(cover, before, after, found, stream):
 
 def note_fields(cover, before, after, words, found, stream):
     indicator = words[found.body]
-    for bit in (31, 9, 8):
+    for bit in (31, 22, 9, 8):
         if indicator >> bit & 1:
             cover.bits.add(bit)
+            if indicator == 1 << bit:
+                cover.bits.add((bit, "alone"))
     if indicator & FIXED_BITS == FIXED_BITS:
         cover.bits.add("all")
     held = before[indicator_place(stream)]
-    for bit, n in FIXED:
+    if indicator >> 16 & 1:
+        place = slot_place(16, stream)
+        old = before[place] if held >> 16 & 1 else None
+        note_state(cover, old, carried(words, found)[16][0])
+    for bit, n in HELD:
         place = slot_place(bit, stream)
         old, new = before[place : place + n], after[place : place + n]
         if indicator >> bit & 1:
@@ -1150,6 +1386,23 @@ def note_fields(cover, before, after, words, found, stream):
             cover.fields.add((bit, "kept"))
         if after[indicator_place(stream)] >> bit & 1 and not any(new):
             cover.fields.add((bit, "held and zero"))
+
+
+def note_state(cover, old, word):
+    """What a state word covers, with the one that is held before it, or None."""
+    def of(one, enable, value):
+        return "not enabled" if not one >> enable & 1 else "on" if one >> value & 1 else "off"
+
+    cover.enables.add(word >> 26)
+    for enable, value in INDICATORS:
+        was = "absent" if old is None else of(old, enable, value)
+        stray = " and set" if of(word, enable, value) == "not enabled" and word >> value & 1 else ""
+        cover.states.add((enable, was, of(word, enable, value) + stray))
+    for enable, value in NOT_HELD:
+        if word & ~USER == 1 << enable | 1 << value:
+            cover.states.add((enable, "alone"))
+    if word == 0:
+        cover.states.add("0 first" if old is None else "0 again")
 
 
 def of_recording(k, one, cover):
@@ -1252,6 +1505,10 @@ def build():
     past_2_32()
     each_field()
     all_fields()
+    over_range_counts()
+    each_indicator()
+    each_choice_of_enables()
+    state_words()
     not_held()
     other_parts()
     long_packets()
@@ -1263,6 +1520,7 @@ def build():
     wrong_indicators()
     wrong_unheld()
     wrong_fields()
+    wrong_states()
     wrong_counts()
     wrong_starts()
     random_recordings()
@@ -1300,15 +1558,24 @@ def check(cover):
         ("streams", cover.streams == set(range(1, 33))),
         ("first counts", len(cover.firsts) == 4 * 16),
         ("counts after each other", len(cover.follows) == 4 * 256),
-        ("bits 31, 9, 8 and all fields", cover.bits == {31, 9, 8, "all"}),
+        ("bits 31, 22, 9, 8 and all fields", cover.bits >= {31, 22, 9, 8, "all"}),
+        ("bits 31, 22, 9 and 8 alone", cover.bits >= {(bit, "alone") for bit in (31, 22, 9, 8)}),
+        ("choices of enables", cover.enables == set(range(64))),
         ("seen and missing past 2^32", len(cover.past_2_32) == 4 * 2),
         ("no stream by type", cover.no_identifier == set(range(6))),
         ("pairs of faults", both_faults >= set(pairs)),
     ):
         fail(not found, f"{wanted}: not all of them are there")
-    for bit, _ in FIXED:
+    for bit, _ in HELD:
         for what in ("held", "replaced", "kept", "held and zero"):
             fail((bit, what) not in cover.fields, f"field {bit} is not {what}")
+    states = [(enable, "alone") for enable, _ in NOT_HELD] + ["0 first", "0 again"]
+    for enable, _ in INDICATORS:
+        for was in ("absent", "not enabled", "on", "off"):
+            for now in ("on", "off", "not enabled", "not enabled and set"):
+                states.append((enable, was, now))
+    for state in states:
+        fail(state not in cover.states, f"no state word: {state}")
     for edge in (
         (LIST, "S", 0), (LIST, "S", 33), (LIST, "S", 40), (LIST, "S", 2), (LIST, "S", 32),
         (STARTED, "S", 1), (STARTED, "S", 32), (ROOM, "S", 1), (ROOM, "S", 32),
@@ -1335,7 +1602,7 @@ def main():
         expected += lines
     check(cover)
     text = "".join(line + "\n" for line in expected)
-    fail(len(given) > 600_000, f"the input has {len(given)} bytes, more than 600,000")
+    fail(len(given) > 650_000, f"the input has {len(given)} bytes, more than 650,000")
     fail(len(text) > 1_000_000, f"the output has {len(text)} bytes, more than 1,000,000")
     with open(sys.argv[1], "wb") as file:
         file.write(given)

@@ -15,7 +15,8 @@ sys.dont_write_bytecode = True
 
 import vrtplay
 from play_vectors import (
-    COUNTED, gap, no_stream_packets, other, random_few, refused_packets, short_packet,
+    COUNTED, INDICATORS, NOT_HELD, gap, no_stream_packets, other, random_few, refused_packets,
+    short_packet,
 )
 from read_vectors import (
     FIXED, FIXED_BITS, FORMAT, ONES, TERA, Numbers, all_fixed, context, counted, format_word,
@@ -237,6 +238,32 @@ def retunings():
     recording("retunings", [7], steps)
 
 
+def states():
+    """State words of two streams, each indicator on, off and not enabled, over-range and
+    sample loss too; over-range counts, alone and with fields behind them."""
+    steps, counts = [], [0, 0]
+
+    def told(stream, indicator, *words):
+        count = counts[stream] % 16
+        counts[stream] += 1
+        carried = context(indicator, words, identifier=0x160 + stream, count=count)
+        steps.append((carried, (4, stream, 0)))
+
+    for turn, (enable, value) in enumerate((*INDICATORS, *NOT_HELD)):
+        on, off = 1 << enable | 1 << value, 1 << enable
+        told(0, 1 << 16, on | turn)
+        told(1, 1 << 16, off)
+        told(0, 1 << 16, 1 << value)
+        told(1, 1 << 22 | 1 << 16, 5, on | 0xF0 + turn)
+        told(0, 1 << 22 | 1 << 18 | 1 << 16, 5, 64 * turn, off)
+        told(1, 1 << 16, 0)
+        steps.append((packet(1, counted(3), identifier=0x160, count=turn), (1, 0, 0)))
+    told(0, 1 << 22, 9)
+    told(0, 1 << 22 | 1 << 21, 9, *hertz(5))
+    told(0, 1 << 16, 0xFF0FF0FF)
+    recording("states", [0x160, 0x161], steps)
+
+
 # Refusals.
 
 
@@ -430,6 +457,7 @@ def build():
     types()
     counts()
     retunings()
+    states()
     stream_refusals()
     refusals()
     cuts()

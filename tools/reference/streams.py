@@ -83,6 +83,6 @@ def changed(before, before_stream, after, after_stream):
         if ("refused", number) in found:
             return ("refused", number)
     (_, one), (_, other) = found
-    # "each field from bits 30 to 10"
+    # "each field from bits 30 to 10"; of 22, which is never held, no words differ
     differ = [bit for bit in HELD_BITS if words_held(one, bit) != words_held(other, bit)]
     return ("changed", sum(2**bit for bit in differ))

@@ -19,10 +19,12 @@ import table
 from panel import VALUE
 from panel_vectors import broken_tables, fresh, of_fields, refused, stored
 from play_vectors import (
-    COUNTED, FIELD_EDGES, MOST_ROOM, PATTERN, SIZES, at_places, count_place, indicator_place,
-    other, random_few, random_ids, random_stores, record_place, short_packet, slot_place,
+    ALL_OFF, ALL_ON, COUNTED, FIELD_EDGES, HELD, HELD_BITS, MOST_ROOM, PATTERN, SIZES,
+    WRONG_STATES, at_places, count_place, first_held, indicator_place, other, random_few,
+    random_held, random_ids, random_stores, record_place, short_packet, slot_place,
+    state_together,
 )
-from read_vectors import FIXED, FIXED_BITS, ONES, Numbers, context, plain, random_field
+from read_vectors import FIXED, ONES, Numbers, context
 from table import ROOM, STREAM, TABLE
 
 MOST_OUT = 200
@@ -31,7 +33,7 @@ OWN = 89
 # What is asked.
 IDENTITY, COUNTS, OWN_TABLE, CHANGED = 1, 2, 3, 4
 
-BITS = tuple(bit for bit, _ in FIXED)
+BITS = tuple(bit for bit, _ in HELD)
 
 # Types that are not counted, those among them of which the lowest bits are.
 WRONG_TYPES = (
@@ -91,8 +93,8 @@ def holding(fields, ids=(7,), stream=0, past=0):
     return stored(fresh(ids, past), of_fields(fields, stream))
 
 
-EVERY = {bit: plain(bit, n) for bit, n in FIXED}
-OTHERS = {bit: other(bit) for bit, _ in FIXED}
+EVERY = {bit: first_held(bit) for bit in BITS}
+OTHERS = {bit: other(bit) for bit in BITS}
 
 
 def without(fields, bit):
@@ -144,12 +146,13 @@ def played_tables():
 def identities():
     for identifier in (0, 1, 7, 89, 0x7FFFFC00, 1 << 31, PATTERN, ONES):
         identify(fresh((identifier,)), 0, ("declared", identifier, 0))
-    for bit, n in FIXED:
+    for bit, n in HELD:
         # Alone, with zero words, all the others, and in the other stream.
         identify(holding({bit: OTHERS[bit]}), 0, ("declared", 7, 1 << bit))
         identify(holding({bit: [0] * n}, past=1), 0, ("declared", 7, 1 << bit))
         rest = holding(without(EVERY, bit))
-        identify(rest, 0, ("declared", 7, FIXED_BITS - (1 << bit)))
+        identify(rest, 0, ("declared", 7, HELD_BITS - (1 << bit)))
+    identify(holding(EVERY), 0, ("declared", 7, HELD_BITS))
     two = holding({24: [5], 10: [6]}, (7, 8), 1)
     identify(two, 0, ("declared", 7, 0))
     identify(two, 1, ("declared", 8, 1 << 24 | 1 << 10))
@@ -249,7 +252,7 @@ def own_tables():
         own(lent, stream, 90, ("table", OWN))
     own(lent, 31, 88, refused(ROOM))
     own(lent, 32, 90, refused(STREAM))
-    for bit, n in FIXED:
+    for bit, n in HELD:
         own(holding({bit: OTHERS[bit]}, (7, 8), 1), 1, 89, ("table", OWN))
         own(holding({bit: [0] * n}, (7, 8), 0), 1, 89, ("table", OWN))
     # STREAM alone, and before ROOM.
@@ -265,20 +268,23 @@ def own_tables():
 # Changed fields.
 
 
-def ruled_zero(bit, place, one):
-    """Whether the rule of a field asks for zero in a bit of the upper half of a word."""
+def ruled(bit, place, one):
+    """Whether the rule of a field, or of the state word that is held, fixes a bit of the
+    upper half of a word of OTHERS."""
     if bit in (24, 18):
         return True
     if bit == 17:
         return one >= (16 if place else 24)
     if bit == 16:
-        return 20 <= one <= 23
+        # The values 19 and 17 are set: their enables stay.  Free are the other enables
+        # that can be held, and these values.
+        return one not in (30, 28, 27, 26, 19, 17)
     return bit in (29, 21) and place == 0 and one == 31
 
 
 def changed_words():
     full = holding(EVERY)
-    for bit, n in FIXED:
+    for bit, n in HELD:
         # Among all the others, and alone: other words; held against absent; zero
         # words against absent; the same.
         alone, answer = holding({bit: OTHERS[bit]}), ("changed", 1 << bit)
@@ -292,14 +298,14 @@ def changed_words():
         # One word, by one bit: each word of the field, by its lowest bit and by the
         # highest one of its upper half that the field's rule leaves free.
         for place in range(n):
-            free = [one for one in range(31, 15, -1) if not ruled_zero(bit, place, one)]
+            free = [one for one in range(31, 15, -1) if not ruled(bit, place, one)]
             for flipped in (0, *free[:1]):
                 words = list(OTHERS[bit])
                 words[place] ^= 1 << flipped
                 compare(holding(OTHERS), 0, holding({**OTHERS, bit: words}), 0, answer)
         # The words that one field has, the next one has on the other side.
         for near in (bit - 1, bit - 2):
-            if near in SIZES and SIZES[near] == n:
+            if near in BITS and SIZES[near] == n:
                 answer = ("changed", 1 << bit | 1 << near)
                 compare(holding({bit: [0] * n}), 0, holding({near: [0] * n}), 0, answer)
 
@@ -308,7 +314,7 @@ def changed_together():
     full, others = holding(EVERY), holding(OTHERS)
     differ(full, others, *BITS)
     differ(full, fresh(), *BITS)
-    differ(holding({bit: [0] * n for bit, n in FIXED}), fresh(), *BITS)
+    differ(holding({bit: [0] * n for bit, n in HELD}), fresh(), *BITS)
     compare(full, 0, full, 0, ("changed", 0))
     compare(fresh(), 0, fresh(), 0, ("changed", 0))
     for chosen in ((30, 10), (29, 28), (14, 13), (12, 11), (24, 23, 18), BITS[::2], BITS[1::2]):
@@ -387,7 +393,7 @@ def changed_by_packets():
         return context(indicator, words, identifier=identifier)
 
     # Each field as the first, again with the same words, and with others.
-    for bit, _ in FIXED:
+    for bit in BITS:
         play(carry({bit: EVERY[bit]}), [bit])
         play(carry({bit: EVERY[bit]}), [])
         play(carry({bit: OTHERS[bit]}), [bit])
@@ -403,6 +409,21 @@ def changed_by_packets():
     play(carry({24: [2]}, identifier=8), [])
     play(carry({24: [2]}, identifier=6), [24], asked=0)
     held.update({24: [1], 14: [0] * 11})
+    # Over-range counts: nothing changes by them, and the fields behind are their own.
+    play(carry({22: [5]}), [])
+    play(carry({22: [6]}), [])
+    play(carry({22: [6], 21: held[21], 19: [9]}), [19])
+    identify(lent, 1, ("declared", 7, HELD_BITS))
+    own(lent, 1, 89, ("table", OWN))
+    held[19] = [9]
+    # State words: those that leave what is held, and those that do not.
+    for word, fields in (
+        (held[16][0], []), (ALL_ON | 0x11, [16]), (0x11, []), (0x03003011, []), (0x000FF011, []),
+        (0x10, [16]), (1 << 28 | 0x10, [16]), (1 << 28 | 0x10, []), (1 << 28 | 1 << 16, [16]),
+        (ALL_OFF, [16]), (0, []),
+    ):
+        play(carry({16: [word]}), fields)
+    held[16] = [ALL_OFF]
     for _ in range(20):
         body = random_few(numbers)
         fields, place = {}, 1
@@ -410,10 +431,15 @@ def changed_by_packets():
             if body[0] >> bit & 1:
                 fields[bit] = body[place : place + n]
                 place += n
-        # Every second field as it is held already.
-        fields = {bit: words if bit % 2 else held[bit] for bit, words in fields.items()}
-        play(carry(fields), [bit for bit, words in fields.items() if words != held[bit]])
-        held.update(fields)
+        # Every second field as it is held already; state words as they come.
+        for bit in fields:
+            if bit % 2 == 0 and bit not in (22, 16):
+                fields[bit] = held[bit]
+        after = {bit: words for bit, words in fields.items() if bit != 22}
+        if 16 in fields:
+            after[16] = [state_together(held[16][0], fields[16])]
+        play(carry(fields), [bit for bit, words in after.items() if words != held[bit]])
+        held.update(after)
 
 
 # The order of the refusals.
@@ -456,6 +482,16 @@ def orders():
         compare(holding({bit: right[0]}), 0, holding({bit: wrong[0]}), 0, refused(TABLE))
         if len(right) > 1:
             compare(holding({bit: right[0]}), 0, holding({bit: right[1]}), 0, ("changed", 1 << bit))
+    # Tables that hold field 22, or a state word that cannot be held.
+    for lent in (holding({22: [0]}), holding({22: [5]}), stored(fresh(), {slot_place(22): 5})):
+        identify(lent, 0, refused(TABLE))
+        own(lent, 0, 89, refused(TABLE))
+        compare(lent, 0, one, 0, refused(TABLE))
+        compare(one, 0, lent, 0, refused(TABLE))
+    for word in WRONG_STATES[::3]:
+        identify(holding({16: [word]}), 0, refused(TABLE))
+        own(holding({16: [word]}), 0, 89, refused(TABLE))
+        compare(holding({16: [word]}), 0, one, 0, refused(TABLE))
     # 32 streams: one word too few, 33 of them, and a last record that is not good.
     many = table_of_streams(32)
     for words in (many[:-1], stored(many, {0: 33}), stored(many, {count_place(5, 31) + 2: 17})):
@@ -500,10 +536,10 @@ def random_tables():
         # A table and itself with a few fields replaced.
         after = list(words)
         if table.well_made(words) and stream < words[0]:
-            for bit, n in FIXED:
+            for bit, n in HELD:
                 if words[indicator_place(stream)] >> bit & 1 and numbers.below(3) == 0:
                     place = slot_place(bit, stream)
-                    after[place : place + n] = random_field(numbers, bit, n)
+                    after[place : place + n] = random_held(numbers, bit, n)
         compare(words, stream, after, stream)
 
 
@@ -745,8 +781,8 @@ def check_values(cover):
         answer = "table" if room >= OWN else "refused"
         fail((room, answer) not in cover.rooms, f"no own table into {room} words")
     fail(0 not in cover.changed, "no case where nothing changed")
-    fail(FIXED_BITS not in cover.changed, "no case where every field changed")
-    for bit, n in FIXED:
+    fail(HELD_BITS not in cover.changed, "no case where every field changed")
+    for bit, n in HELD:
         fail(1 << bit not in cover.changed, f"bit {bit} does not change alone")
         for kinds in (
             ("held", "held"), ("held", "absent"), ("absent", "held"), ("zero", "absent"),
@@ -754,7 +790,7 @@ def check_values(cover):
         ):
             fail((bit, *kinds) not in cover.changed, f"bit {bit} does not change as {kinds}")
         for place in range(n):
-            free = [one for one in range(16, 32) if not ruled_zero(bit, place, one)]
+            free = [one for one in range(16, 32) if not ruled(bit, place, one)]
             for half in ("lower", "upper") if free else ("lower",):
                 seen = (bit, place, half) in cover.words
                 fail(not seen, f"bit {bit}: the {half} half of word {place} does not change alone")
@@ -774,7 +810,7 @@ def main():
         expected += lines
     check(cover)
     text = "".join(line + "\n" for line in expected)
-    fail(len(given) > 1_500_000, f"the input has {len(given)} bytes, more than 1,500,000")
+    fail(len(given) > 1_600_000, f"the input has {len(given)} bytes, more than 1,600,000")
     fail(len(text) > 600_000, f"the output has {len(text)} bytes, more than 600,000")
     with open(sys.argv[1], "wb") as file:
         file.write(given)

@@ -1,8 +1,9 @@
 """A reference table of streams: it starts, plays packets and is well made or not.
 
-It is written from document 01 and from nothing else.  Reading a packet, its
-fields and the field rules are those of vrt49.py.  Words are whole numbers from 0
-to 2^32 - 1 in a list; the sentences in quotation marks are document 01's own.
+It is written from document 01, from C-11 of document 02, which corrects it on
+fields 16 and 22, and from nothing else.  Reading a packet, its fields and the field
+rules are those of vrt49.py.  Words are whole numbers from 0 to 2^32 - 1 in a list;
+the sentences in quotation marks are document 01's own, or C-11's where it is named.
 
 A table is a list of dictionaries, one for each stream in the order of the list:
 
@@ -14,7 +15,8 @@ A table is a list of dictionaries, one for each stream in the order of the list:
 The words of a table are word 0, the number of streams S, and S records of 88
 words: identifier; held indicator; for types 1, 3, 4, 5 in this order three words
 each, seen, missing, and the last count plus one or 0 if it has not started; then
-74 words, the fields 30 to 10 in this order, zero where a field is not held.
+74 words, the fields 30 to 10 in this order, zero where a field is not held, as field
+22 always is.
 """
 
 import vrt49
@@ -29,8 +31,13 @@ TABLE = 18
 # "Types 1, 3, 4 and 5 are counted apart within a stream."
 COUNTED_TYPES = (1, 3, 4, 5)
 
-# "each field from bits 30 to 10"; "Bits 31, 9 and 8 are not held."
-HELD_BITS = tuple(range(30, 9, -1))
+# "Bits 30 to 10 are 21 fields of 74 words together."
+FIELD_BITS = tuple(range(30, 9, -1))
+
+# "Bits 31, 9 and 8 are not held."  C-11: "field 22, which is now checked and never
+# held".
+HELD_BITS = tuple(bit for bit in FIELD_BITS if bit != 22)
+STATE_BIT = 16
 
 # identifier, held indicator, four counts of three words, 74 words of fields
 RECORD_WORDS = 2 + 3 * len(COUNTED_TYPES) + sum(FIXED_WORDS.values())
@@ -39,6 +46,61 @@ RECORD_WORDS = 2 + 3 * len(COUNTED_TYPES) + sum(FIXED_WORDS.values())
 def layout_length(streams):
     """The words of the layout of so many streams."""
     return 1 + RECORD_WORDS * streams
+
+
+# The state word, field 16.  Source document 004, table 5-4, has an enable and a value
+# for each indicator: six are persistent, two have a life of one data packet.
+
+PERSISTENT = {
+    31: 19,  # calibrated time
+    30: 18,  # valid data
+    29: 17,  # reference lock
+    28: 16,  # AGC
+    27: 15,  # detected signal
+    26: 14,  # spectral inversion
+}
+ONE_DATA_PACKET = {
+    25: 13,  # over-range
+    24: 12,  # sample loss
+}
+
+# C-11: "user bits 7-0 are replaced together"
+USER_BITS = tuple(range(8))
+
+
+def is_set(word, bit):
+    return bits(word, bit, bit) == 1
+
+
+def spoken_of(word):
+    """The bits of what is held that a state word replaces."""
+    # C-11: "an indicator counts only if its enable is set"; "an enabled persistent
+    # indicator replaces its held enable and value, one not enabled stays, over-range
+    # and sample loss (25/13, 24/12) are never held, and user bits 7-0 are replaced
+    # together".
+    spoken = list(USER_BITS)
+    for enable, value in PERSISTENT.items():
+        if is_set(word, enable):
+            spoken += [enable, value]
+    return spoken
+
+
+def state_after(held, word):
+    """The state word that is held after one that a packet carries."""
+    spoken = spoken_of(word)
+    return sum(2**bit for bit in range(32) if is_set(word if bit in spoken else held, bit))
+
+
+def state_good(word):
+    """Whether a state word, its field rule kept, is one that can be held."""
+    # C-11: "a page that holds field 22, those bits or a value without its enable is
+    # PAGE, a table likewise TABLE", those bits being "25/13, 24/12".
+    for pair in ONE_DATA_PACKET.items():
+        if any(is_set(word, bit) for bit in pair):
+            return False
+    return all(
+        is_set(word, enable) for enable, value in PERSISTENT.items() if is_set(word, value)
+    )
 
 
 # Starting.
@@ -113,11 +175,15 @@ def play(table, words):
     count["missing"] = (count["missing"] + added) % 2**32
     count["last"] = packet.count
     # "An accepted Context packet replaces each field from bits 30 to 10 that it
-    # carries, whole.  Bits 31, 9 and 8 are not held."
+    # carries, whole", but for the state word and field 22.
     if packet.type == 4:
         body = words[packet.body : packet.body + packet.length]
         for bit, at, length in vrt49.fields(body):
-            if bit in HELD_BITS:
+            if bit == STATE_BIT:
+                # Nothing held is no indicator and no user bit.
+                before = stream["held"].get(bit, [0])
+                stream["held"][bit] = [state_after(before[0], body[at])]
+            elif bit in HELD_BITS:
                 stream["held"][bit] = body[at : at + length]
     # "Play answers size, type, stream number (place in the list, from 0) and
     # missing added."
@@ -135,7 +201,7 @@ def record_of(stream):
         # "seen, missing, last plus one or 0 if not started"
         words += [count["seen"], count["missing"]]
         words.append(0 if count["last"] is None else count["last"] + 1)
-    for bit in HELD_BITS:
+    for bit in FIELD_BITS:
         words += stream["held"].get(bit, [0] * FIXED_WORDS[bit])
     return words
 
@@ -170,14 +236,14 @@ def slots(record):
     bit."""
     found = {}
     place = 2 + 3 * len(COUNTED_TYPES)
-    for bit in HELD_BITS:
+    for bit in FIELD_BITS:
         found[bit] = record[place : place + FIXED_WORDS[bit]]
         place = place + FIXED_WORDS[bit]
     return found
 
 
 def held_bit(record, bit):
-    return bits(record[1], bit, bit) == 1
+    return is_set(record[1], bit)
 
 
 # What well made means, rule by rule.  The first two take all the words and say
@@ -200,8 +266,8 @@ def different_identifiers(found):
 
 
 def only_fields_held(found):
-    # "Bits 31, 9 and 8 are not held", and bits 7 to 0 have no field: "words of
-    # no stated meaning zero"
+    # "Bits 31, 9 and 8 are not held", C-11 adds 22, and bits 7 to 0 have no field:
+    # "words of no stated meaning zero"
     return all(
         not held_bit(record, bit)
         for record in found
@@ -211,9 +277,9 @@ def only_fields_held(found):
 
 
 def unheld_zero(found):
-    # "unheld fields ... zero"
+    # "unheld fields ... zero"; the word of field 22 is always that of one
     return all(
-        held_bit(record, bit) or not any(field)
+        bit in HELD_BITS and held_bit(record, bit) or not any(field)
         for record in found
         for bit, field in slots(record).items()
     )
@@ -226,6 +292,13 @@ def held_kept(found):
         for record in found
         for bit, field in slots(record).items()
         if held_bit(record, bit) and bit in FIELD_RULES
+    )
+
+
+def states_good(found):
+    # C-11: "those bits or a value without its enable"
+    return all(
+        state_good(slots(record)[STATE_BIT][0]) for record in found if held_bit(record, STATE_BIT)
     )
 
 
@@ -264,6 +337,7 @@ RULES_OF_RECORDS = (
     ("indicator", only_fields_held),
     ("unheld", unheld_zero),
     ("field", held_kept),
+    ("state", states_good),
     ("not started", not_started_zero),
     ("last", last_at_most_15),
     ("type 4", held_after_start),

@@ -1,5 +1,5 @@
-"""Document 01's sentences on the page, held against the reference.  The
-expectations are document 01's own."""
+"""Document 01's sentences on the page, and C-11's of document 02, held against the
+reference.  The expectations are their own."""
 
 import unittest
 
@@ -9,9 +9,12 @@ import table
 PATTERN = 0xA5A5A5A5
 ONES = 0xFFFFFFFF
 
-# The words of the fields 30 to 10, each rule kept.
+# The words of the fields 30 to 10 of a packet, each rule kept; the over-range count, the
+# fourteenth word, is not held.
 FIELDS = [0] * 23 + [0xA00003CF, 0] + [0] * 49
+FIELDS[13] = 77
 ALL_BITS = 0x7FFFFC00
+ALL_HELD = 0x7FBFFC00
 
 
 def started(*ids):
@@ -19,7 +22,7 @@ def started(*ids):
 
 
 def full(*ids):
-    """A table of which each stream holds every field."""
+    """A table of which each stream holds every field that is held."""
     found = started(*ids)
     for identifier in ids:
         header = 0x40000003 + len(FIELDS)
@@ -29,23 +32,28 @@ def full(*ids):
 
 
 class Lengths(unittest.TestCase):
-    # "A page has at least 2 + 16S and at most 2 + 90S words: 18 to 92 for one
-    # stream, 514 to 2,882 for 32."
+    # "A page has at least 2 + 16S" words; C-11: "A body has at most 87 words and a page
+    # at most 2 + 89S."
 
     def test_one_and_32(self):
         self.assertEqual(len(page.page_of(started(7))), 18)
-        self.assertEqual(len(page.page_of(full(7))), 92)
+        self.assertEqual(len(page.page_of(full(7))), 91)
         self.assertEqual(len(page.page_of(started(*range(32)))), 514)
-        self.assertEqual(len(page.page_of(full(*range(32)))), 2882)
+        self.assertEqual(len(page.page_of(full(*range(32)))), 2850)
+
+    def test_body(self):
+        words = page.page_of(full(7))
+        self.assertEqual((words[3], words[5]), (87, ALL_HELD))
+        self.assertEqual(words[18:], [0] * 22 + [0xA00003CF, 0] + [0] * 49)
 
     def test_each_number(self):
         for n in range(1, 33):
             least, most = table.layout(started(*range(n))), table.layout(full(*range(n)))
             self.assertEqual(page.page_length(least), ("length", 2 + 16 * n))
-            self.assertEqual(page.page_length(most), ("length", 2 + 90 * n))
+            self.assertEqual(page.page_length(most), ("length", 2 + 89 * n))
 
     def test_size_cannot_be(self):
-        self.assertLess(2 + 90 * 32, page.MOST_WORDS)
+        self.assertLess(2 + 89 * 32, page.MOST_WORDS)
 
 
 class Form(unittest.TestCase):
@@ -92,12 +100,12 @@ class Save(unittest.TestCase):
 
     def test_longer_table(self):
         lent = table.layout(full(7)) + [PATTERN] * 3
-        self.assertEqual(page.save(lent, [0] * 92), (("saved", 92), page.page_of(full(7))))
+        self.assertEqual(page.save(lent, [0] * 91), (("saved", 91), page.page_of(full(7))))
 
     def test_table_first(self):
         lent = table.layout(started(7))
         lent[5] = 17
-        for room in (0, 17, 18, 92):
+        for room in (0, 17, 18, 91):
             out = [PATTERN] * room
             self.assertEqual(page.save(lent, out), (("refused", table.TABLE), out))
         self.assertEqual(page.page_length(lent), ("refused", table.TABLE))
@@ -131,6 +139,9 @@ class PutBack(unittest.TestCase):
     def test_resumed(self):
         # What is played after it is put back is as if it had not been saved.
         packets = [[0x100E0002, 7], [0x40050004, 7, 1 << 30, 5], [0x10020002, 7], [0x10020002, 7]]
+        # Valid data on, then lock off and another user bit, between them an over-range count.
+        packets += [[0x40060004, 7, 1 << 16, 0x40040001], [0x40070004, 7, 1 << 22, 5]]
+        packets += [[0x40080004, 7, 1 << 16, 0x20000002], [0x40090004, 7, 1 << 16, 0x40000002]]
         whole = started(7)
         answers = [table.play(whole, packet) for packet in packets]
         for cut in range(len(packets) + 1):
@@ -141,6 +152,7 @@ class PutBack(unittest.TestCase):
             after = [table.play(found, packet) for packet in packets[cut:]]
             self.assertEqual(before + after, answers)
             self.assertEqual(found, whole)
+        self.assertEqual(whole[0]["held"], {30: [5], 16: [0x60000002]})
 
 
 class WellMade(unittest.TestCase):
@@ -176,19 +188,48 @@ class WellMade(unittest.TestCase):
 
     def test_fields(self):
         # bandwidth, level, sample rate, temperature, device, state and format
-        for place in (19, 29, 32, 37, 38):
+        for place in (19, 29, 31, 36, 37):
             self.assertEqual(self.broken({place: 1 << 31}, full(7)), ["field"])
-        self.assertEqual(self.broken({39: 1 << 16}, full(7)), ["field"])
-        self.assertEqual(self.broken({40: 1 << 23}, full(7)), ["field"])
-        self.assertEqual(self.broken({41: ONES}, full(7)), ["field"])
-        for place in (18, 21, 23, 25, 27, 30, 31, 34, 36, 42, 43, 91):
+        self.assertEqual(self.broken({38: 1 << 16}, full(7)), ["field"])
+        self.assertEqual(self.broken({39: 1 << 23}, full(7)), ["field"])
+        self.assertEqual(self.broken({40: ONES}, full(7)), ["field"])
+        for place in (18, 21, 23, 25, 27, 30, 33, 35, 41, 42, 90):
             self.assertEqual(self.broken({place: ONES}, full(7)), [])
+
+    def test_over_range_count(self):
+        # C-11: "a page that holds field 22 ... is PAGE": its bit with its word, in order,
+        # alone and among all the others; and without its word.
+        alone = [1, 19, 4, 15, 7, 1 << 22] + [0] * 6 + [1, 0, 1] + [0] * 3 + [5]
+        self.assertEqual(page.broken_rules(alone), ["indicator"])
+        self.assertFalse(page.well_made(alone))
+        words = page.page_of(full(7))
+        among = [1, 92, 4, 88, 7, ALL_BITS, *words[6:31], 5, *words[31:]]
+        self.assertEqual(page.broken_rules(among), ["indicator"])
+        self.assertFalse(page.well_made(among))
+        self.assertEqual(self.broken({5: ALL_BITS}, full(7)), ["bodies"])
+
+    def test_state(self):
+        # C-11: "those bits or a value without its enable"; the state word is word 39.
+        def broken(word):
+            return self.broken({39: word}, full(7))
+
+        for word in (0, 0xFF, 0xFC000000, 0xFC0FC0FF, 0x80080000, 0x04004000):
+            self.assertEqual(broken(word), [])
+        for bit in (25, 24, 13, 12, 19, 18, 17, 16, 15, 14):
+            self.assertEqual(broken(1 << bit), ["state"])
+        for bit in (31, 30, 29, 28, 27, 26):
+            self.assertEqual(broken(1 << bit), [])
+            self.assertEqual(broken(1 << bit | 1 << bit - 12), [])
+            self.assertEqual(broken(0xFC0FC000 - (1 << bit)), ["state"])
+        for bit in (23, 22, 21, 20, 11, 10, 9, 8):
+            self.assertEqual(broken(1 << bit), ["field"])
 
     def test_both_ways(self):
         # Each word of a page changed, and the page then a word shorter or longer:
         # the sentence and the rules agree, or well_made fails.
         found = started(7, 8)
         table.play(found, [0x40050006, 8, 1 << 29 | 1 << 24, 0, 5, 0xFF80])
+        table.play(found, [0x40060004, 8, 1 << 16, 0x40040000])
         table.play(found, [0x100E0002, 7])
         words = page.page_of(found)
         made = 0

@@ -73,7 +73,8 @@ class OtherAndAbsent(unittest.TestCase):
     def test_other(self):
         # "other (held, nothing more said)"
         self.assertEqual(read(30, 5), ("other",))
-        self.assertEqual(read(22, 5), ("other",))
+        self.assertEqual(read(16, 5), ("other",))
+        self.assertEqual(read(16, 0), ("other",))
         self.assertEqual(read(14, *range(11)), ("other",))
         self.assertEqual(read(10, 0), ("other",))
 
@@ -82,6 +83,24 @@ class OtherAndAbsent(unittest.TestCase):
         for bit in range(10, 31):
             self.assertEqual(panel.reading(fresh, 0, bit), ("absent",))
         self.assertEqual(panel.reading(holding(24, 5), 0, 23), ("absent",))
+
+    def test_over_range_count(self):
+        # C-11: "field 22, which is now checked and never held"; "a field bit is not 30
+        # to 10" is not said of it.
+        lent = holding(22, 5)
+        self.assertEqual(panel.reading(lent, 0, 22), ("absent",))
+        self.assertEqual(panel.readings(lent, 0), [("absent",)] * 21)
+        for room in (0, 1, 13):
+            out = [PATTERN] * room
+            self.assertEqual(panel.held_words(lent, 0, 22, out), (("held", 0), out))
+        self.assertEqual(panel.reading(lent, 1, 22), ("refused", table.STREAM))
+
+    def test_state(self):
+        # Valid data on and user bits 0x5A are held, over-range is not.
+        lent = holding(16, 0x4204205A)
+        self.assertEqual(panel.reading(lent, 0, 16), ("other",))
+        self.assertEqual(panel.held_words(lent, 0, 16, [0, 7]), (("held", 1), [0x4004005A, 7]))
+        self.assertEqual(panel.held_words(lent, 0, 16, []), (("refused", table.ROOM), []))
 
 
 class Readings(unittest.TestCase):
@@ -116,7 +135,7 @@ class Readings(unittest.TestCase):
             if bit in (29, 28, 27, 26, 25, 21, 20, 17, 15):
                 words = [0, 0]
             expected = [("absent",)] * 21
-            expected[place] = ("other",)
+            expected[place] = ("other",) if bit != 22 else ("absent",)
             if bit in (29, 28, 27, 26, 25, 21):
                 expected[place] = ("frequency", 0, 0)
             elif bit in (24, 18):

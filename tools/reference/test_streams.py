@@ -1,7 +1,8 @@
-"""The answers about single streams, held against document 01's samples and sentences
-and against words laid out by hand.  Each number is worked out on paper from docs/LAYOUT.md:
-word 1 + 88 s has the identifier of stream s, the next word its held indicator, then come
-three words for each of the types 1, 3, 4 and 5, and then the slots."""
+"""The answers about single streams, held against the samples and sentences of document 01, the
+sentences of C-11 of document 02, and words laid out by hand.  Each number is worked out on
+paper from docs/LAYOUT.md: word 1 + 88 s has the identifier of stream s, the next word its
+held indicator, then come three words for each of the types 1, 3, 4 and 5, and then the
+slots."""
 
 import unittest
 
@@ -63,11 +64,23 @@ class Identity(unittest.TestCase):
         self.assertEqual(streams.identity(TWO, 1), ("declared", 9, 0x21200000))
 
     def test_edges(self):
-        # Any identifier may be declared, 0 too; 0x7FFFFC00 has the bits 30 to 10.
+        # Any identifier may be declared, 0 too; 0x7FBFFC00 has the bits 30 to 10 without
+        # 22: "field 22, which is now checked and never held".
         self.assertEqual(streams.identity([1] + [0] * 88, 0), ("declared", 0, 0))
         self.assertEqual(streams.identity([1, ONES] + [0] * 87, 0), ("declared", ONES, 0))
-        every = with_words([1] + [0] * 88, {2: 0x7FFFFC00, 11: 1})
-        self.assertEqual(streams.identity(every, 0), ("declared", 0, 0x7FFFFC00))
+        every = with_words([1] + [0] * 88, {2: 0x7FBFFC00, 11: 1})
+        self.assertEqual(streams.identity(every, 0), ("declared", 0, 0x7FBFFC00))
+        every = with_words(every, {2: 0x7FFFFC00})
+        self.assertEqual(streams.identity(every, 0), ("refused", TABLE))
+
+    def test_over_range_count(self):
+        # With the sample rate as it is held; 0x00600000 has the bits 22 and 21.
+        answer, after = table.play_lent(TUNED, [0x40060006, 7, 0x00600000, 9, 0, 3])
+        self.assertEqual(answer, ("played", 6, 4, 0, 0))
+        self.assertEqual(streams.identity(after, 0), ("declared", 7, 0x21200000))
+        self.assertEqual(streams.changed(TUNED, 0, after, 0), ("changed", 0))
+        own = with_words(TUNED, {9: 2, 11: 7})
+        self.assertEqual(streams.own_table(after, 0, [0] * 89), (("table", 89), own))
 
     def test_refused(self):
         for stream in (2, 3, 32, ONES):
@@ -188,6 +201,33 @@ class Changed(unittest.TestCase):
         self.assertEqual(answer, ("played", 6, 4, 0, 0))
         own = streams.own_table(TUNED, 0, [0] * 89)[1]
         self.assertEqual(streams.changed(own, 0, after, 0), ("changed", 1 << 24))
+
+    def test_state(self):
+        # Each word against what is held after those before it: the word that is held is
+        # what is compared, not the one that was sent.
+        lent = TUNED
+        for count, (word, fields) in enumerate((
+            (0x40040000, 1 << 16),  # valid data on
+            (0x40040000, 0),
+            (0x43043000, 0),  # with over-range and sample loss
+            (0x00080000, 0),  # a value without its enable
+            (0x00000001, 1 << 16),  # a user bit
+            (0x40040001, 0),
+            (0x40000001, 1 << 16),  # valid data off
+            (0x20000001, 1 << 16),  # lock off, of which nothing was held
+            (0x60000001, 0),
+            (0x00000000, 1 << 16),
+            (0x00000000, 0),
+        )):
+            before = lent
+            packet = [0x40000004 + (6 + count) % 16 * 2**16, 7, 1 << 16, word]
+            answer, lent = table.play_lent(before, packet)
+            self.assertEqual(answer, ("played", 4, 4, 0, 0))
+            self.assertEqual(streams.changed(before, 0, lent, 0), ("changed", fields))
+        self.assertEqual(lent[37], 0x60000000)
+        # Held as zero and absent.
+        zero = with_words(TUNED, {2: 0x21210000})
+        self.assertEqual(self.fields(TUNED, zero), 1 << 16)
 
     def test_streams(self):
         self.assertEqual(streams.changed(TWO, 0, TWO, 1), ("changed", 0x21200000))

@@ -1,6 +1,7 @@
 """Document 01's "Samples from the bench" that concern the table, and its
-sentences on starting, playing and what is well made, held against the reference.
-The expectations are document 01's own."""
+sentences on starting, playing and what is well made, held against the reference; and
+the sentences of C-11 of document 02 on the state word and field 22.  The expectations
+are document 01's own, or worked out on paper from C-11's."""
 
 import copy
 import unittest
@@ -185,6 +186,140 @@ class Held(unittest.TestCase):
         self.assertEqual(sum(words[15:]), 7)
 
 
+# The six persistent indicators, enable and value, and the two of one data packet.
+CALIBRATED, VALID, LOCK = 1 << 31 | 1 << 19, 1 << 30 | 1 << 18, 1 << 29 | 1 << 17
+AGC, DETECTED, INVERTED = 1 << 28 | 1 << 16, 1 << 27 | 1 << 15, 1 << 26 | 1 << 14
+SIX = (CALIBRATED, VALID, LOCK, AGC, DETECTED, INVERTED)
+ALL_ON, ALL_OFF = 0xFC0FC000, 0xFC000000
+OVER_RANGE, SAMPLE_LOSS = 0x02002000, 0x01001000
+
+
+class State(unittest.TestCase):
+    # C-11: "In field 16 an enabled persistent indicator replaces its held enable and
+    # value, one not enabled stays, over-range and sample loss (25/13, 24/12) are never
+    # held, and user bits 7-0 are replaced together."
+
+    def held(self, *words):
+        """The held state word after packets that carry these, one after another."""
+        found = started(7)
+        for place, word in enumerate(words):
+            answer = table.play(found, context(place % 16, 1 << 16, [word]))
+            self.assertEqual(answer, ("played", 4, 4, 0, 0))
+            self.assertEqual(list(found[0]["held"]), [16])
+        words = table.layout(found)
+        # Bit 16 is held, its word is word 36 of the record, and no other is.
+        self.assertEqual((words[2], words[37]), (1 << 16, sum(words[15:])))
+        self.assertTrue(table.well_made(words))
+        return words[37]
+
+    def test_pairs(self):
+        self.assertEqual(sum(SIX), ALL_ON)
+        for pair in SIX:
+            enable, value = pair & ALL_OFF, pair & 0x000FC000
+            # First: on, off, and not enabled.
+            self.assertEqual(self.held(pair), pair)
+            self.assertEqual(self.held(enable), enable)
+            self.assertEqual(self.held(value), 0)
+            # Where all are on, and where all are off.
+            self.assertEqual(self.held(ALL_ON, pair), ALL_ON)
+            self.assertEqual(self.held(ALL_ON, enable), ALL_ON - value)
+            self.assertEqual(self.held(ALL_ON, value), ALL_ON)
+            self.assertEqual(self.held(ALL_OFF, pair), ALL_OFF + value)
+            self.assertEqual(self.held(ALL_OFF, enable), ALL_OFF)
+            self.assertEqual(self.held(ALL_OFF, value), ALL_OFF)
+            # The others enabled, and the value of this one set without its enable.
+            self.assertEqual(self.held(pair, ALL_OFF - enable), ALL_OFF + value)
+            self.assertEqual(self.held(enable, ALL_ON - enable), ALL_ON - value)
+
+    def test_one_after_another(self):
+        self.assertEqual(self.held(VALID, LOCK & ALL_OFF), 0x60040000)
+        self.assertEqual(self.held(VALID, LOCK & ALL_OFF, VALID & ALL_OFF), 0x60000000)
+        self.assertEqual(self.held(*SIX), ALL_ON)
+        self.assertEqual(self.held(*SIX, *[pair & ALL_OFF for pair in SIX]), ALL_OFF)
+
+    def test_every_choice_of_enables(self):
+        # Those enabled are turned, from on to off and from off to on; the others stay.
+        for chosen in range(64):
+            on = [pair for place, pair in enumerate(SIX) if chosen >> place & 1]
+            off = [pair & ALL_OFF for pair in on]
+            values = sum(on) - sum(off)
+            self.assertEqual(self.held(ALL_ON, sum(off)), ALL_ON - values)
+            self.assertEqual(self.held(ALL_OFF, sum(on)), ALL_OFF + values)
+            self.assertEqual(self.held(sum(on)), sum(on))
+
+    def test_one_data_packet(self):
+        # Never held, whatever is enabled; the rest of the word counts.
+        for word in (OVER_RANGE, SAMPLE_LOSS, 1 << 25, 1 << 24, 1 << 13, 1 << 12, 0x03003000):
+            self.assertEqual(self.held(word), 0)
+            self.assertEqual(self.held(ALL_ON, word), ALL_ON)
+            self.assertEqual(self.held(word | VALID | 0x5A), VALID | 0x5A)
+            self.assertEqual(self.held(ALL_OFF | 0x11, word | 0x22), ALL_OFF | 0x22)
+
+    def test_user_bits(self):
+        # "user bits 7-0 are replaced together", by every state word
+        self.assertEqual(self.held(0xFF), 0xFF)
+        self.assertEqual(self.held(0xFF, 0), 0)
+        self.assertEqual(self.held(0x5A, 0xA5), 0xA5)
+        self.assertEqual(self.held(0x5A, LOCK), LOCK)
+        self.assertEqual(self.held(LOCK | 0x5A, 0x81), LOCK | 0x81)
+
+    def test_nothing_that_persists(self):
+        # The field is held, and its word is that of the user bits.
+        self.assertEqual(self.held(0), 0)
+        self.assertEqual(self.held(0x000FF000), 0)
+        self.assertEqual(self.held(ALL_ON, 0), ALL_ON)
+        self.assertEqual(self.held(0xFF0FF0FF), ALL_ON | 0xFF)
+
+    def test_packets_without_it(self):
+        found = started(7, 8)
+        table.play(found, context(0, 1 << 16, [LOCK | 0x33]))
+        table.play(found, context(1, 1 << 30, [5]))
+        table.play(found, context(2, 0))
+        table.play(found, data(3))
+        table.play(found, context(0, 1 << 16, [VALID], identifier=8))
+        # Refused: a reserved bit is set.
+        answer = table.play(found, context(3, 1 << 16, [VALID | 1 << 20]))
+        self.assertEqual(answer, ("refused", vrt49.FIELD))
+        self.assertEqual(found[0]["held"], {16: [LOCK | 0x33], 30: [5]})
+        self.assertEqual(found[1]["held"], {16: [VALID]})
+
+
+class OverRangeCount(unittest.TestCase):
+    # C-11: "field 22, which is now checked and never held"
+
+    def test_alone(self):
+        found = started(7)
+        self.assertEqual(table.play(found, context(0, 1 << 22, [ONES])), ("played", 4, 4, 0, 0))
+        self.assertEqual(found[0]["held"], {})
+        self.assertEqual(table.layout(found), [1, 7] + [0] * 7 + [1, 0, 1] + [0] * 77)
+
+    def test_checked(self):
+        # Its word is one of the packet.
+        found = started(7)
+        for words in ([], [1, 2]):
+            answer = table.play(found, context(0, 1 << 22, words))
+            self.assertEqual(answer, ("refused", vrt49.LAYOUT))
+        answer = table.play(found, context(0, 1 << 22 | 1 << 18, [5, 0x10000]))
+        self.assertEqual(answer, ("refused", vrt49.FIELD))
+
+    def test_fields_behind(self):
+        # Their words are those after its own.
+        found = started(7)
+        indicator = 1 << 23 | 1 << 22 | 1 << 21 | 1 << 18 | 1 << 16 | 1 << 10
+        words = [9, ONES, 0, 3, 0x1F, VALID, 6]
+        self.assertEqual(table.play(found, context(0, indicator, words))[0], "played")
+        held = {23: [9], 21: [0, 3], 18: [0x1F], 16: [VALID], 10: [6]}
+        self.assertEqual(found[0]["held"], held)
+        self.assertEqual(table.layout(found)[2], indicator - (1 << 22))
+        self.assertEqual(table.layout(found)[27:31], [9, 0, 0, 3])
+
+    def test_what_is_held_stays(self):
+        found = started(7)
+        table.play(found, context(0, 1 << 23, [9]))
+        table.play(found, context(1, 1 << 22, [8]))
+        self.assertEqual(found[0]["held"], {23: [9]})
+
+
 class Refusals(unittest.TestCase):
     # "A refusal returns its number alone and writes nothing."
 
@@ -249,8 +384,43 @@ class WellMade(unittest.TestCase):
         self.assertEqual(self.broken({2: 1 << 30, 15: 1}), ["type 4"])
         self.assertEqual(self.broken({11: 1, 2: 1 << 24, 26: 0x10000}), ["field"])
         self.assertEqual(self.broken({11: 1, 2: 1 << 24, 26: 0xFFFF}), [])
-        for bit in (31, 9, 8, 7, 0):
+        for bit in (31, 22, 9, 8, 7, 0):
             self.assertEqual(self.broken({11: 1, 2: 1 << bit}), ["indicator"])
+
+    def test_over_range_count(self):
+        # C-11: "a page that holds field 22 ... is PAGE, a table likewise TABLE"; its
+        # word is word 27 of a record.
+        self.assertEqual(self.broken({28: 1}), ["unheld"])
+        self.assertEqual(self.broken({11: 1, 28: 1 << 31}), ["unheld"])
+        self.assertEqual(self.broken({116: 1}, (7, 8)), ["unheld"])
+        self.assertEqual(self.broken({2: 1 << 22}), ["indicator"])
+        self.assertEqual(self.broken({11: 1, 2: 1 << 22, 28: 5}), ["indicator", "unheld"])
+        self.assertEqual(self.broken({11: 1, 2: 0x7FFFFC00}), ["indicator"])
+        self.assertEqual(self.broken({11: 1, 2: 0x7FBFFC00}), [])
+
+    def test_state(self):
+        # C-11: "those bits or a value without its enable"; document 01: "state (16) has
+        # zero in 23-20 and 11-8".
+        def broken(word):
+            return self.broken({11: 1, 2: 1 << 16, 37: word})
+
+        for word in (0, 0xFF, ALL_ON, ALL_OFF, ALL_ON | 0xFF, *SIX):
+            self.assertEqual(broken(word), [])
+        for bit in (25, 24, 13, 12):
+            for more in (0, ALL_ON, 0xFF):
+                self.assertEqual(broken(1 << bit | more), ["state"])
+        for word in (OVER_RANGE, SAMPLE_LOSS):
+            self.assertEqual(broken(word), ["state"])
+        for pair in SIX:
+            enable, value = pair & ALL_OFF, pair & 0x000FC000
+            self.assertEqual(broken(enable), [])
+            self.assertEqual(broken(value), ["state"])
+            self.assertEqual(broken(ALL_OFF - enable + value), ["state"])
+            self.assertEqual(broken(ALL_ON - enable), ["state"])
+        for bit in (23, 22, 21, 20, 11, 10, 9, 8):
+            self.assertEqual(broken(1 << bit), ["field"])
+            self.assertEqual(broken(1 << bit | ALL_ON), ["field"])
+        self.assertEqual(broken(ONES), ["field", "state"])
 
     def test_counts(self):
         for place in (3, 6, 9, 12):
