@@ -72,7 +72,7 @@ fn read_save(ws: &mut [u32], page: &mut [u32]) {
     save_case(&ws[0..n], &mut page[0..room]);
 }
 
-// The case of a word: 1 a recording, 2 a page to be put back, 3 a table to be saved. Pages are saved into 2,882 words but in a case of saving.
+// The case of a word: 1 a recording, 2 a page to be put back, 3 a table to be saved. Pages are saved into 2,850 words but in a case of saving.
 fn asked(
     kind: u32,
     ids: &mut [u32],
@@ -81,15 +81,15 @@ fn asked(
     page: &mut [u32],
     ws: &mut [u32],
 ) {
-    if page.len() < 2882 {
+    if page.len() < 2850 {
         return;
     }
     if kind == 1 {
-        resuming::recording(ids, table, &mut page[0..2882], second, ws);
+        resuming::recording(ids, table, &mut page[0..2850], second, ws);
         return;
     }
     if kind == 2 {
-        read_put(ws, table, &mut page[0..2882]);
+        read_put(ws, table, &mut page[0..2850]);
         return;
     }
     read_save(ws, page);
