@@ -1,7 +1,8 @@
 -- Overload lights go out. The idea: two packets that differ in these bits and in field 22 alone tell the same of every thing (`told-alike`), so the rules say the
 -- same of all streams after the one and after the other, and leave nothing else open (`records-alike`).
 use Rattle.words.proofs.Kit.{_≡_, refl, sym, ap, ap₂, _∙_, Bool, true, false, not, ⊎-elim, List, [], _∷_, _++_, ℕ, _+_, _-_, _%_, _^_, _≤_, _<_, arith}
-use Rattle.words.proofs.Kit.{ne-eqb, eqb-true, eqb, leb, length, getD}
+use Rattle.words.proofs.Kit.{eq-eqb, ne-eqb, eqb, leb, length, getD}
+use mathlib.Core.Option.{Option, none}
 use native.Mathlib.Nat.{mod-lt}
 use borrow.Author.Tests.{leb-true}
 use lib.Pow.{pow-pos}
@@ -52,12 +53,9 @@ module _ (ids ws vs : List ℕ) (p : SameButLights ids ws vs) where
       ⊎-elim
       (λ (w : whole b ≡ true).
       let k = both-left (kept b) (not (eqb b 16)) w in
-      let no : (n : ℕ) → not (eqb b n) ≡ true → b ≡ n → ⊥ = λ n e i. true-is-false (sym e ∙ ap not (eq-test b n i)) in
+      let no : (n : ℕ) → not (eqb b n) ≡ true → b ≡ n → ⊥ = λ n e i. true-is-false (sym e ∙ ap not (eq-eqb b n i)) in
       rw (p .carried, p .fields b (no 22 (both-right (both (leb 10 b) (leb b 30)) (not (eqb b 22)) k)) (no 16 (both-right (kept b) (not (eqb b 16)) w))))
       (λ (w : whole b ≡ false). rw w) (true-or-false (whole b))
-    where
-      eq-test : (b n : ℕ) → b ≡ n → eqb b n ≡ true
-      eq-test b n i = rw i
   told-alike (indicator e) =
       ⊎-elim
       (λ (s : persistent e ≡ true).
@@ -70,20 +68,19 @@ module _ (ids ws vs : List ℕ) (p : SameButLights ids ws vs) where
   told-alike userBits = rw (p .carried, user-same)
 
   value-alike : (x : Thing) → valueCarried x one ≡ valueCarried x other
-  value-alike x = rw (p .kind, told-alike x)
+  value-alike x = ap₂ (λ (k : ℕ) (v : Option (List ℕ)). pick (eqb k 4) v none) (p .kind) (told-alike x)
 
   -- ---- and so what the rules say of each stream, with the one behind some packets and with the other
 
-  abbrev ends : ℕ → Arrival → List Arrival
-  ends s a = pick (eqb (a .stream) s) (a ∷ []) []
-
   last-alike : (t : Bool) (x : Thing) (before : List Arrival) → lastCarried x (before ++ pick t (one ∷ []) []) ≡ lastCarried x (before ++ pick t (other ∷ []) [])
-  last-alike true x before = last-more x before one ∙ ap (λ (v : _). orElse v (lastCarried x before)) (value-alike x) ∙ sym (last-more x before other)
+  last-alike true x before = last-more x before one ∙ ap (λ (v : Option (List ℕ)). orElse v (lastCarried x before)) (value-alike x) ∙ sym (last-more x before other)
   last-alike false x before = refl
 
   counts-alike : (t : Bool) (kind : ℕ) (before : List Arrival) → countsOf kind (before ++ pick t (one ∷ []) []) ≡ countsOf kind (before ++ pick t (other ∷ []) [])
   counts-alike true kind before =
-      counts-append kind before (one ∷ []) ∙ rw (p .kind, p .count) (sym (counts-append kind before (other ∷ [])))
+      counts-append kind before (one ∷ [])
+      ∙ ap (λ (l : List ℕ). countsOf kind before ++ l) (ap₂ (λ (k c : ℕ). pick (eqb k kind) (c ∷ []) []) (p .kind) (p .count))
+      ∙ sym (counts-append kind before (other ∷ []))
   counts-alike false kind before = refl
 
   module _ (packets : List (List ℕ)) where

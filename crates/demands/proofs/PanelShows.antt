@@ -102,15 +102,15 @@ whole-carried b n (a ∷ later) =
 some-carried : (b : ℕ) (packets : List Arrival) → isThere (fieldCarried b packets) ≡ someCarried b packets
 some-carried b packets =
     ⊎-elim
-    (λ e. let i : b ≡ 16 = eqb-true b 16 e in rw i (there-pick (isThere (lastCarried userBits packets)) _ ∙ user-carried packets))
-    (λ n. rw n (whole-carried b n packets)) (true-or-false (eqb b 16))
+    (λ (e : eqb b 16 ≡ true). let i : b ≡ 16 = eqb-true b 16 e in rw i (there-pick (isThere (lastCarried userBits packets)) _ ∙ user-carried packets))
+    (λ (n : eqb b 16 ≡ false). rw n (whole-carried b n packets)) (true-or-false (eqb b 16))
 
 -- field 22 is not
 never-carried : (packets : List Arrival) → lastCarried (wholeField 22) packets ≡ none
 never-carried [] = refl
 never-carried (a ∷ later) = rw (never-carried later) (not-either (eqb (a .kind) 4))
   where
-    not-either : (k : Bool) → pick k (none {A = List ℕ}) none ≡ none
+    not-either : (k : Bool) → _≡_ {A = Option (List ℕ)} (pick k none none) none
     not-either true = refl
     not-either false = refl
 

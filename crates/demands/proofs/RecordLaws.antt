@@ -83,7 +83,7 @@ state-holds = held-but 16 state-slotted (λ e. omega arith)
 -- no more is looked at than the bits and the words of fields that have a slot
 told-same : (x : Thing) (i j : ℕ) (f g : ℕ → List ℕ) → ((b : ℕ) → has i b ≡ has j b) → ((b : ℕ) → slotted b ≡ true → f b ≡ g b) → told x i f ≡ told x j g
 told-same (wholeField b) i j f g e h =
-    ⊎-elim (λ w. rw (w, e b, h b (held-slotted b (whole-held b w)))) (λ w. rw w) (true-or-false (whole b))
+    ⊎-elim (λ (w : whole b ≡ true). rw (w, e b, h b (held-slotted b (whole-held b w)))) (λ (w : whole b ≡ false). rw w) (true-or-false (whole b))
 told-same (indicator k) i j f g e h = rw (e 16, h 16 state-slotted)
 told-same userBits i j f g e h = rw (e 16, h 16 state-slotted)
 
@@ -167,18 +167,19 @@ module _ (body r : List ℕ) (good : Good r) where
       ≡ orElse (told x fields (λ b. fieldOf b body)) (heldIn x r)
   told-after (wholeField b) =
       ⊎-elim
-      (λ w.
+      (λ (w : whole b ≡ true).
       rw (w, held-bit fields (heldOf r) b, whole-held b w, field-after b w)
       (comes (has fields b) (has (heldOf r) b) (fieldOf b body) (slotOf b r)))
-      (λ w. rw w) (true-or-false (whole b))
+      (λ (w : whole b ≡ false). rw w) (true-or-false (whole b))
   told-after (indicator e) =
       ⊎-elim
-      (λ p.
-      ⊎-elim (λ c. rw (p, held-then c, word-then c, c) (indicator-after e p c)) (λ c. rw (p, held-as-before c, word-stays c, c))
-      (true-or-false (has fields 16)))
-      (λ p. rw p) (true-or-false (persistent e))
+      (λ (p : persistent e ≡ true).
+      ⊎-elim (λ (c : has fields 16 ≡ true). rw (p, held-then c, word-then c, c) (indicator-after e p c))
+      (λ (c : has fields 16 ≡ false). rw (p, held-as-before c, word-stays c, c)) (true-or-false (has fields 16)))
+      (λ (p : persistent e ≡ false). rw p) (true-or-false (persistent e))
   told-after userBits =
-      ⊎-elim (λ c. rw (held-then c, word-then c, c, state-user word old)) (λ c. rw (held-as-before c, word-stays c, c)) (true-or-false (has fields 16))
+      ⊎-elim (λ (c : has fields 16 ≡ true). rw (held-then c, word-then c, c, state-user word old))
+      (λ (c : has fields 16 ≡ false). rw (held-as-before c, word-stays c, c)) (true-or-false (has fields 16))
 
 module _ (ids : List ℕ) (a : Arrival) (f : Heeded ids a) (r : List ℕ) (l : length r ≡ recordWords) where
   abbrev next : List ℕ
@@ -200,7 +201,8 @@ module _ (ids : List ℕ) (a : Arrival) (f : Heeded ids a) (r : List ℕ) (l : l
 
   pub held-after : recordGood r ≡ true → (x : Thing) → heldIn x (recordAfter (a .kind) (a .count) (a .body) r) ≡ orElse (valueCarried x a) (heldIn x r)
   held-after g x =
-      ⊎-elim (λ k. held-context k x ∙ told-after (a .body) r (good-of r l g) x ∙ rw k) (λ k. held-same k x ∙ rw k) (true-or-false (eqb (a .kind) 4))
+      ⊎-elim (λ (k : eqb (a .kind) 4 ≡ true). held-context k x ∙ told-after (a .body) r (good-of r l g) x ∙ rw k)
+      (λ (k : eqb (a .kind) 4 ≡ false). held-same k x ∙ rw k) (true-or-false (eqb (a .kind) 4))
 
   pub count-after : (kind : ℕ) → among kind countedTypes ≡ true
       → countWords (orderOf kind) (recordAfter (a .kind) (a .count) (a .body) r)
@@ -222,8 +224,8 @@ module _ (ids : List ℕ) (a : Arrival) (f : Heeded ids a) (r : List ℕ) (l : l
 pub fresh-held : (i : ℕ) (x : Thing) → heldIn x (freshRecord i) ≡ none
 unfolding freshRecord
 fresh-held i (wholeField b) = rw (has-above 0 b (pow-pos b), both-no (whole b))
-fresh-held i (indicator e) = rw (has-above 0 16 (pow-pos 16), both-no (persistent e))
-fresh-held i userBits = rw (has-above 0 16 (pow-pos 16))
+fresh-held i (indicator e) = rw (both-no (persistent e))
+fresh-held i userBits = refl
 
 pub fresh-count : (i kind : ℕ) → among kind countedTypes ≡ true → countWords (orderOf kind) (freshRecord i) ≡ 0 ∷ 0 ∷ 0 ∷ []
 unfolding freshRecord countWords orderOf part

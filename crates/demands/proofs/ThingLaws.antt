@@ -15,7 +15,7 @@ use Rattle.record.specs.Good.{heldRule, Good}
 use Rattle.record.proofs.StateLaws.{held-word, held-silent, held-enabled, spoken-none, spoken-not}
 use Rattle.record.proofs.AfterLaws.{state-word}
 use Rattle.fields.specs.Rules.{ruleOf}
-use Rattle.demands.specs.Things.{Thing, wholeField, indicator, userBits, kept, whole, persistent, isThere, wordsBy, wordBy, stateOf, fieldBy}
+use Rattle.demands.specs.Things.{Thing, wholeField, indicator, userBits, kept, whole, persistent, isThere, wordBy, stateBit, stateOf, fieldBy}
 use Rattle.demands.specs.Right.{heldIn}
 use Rattle.demands.proofs.RecordLaws.{kept-same, state-slotted}
 
@@ -24,7 +24,7 @@ use Rattle.demands.proofs.RecordLaws.{kept-same, state-slotted}
 pub field-same : (b : ℕ) (f g : Thing → Option (List ℕ)) → ((x : Thing) → f x ≡ g x) → fieldBy b f ≡ fieldBy b g
 unfolding stateOf
 field-same b f g e =
-    let word = marked-same 32 _ _ (λ i l. rw (e userBits, e (indicator (i + 12)), e (indicator i))) in
+    let word = marked-same 32 (stateBit f) (stateBit g) (λ i l. rw (e userBits, e (indicator (i + 12)), e (indicator i))) in
     rw (e userBits, e (wholeField b), word)
 
 pub there-pick : {A : Type 0} (t : Bool) (a : A) → isThere (pick t (some a) none) ≡ t
@@ -35,7 +35,7 @@ there-pick false a = refl
 lit : (e v : Bool) → (v ≡ true → e ≡ true) → eqb (wordBy (pick e (some (when v 1 ∷ [])) none)) 1 ≡ v
 lit true true f = refl
 lit true false f = refl
-lit false true f = sym (f refl)
+lit false true f = f refl
 lit false false f = refl
 
 -- ---- what a good record holds
@@ -50,7 +50,8 @@ module _ (r : List ℕ) (l : length r ≡ recordWords) (g : Good r) where
   -- a field that is held, but for 16, is replaced whole
   whole-there : (b : ℕ) → (b ≡ 16 → ⊥) → both (whole b) (has (heldOf r) b) ≡ has (heldOf r) b
   whole-there b n =
-      ⊎-elim (λ h. rw (h, kept-same b ∙ g .bits b h, ne-eqb b 16 n)) (λ h. rw (h, both-no (whole b))) (true-or-false (has (heldOf r) b))
+      ⊎-elim (λ (h : has (heldOf r) b ≡ true). rw (h, kept-same b ∙ g .bits b h, ne-eqb b 16 n))
+      (λ (h : has (heldOf r) b ≡ false). rw (h, both-no (whole b))) (true-or-false (has (heldOf r) b))
 
   -- the slot of field 16 is one word
   slot-word : slotOf 16 r ≡ getD (slotOf 16 r) 0 0 ∷ []
@@ -106,5 +107,9 @@ module _ (r : List ℕ) (l : length r ≡ recordWords) (g : Good r) where
       ⊎-elim
       (λ (e : b ≡ 16).
       rw (e)
-      (⊎-elim (λ h. rw h (ap some (slot-is h))) (λ h. rw h) (true-or-false (has (heldOf r) 16))))
-      (λ (n : b ≡ 16 → ⊥). rw (ne-eqb b 16 n, whole-there b n)) (same-or-not b 16)
+      (⊎-elim (λ (h : has (heldOf r) 16 ≡ true). rw h (ap some (slot-is h))) (λ (h : has (heldOf r) 16 ≡ false). rw h)
+      (true-or-false (has (heldOf r) 16))))
+      (λ (n : b ≡ 16 → ⊥).
+      ap (λ (t : Bool). pick t (some (slotOf b r)) none) (sym (whole-there b n))
+      ∙ sym (ap (λ (t : Bool). pick t (pick (isThere (held userBits)) (some (stateOf held ∷ [])) none) (held (wholeField b))) (ne-eqb b 16 n)))
+      (same-or-not b 16)

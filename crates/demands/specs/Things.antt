@@ -50,12 +50,14 @@ abbrev pub wordBy : Option (List ℕ) → ℕ
 wordBy v = getD (wordsBy v) 0 0
 
 -- the state word of these things: the user bits; of each indicator that is there its enable, and 12 bits below its value; no other bit
-unfoldable pub stateOf : (Thing → Option (List ℕ)) → ℕ
-stateOf things =
-    marked 32 (λ i.
+abbrev pub stateBit : (Thing → Option (List ℕ)) → ℕ → Bool
+stateBit things i =
     pick (ltb i 8) (has (wordBy (things userBits)) i)
     (pick (ltb i 20) (eqb (wordBy (things (indicator (i + 12)))) 1)
-    (isThere (things (indicator i)))))
+    (isThere (things (indicator i))))
+
+unfoldable pub stateOf : (Thing → Option (List ℕ)) → ℕ
+stateOf things = marked 32 (stateBit things)
 
 -- the words of the field of bit b: of 16 the state word, where there are user bits; of 22 none
 abbrev pub fieldBy : ℕ → (Thing → Option (List ℕ)) → Option (List ℕ)
