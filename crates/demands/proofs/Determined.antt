@@ -21,7 +21,7 @@ use Rattle.page.specs.Layout.{tableFrom}
 use Rattle.words.proofs.PieceLaws.{part-join}
 use Rattle.page.proofs.LayoutLaws.{table-same, table-again}
 use Rattle.demands.specs.Things.{Thing}
-use Rattle.demands.specs.Trace.{Arrival, traceOf, own, lastCarried, countsOf, countRule}
+use Rattle.demands.specs.Trace.{traceOf, own, lastCarried, countsOf, countRule}
 use Rattle.demands.specs.Right.{heldIn, Right, layoutOf, Determined}
 use Rattle.demands.proofs.ThingLaws.{field-same, field-held}
 use Rattle.demands.proofs.HearingLaws.{record-whole}

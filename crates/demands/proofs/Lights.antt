@@ -1,5 +1,5 @@
--- Overload lights go out. The idea: two packets that differ in these bits and in field 22 alone tell the same of every thing (`told-alike`), so the rules say the
--- same of all streams after the one and after the other, and leave nothing else open (`records-alike`).
+-- Overload lights go out. The idea: two packets that differ in these bits and in field 22 alone tell the same of every thing (`told-alike`), so the rules say
+-- the same of all streams after the one and after the other, and leave nothing else open (`layouts-alike`).
 use Rattle.words.proofs.Kit.{_≡_, refl, sym, ap, ap₂, _∙_, Bool, true, false, not, ⊎-elim, List, [], _∷_, _++_, ℕ, _+_, _-_, _%_, _^_, _≤_, _<_, arith}
 use Rattle.words.proofs.Kit.{eq-eqb, ne-eqb, eqb, leb, length, getD}
 use mathlib.Core.Option.{Option, none}
@@ -9,7 +9,7 @@ use lib.Pow.{pow-pos}
 use lib.ListN.{take-append-drop}
 use Rattle.words.specs.Tests.{pick, both, among}
 use Rattle.words.specs.Word.{has}
-use Rattle.words.specs.Outcome.{Outcome, accepted, leftOf}
+use Rattle.words.specs.Outcome.{accepted, leftOf}
 use Rattle.words.proofs.Cases.{true-or-false, true-is-false, both-left, both-right}
 use Rattle.words.proofs.BitLaws.{has-low, word-same}
 use Rattle.fields.specs.Layout.{indicatorOf, fieldOf}
@@ -20,7 +20,6 @@ use Rattle.play.specs.Play.{playOf}
 use Rattle.demands.specs.Things.{Thing, wholeField, indicator, userBits, kept, whole, persistent, told}
 use Rattle.demands.specs.Trace.{Arrival, heardBy, traceOf, own, valueCarried, orElse, lastCarried, countsOf}
 use Rattle.demands.specs.Program.{ours}
-use Rattle.demands.specs.Right.{Right, layoutOf, pastOf}
 use Rattle.demands.specs.Lights.{SameButLights, LightsOut}
 use Rattle.demands.specs.WellMade.{stateIn}
 use Rattle.demands.proofs.RuleLaws.{own-append, last-more, counts-append}
@@ -72,11 +71,14 @@ module _ (ids ws vs : List ℕ) (p : SameButLights ids ws vs) where
 
   -- ---- and so what the rules say of each stream, with the one behind some packets and with the other
 
-  last-alike : (t : Bool) (x : Thing) (before : List Arrival) → lastCarried x (before ++ pick t (one ∷ []) []) ≡ lastCarried x (before ++ pick t (other ∷ []) [])
-  last-alike true x before = last-more x before one ∙ ap (λ (v : Option (List ℕ)). orElse v (lastCarried x before)) (value-alike x) ∙ sym (last-more x before other)
+  last-alike : (t : Bool) (x : Thing) (before : List Arrival)
+      → lastCarried x (before ++ pick t (one ∷ []) []) ≡ lastCarried x (before ++ pick t (other ∷ []) [])
+  last-alike true x before =
+      last-more x before one ∙ ap (λ (v : Option (List ℕ)). orElse v (lastCarried x before)) (value-alike x) ∙ sym (last-more x before other)
   last-alike false x before = refl
 
-  counts-alike : (t : Bool) (kind : ℕ) (before : List Arrival) → countsOf kind (before ++ pick t (one ∷ []) []) ≡ countsOf kind (before ++ pick t (other ∷ []) [])
+  counts-alike : (t : Bool) (kind : ℕ) (before : List Arrival)
+      → countsOf kind (before ++ pick t (one ∷ []) []) ≡ countsOf kind (before ++ pick t (other ∷ []) [])
   counts-alike true kind before =
       counts-append kind before (one ∷ [])
       ∙ ap (λ (l : List ℕ). countsOf kind before ++ l) (ap₂ (λ (k c : ℕ). pick (eqb k kind) (c ∷ []) []) (p .kind) (p .count))
@@ -107,7 +109,8 @@ module _ (ids ws vs : List ℕ) (p : SameButLights ids ws vs) where
 pub lights-out : LightsOut ours
 lights-out ids packets t r ws vs p =
     let layout =
-    layouts-alike ids _ _ _ _ (right-more ids packets t r ws) (right-more ids packets t r vs) (last-same ids ws vs p packets) (counts-same ids ws vs p packets) in
+    layouts-alike ids _ _ _ _ (right-more ids packets t r ws) (right-more ids packets t r vs) (last-same ids ws vs p packets)
+    (counts-same ids ws vs p packets) in
     let past = past-on ids (ws ∷ []) t (r .streams) ∙ sym (past-on ids (vs ∷ []) t (r .streams)) in
     sym (take-append-drop (layoutWords (length ids)) (leftOf (playOf t ws) t)) ∙ ap₂ (λ (x y : List ℕ). x ++ y) layout past
     ∙ take-append-drop (layoutWords (length ids)) (leftOf (playOf t vs) t)

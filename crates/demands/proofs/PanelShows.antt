@@ -1,5 +1,6 @@
--- What is seen is what is held. The idea: no test refuses a stream of the list and a kept field of a right table (`asked`); and what a record shows, or gives
--- as words, is by what it holds (`shows-held`, `words-held`), which the rules fix thing by thing (`held-last`); so are its held indicator (`some-carried`) and its counts (`count-by`).
+-- What is seen is what is held. The idea: no test refuses a stream of the list and a field of bits 30 to 10 of a right table (`asked`); and what a record
+-- shows, or gives as words, is by what it holds (`shows-held`, `words-held`), which the rules fix thing by thing (`held-last`); so are its held indicator
+-- (`some-carried`) and its counts (`count-by`).
 use Rattle.words.proofs.Kit.{_≡_, refl, sym, ap, _∙_, Bool, true, false, List, [], _∷_, _++_, ℕ, _+_, _-_, _%_, _^_, _≤_, _<_, arith, ⊎-elim, ne-eqb, lt-ltb}
 use Rattle.words.proofs.Kit.{eqb-true, le-ltb, lt-leb, eqb, leb, length, drop, getD}
 use mathlib.Core.List.{map}

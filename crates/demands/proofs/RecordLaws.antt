@@ -1,6 +1,6 @@
 -- One packet more, in the record of its stream. The idea: what a record holds of a thing afterwards is what the packet carried of it, and else what it held
 -- (`held-after`): of a field by `comes`, of an indicator by `lights`; the count of the packet's type goes on, and the others stay (`count-after`).
-use Rattle.words.proofs.Kit.{_≡_, refl, sym, ap, _∙_, Bool, true, false, not, ⊎-elim, List, [], _∷_, ℕ, zero, suc, _+_, _-_, _≤_, _<_, arith, eq-eqb}
+use Rattle.words.proofs.Kit.{_≡_, refl, sym, ap, _∙_, Bool, true, false, not, ⊎-elim, List, [], _∷_, ℕ, zero, suc, _+_, _-_, _≤_, arith, eq-eqb}
 use Rattle.words.proofs.Kit.{ne-eqb, le-leb, not-true, eqb, leb, length, getD}
 use mathlib.Core.Option.{none, some}
 use borrow.Author.Tests.{leb-true}

@@ -1,7 +1,7 @@
 -- The rules of a trace, when a packet more is heard. The idea: each rule of `before ++ (a ∷ [])` is that of `before`, taken one packet on; the last-carried
 -- rule asks the new packet first, and a count goes on as `countedOf` says.
 use Rattle.words.proofs.Kit.{_≡_, refl, sym, ap, _∙_, Bool, true, false, List, [], _∷_, _++_, ℕ, _+_, _-_, _%_, _^_, arith, ne-eqb, eqb, length}
-use mathlib.Core.Option.{Option, none, some, Option·none-ne-some, Option·some-injective}
+use mathlib.Core.Option.{Option, none, some, Option·none-ne-some}
 use native.Mathlib.Nat.{mod-add-mod, add-assoc}
 use lib.ListN.{length-append}
 use Rattle.words.specs.Tests.{pick}

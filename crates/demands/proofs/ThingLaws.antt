@@ -1,21 +1,21 @@
 -- A field and its things. The idea: what a good record holds of a field is what its things make of it (`field-held`): a whole field is its one thing, and the
 -- state word is that of its user bits and indicators, bit by bit, since it has no other bit (`held-silent`).
-use Rattle.words.proofs.Kit.{_≡_, refl, sym, ap, _∙_, Bool, true, false, not, ⊎-elim, List, [], _∷_, ℕ, _+_, _-_, _%_, _^_, _≤_, _<_, arith, eq-eqb}
-use Rattle.words.proofs.Kit.{eqb-true, ne-eqb, lt-ltb, le-ltb, le-leb, lt-leb, eqb, leb, ltb, length, getD}
+use Rattle.words.proofs.Kit.{_≡_, refl, sym, ap, _∙_, Bool, true, false, ⊎-elim, List, [], _∷_, ℕ, _+_, _-_, _≤_, _<_, arith}
+use Rattle.words.proofs.Kit.{ne-eqb, lt-ltb, le-ltb, le-leb, lt-leb, eqb, length, getD}
 use mathlib.Core.Option.{Option, none, some}
 use Rattle.words.specs.Tests.{pick, when, both}
-use Rattle.words.specs.Word.{has, marked}
+use Rattle.words.specs.Word.{has}
 use Rattle.words.specs.Part.{part}
-use Rattle.words.proofs.Cases.{true-or-false, true-is-false, le-or-lt, same-or-not, both-no, both-true, both-right}
+use Rattle.words.proofs.Cases.{true-or-false, le-or-lt, same-or-not, both-no, both-right}
 use Rattle.words.proofs.BitLaws.{has-low, word-same, marked-small, marked-has, marked-same}
 use Rattle.words.proofs.PartLaws.{part-length}
 use Rattle.record.specs.Layout.{headWords, slotWords, recordWords, heldOf, slotsOf, slotOf}
-use Rattle.record.specs.State.{spoken, stateHeld}
+use Rattle.record.specs.State.{stateHeld}
 use Rattle.record.specs.Good.{heldRule, Good}
 use Rattle.record.proofs.StateLaws.{held-word, held-silent, held-enabled, spoken-none, spoken-not}
 use Rattle.record.proofs.AfterLaws.{state-word}
 use Rattle.fields.specs.Rules.{ruleOf}
-use Rattle.demands.specs.Things.{Thing, wholeField, indicator, userBits, kept, whole, persistent, isThere, wordBy, stateBit, stateOf, fieldBy}
+use Rattle.demands.specs.Things.{Thing, wholeField, indicator, userBits, whole, isThere, wordBy, stateBit, stateOf, fieldBy}
 use Rattle.demands.specs.Right.{heldIn}
 use Rattle.demands.proofs.RecordLaws.{kept-same, state-slotted}
 

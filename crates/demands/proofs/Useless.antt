@@ -129,7 +129,8 @@ module _ (P : Program) (d : Demand3 P) where
       → countWords (orderOf 1) (recordAt 0 (playAll P (begun .0 .leaves) packets)) ≡ countRule (countsOf 1 (own 0 (traceOf ids packets)))
   seen-after packets = after packets .counts 0 (omega arith) 1 refl
 
-  held-after : (packets : List (List ℕ)) → heldIn (wholeField 30) (recordAt 0 (playAll P (begun .0 .leaves) packets)) ≡ lastCarried (wholeField 30) (own 0 (traceOf ids packets))
+  held-after : (packets : List (List ℕ))
+      → heldIn (wholeField 30) (recordAt 0 (playAll P (begun .0 .leaves) packets)) ≡ lastCarried (wholeField 30) (own 0 (traceOf ids packets))
   held-after packets = after packets .held 0 (omega arith) (wholeField 30)
 
   -- an idle play: shut out by the counts

@@ -13,7 +13,7 @@ use Rattle.words.proofs.Cases.{le-or-lt, true-or-false, true-is-false, both-lef
 use Rattle.words.proofs.BitLaws.{has-low, word-same}
 use Rattle.words.proofs.SetBitLaws.{has-above}
 use Rattle.fields.specs.Rules.{ruleOf, stateRule}
-use Rattle.record.specs.Held.{slotted, holds}
+use Rattle.record.specs.Held.{slotted}
 use Rattle.record.specs.State.{spoken, stateHeld}
 use Rattle.record.specs.Layout.{heldOf, countedTypes, orderOf, countWords, seenOf, missingOf, lastOf, slotOf}
 use Rattle.record.specs.Good.{heldRule, GoodCount, Good}

@@ -16,7 +16,8 @@ abbrev pub SavesAs : Program → (t page : List ℕ) → Type 0
 SavesAs P t page = (lent : List ℕ) → length page ≤ length lent
     → P .save t lent ≡ accepted (record { says = length page; leaves = page ++ drop (length page) lent })
 
--- "Save a page after any packet": there is a page, of "at least 2 + 16S" (document 01) "and at most 2 + 89S" words (C-11); it is refused only where it does not fit, with ROOM
+-- "Save a page after any packet": there is a page, of "at least 2 + 16S" words (document 01) and "at most 2 + 89S" (document 02, C-11); it is refused only
+-- where it does not fit, with ROOM
 pub record Saves (P : Program) (ids t : List ℕ) : Type 0 where
   pub page : List ℕ
   pub least : 2 + 16 * length ids ≤ length page

@@ -1,5 +1,5 @@
--- What is kept of what Context packets say, thing by thing. Document 02, C-11: "The last-carried rule of demand 3 is read per indicator." A thing is a field that
--- is replaced whole, one of the six persistent indicators of field 16, or its user bits, which are "replaced together".
+-- What is kept of what Context packets say, thing by thing. Document 02, C-11: "The last-carried rule of demand 3 is read per indicator." A thing is a field
+-- that is replaced whole, one of the six persistent indicators of field 16, or its user bits, which are "replaced together".
 use Rattle.words.specs.Kit.{ℕ, _+_, _-_, _%_, _^_, Bool, true, false, not, List, [], _∷_, eqb, leb, ltb, getD}
 use mathlib.Core.Option.{Option, none, some}
 use Rattle.words.specs.Tests.{pick, when, both}

@@ -1,6 +1,6 @@
 -- What a trace of packets says by itself: which of them are accepted, by reading and by the list of identifiers, and the rules that a table is held to. No
 -- rule here goes through a table, or through playing: each looks at the packets.
-use Rattle.words.specs.Kit.{_≡_, ℕ, _+_, _%_, _^_, Bool, true, false, List, [], _∷_, _++_, eqb, leb, length}
+use Rattle.words.specs.Kit.{_≡_, ℕ, _+_, _%_, _^_, Bool, false, List, [], _∷_, _++_, eqb, leb, length}
 use mathlib.Core.List.{map}
 use mathlib.Core.Option.{Option, none, some}
 use Rattle.words.specs.Numbers.{STREAM}

@@ -1,5 +1,5 @@
--- "Bad .. tables, pages .. are refused": which are bad. Document 01, 'The table and its page', clause by clause, with what C-11 of document 02 adds; the tests that TABLE and PAGE go by hold
--- exactly where the clauses do.
+-- "Bad .. tables, pages .. are refused": which are bad. Document 01, 'The table and its page', clause by clause, with what C-11 of document 02 adds; the tests
+-- that TABLE and PAGE go by hold exactly where the clauses do.
 use Rattle.words.specs.Kit.{_≡_, ℕ, _+_, _-_, _^_, _≤_, _<_, true, false, List, length, getD}
 use mathlib.Core.Logic.{_↔_}
 use lib.ListN.{replicate}

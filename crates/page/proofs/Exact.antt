@@ -133,7 +133,9 @@ module _ (p : List ℕ) (e : pageOk p ≡ true) where
   unfolding savedBody savedRecord
   body-back s rest h =
       let held : heldOf (savedRecord p s) ≡ heldOf (pageBodyAt p s) = ok-word s 1 h (omega arith) in
-      ap pageBody (back-record s rest h) ∙ body-record (pageBodyAt p s) (ok-words s h) (held-within (heldOf (pageBodyAt p s)) (rw held at (good-within (savedRecord p s) (ok-record s h))))
+      ap pageBody (back-record s rest h)
+      ∙ body-record (pageBodyAt p s) (ok-words s h)
+      (held-within (heldOf (pageBodyAt p s)) (rw held at (good-within (savedRecord p s) (ok-record s h))))
 
   pub page-back : (rest : List ℕ) → pageOf (tableOf p ++ rest) ≡ p
   unfolding pageOf tableOf tableFrom

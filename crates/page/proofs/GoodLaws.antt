@@ -30,7 +30,7 @@ use Rattle.record.specs.After.{slotFilled}
 use Rattle.record.specs.Good.{countGoodAt, heldGood, recordGood}
 use Rattle.record.proofs.SlotLaws.{placed, placed-split, slotted-low, slotted-high, slotted-all}
 use Rattle.record.proofs.HoldLaws.{within-small, within-slotted, held-within}
-use Rattle.record.proofs.GoodLaws.{slotRuled, slots-apart, counts-at, last-at, zeros-good, good-head-ill, good-slots}
+use Rattle.record.proofs.GoodLaws.{slotRuled, slots-ruled, counts-at, last-at, zeros-good, good-head-ill, good-slots}
 use Rattle.table.specs.Identifiers.{spaced, listGood}
 use Rattle.table.proofs.ListLaws.{list-same}
 use Rattle.page.specs.Body.{pageBodyWords, recordOf}
@@ -139,7 +139,8 @@ module _ (b : List ℕ) (l : length b ≡ pageBodyWords (heldOf b)) where
   unfolding slotFilled
   slot-held x o y =
       let h : heldOf (recordOf b) ≡ heldOf b = record-word b 1 (omega arith) (body-some b l) in
-      rw (o, h, y, record-slot b l x o, y, part-is (placed 31 (heldOf b) x) (fieldSize x) (drop headWords b)) (rule-own x _ (slotted-low x o) (slotted-high x o))
+      rw (o, h, y, record-slot b l x o, y, part-is (placed 31 (heldOf b) x) (fieldSize x) (drop headWords b))
+      (rule-own x _ (slotted-low x o) (slotted-high x o))
 
   slot-blank : (x : ℕ) → has (heldOf b) x ≡ false → slotRuled (recordOf b) x ≡ true
   unfolding slotFilled
@@ -217,7 +218,7 @@ module _ (b : List ℕ) (l : length b ≡ pageBodyWords (heldOf b)) where
           let d : drop 1 (take (length b - (headWords - 1)) (drop (headWords - 1) b)) ≡ drop headWords b = ap (drop 1) (rest-whole (headWords - 1) b)
           ∙ drop-drop 1 (headWords - 1) b in
           let ruled : kept ≡ all 31 (slotRuled (recordOf b)) = g ∙ rw d (rules-below 31 0 body-within (omega arith) (zero-add _)) in
-          good-slots (recordOf b) head head-same r (not-false head i) (o ∙ ap₂ both ruled (f ∙ state-in) ∙ sym (slots-apart (recordOf b)))
+          good-slots (recordOf b) head head-same r (not-false head i) (o ∙ ap₂ both ruled (f ∙ state-in) ∙ sym (slots-ruled (recordOf b)))
 
 -- ---- the state word of a body: w is the words of a body that holds the fields below 16 alone
 

@@ -1,24 +1,22 @@
 -- Fields that are not the same in two records. The idea: a word marked bit by bit has the bits whose tests hold, so a loop that marks one bit
 -- more goes from `marked k` to `marked (k + 1)`; and the held words of a field are parts of the two records at one place, of the same words where they are as
 -- many and none of them differs.
-use Rattle.words.proofs.Kit.{_≡_, refl, sym, ap, ap₂, _∙_, Bool, true, false, not, ⊎-elim, List, ℕ, zero, suc, _+_, _-_, _*_, _/_, _%_, _^_, _≤_, _<_, arith}
+use Rattle.words.proofs.Kit.{_≡_, refl, sym, ap, ap₂, _∙_, Bool, true, false, not, ⊎-elim, List, ℕ, _+_, _-_, _^_, _≤_, _<_, arith}
 use Rattle.words.proofs.Kit.{eq-eqb, ne-eqb, eqb-true, le-leb, lt-leb, not-true, not-false, eqb, leb, length, take, drop, getD}
 use borrow.Author.Tests.{leb-false}
 use native.Mathlib.Nat.{add-zero}
 use native.Mathlib.Numerals.{add-one}
 use lib.Seq.{ext-getD}
-use lib.Pow.{pow-mono, high, low}
+use lib.Pow.{pow-mono}
 use Rattle.words.specs.Numbers.{TABLE, STREAM}
 use Rattle.words.specs.Tests.{when, both, sameWords}
 use Rattle.words.specs.Word.{has, marked}
 use Rattle.words.specs.Part.{part}
 use Rattle.words.specs.All.{all}
 use Rattle.words.specs.Outcome.{refused, accepted, checked}
-use Rattle.words.proofs.Cases.{same-test, true-or-false, both-left, both-right, both-no, same-or-not, true-is-false, same-words, words-same}
+use Rattle.words.proofs.Cases.{same-test, true-or-false, both-left, both-right, both-no, true-is-false, same-words, words-same}
 use Rattle.words.proofs.RefusalLaws.{first-passed, first-refused, first-fine, either-passed}
-use Rattle.words.proofs.PowerLaws.{halves}
 use Rattle.words.proofs.BitLaws.{marked-small, marked-has, marked-none}
-use Rattle.words.proofs.SetBitLaws.{has-above}
 use Rattle.words.proofs.AllLaws.{all-at, all-intro, all-more, all-fails}
 use Rattle.words.proofs.PartLaws.{seen, part-length, getD-part}
 use Rattle.fields.specs.Sizes.{fieldSize}

@@ -28,7 +28,7 @@ use Rattle.record.specs.After.{slotAfter, slotFilled, slotAfterBody, slo
 use Rattle.record.proofs.SlotLaws.{in-order-same, in-order-length, in-order-at, in-order-parts, slots-small, slotted-low, slotted-high, slotted-all}
 use Rattle.record.proofs.SlotLaws.{slots-whole, held-but, never-held}
 use Rattle.record.proofs.StateLaws.{state-same}
-use Rattle.record.proofs.HoldLaws.{slot-inside, slot-put, slot-put-other, within-slotted}
+use Rattle.record.proofs.HoldLaws.{slot-sized, slot-put, slot-put-other, within-slotted}
 
 -- ---- the carried bits of fields that have a slot
 
@@ -49,18 +49,18 @@ masked-place n b h = above-agree 31 b (bitAnd n slotMask) n (λ x g l. masked-ha
 
 -- ---- fields 22 and 16: each has one word
 
-count-words : fieldSize 22 ≡ 1
+over-range-size : fieldSize 22 ≡ 1
 unfolding fieldSize
-count-words = refl
+over-range-size = refl
 
-state-words : fieldSize 16 ≡ 1
+state-size : fieldSize 16 ≡ 1
 unfolding fieldSize
-state-words = refl
+state-size = refl
 
 module _ (slots : List ℕ) (l : length slots ≡ slotWords) where
-  count-word : slotIn 22 slots ≡ getD slots 13 0 ∷ []
+  over-range-word : slotIn 22 slots ≡ getD slots 13 0 ∷ []
   unfolding slotIn slotAt slotBits slotMask bitsOf above sizesOf fieldSize
-  count-word = part-word 13 slots (omega arith)
+  over-range-word = part-word 13 slots (omega arith)
 
   pub state-word : slotIn 16 slots ≡ getD slots 22 0 ∷ []
   unfolding slotIn slotAt slotBits slotMask bitsOf above sizesOf fieldSize
@@ -99,16 +99,12 @@ module _ (body : List ℕ) (ok : contextOf body ≡ accepted tt) where
   -- ---- the slots after a packet
 
   module _ (slots : List ℕ) (l : length slots ≡ slotWords) where
-    old-sized : (b : ℕ) → slotted b ≡ true → length (slotIn b slots) ≡ fieldSize b
-    unfolding slotIn
-    old-sized b o = part-length (slotAt b) (fieldSize b) slots (omega (arith, slot-inside b o))
-
     carried-sized : (b : ℕ) → slotted b ≡ true → has (indicatorOf body) b ≡ true → length (fieldOf b body) ≡ fieldSize b
     carried-sized b o e = field-length b body (slotted-high b o) e (context-fits body ok) ∙ words-fixed b (fromField b body) (slotted-low b o)
 
     filled-sized : (b : ℕ) → slotted b ≡ true → length (slotFilled (has (indicatorOf body) b) (fieldOf b body) (slotIn b slots)) ≡ fieldSize b
     unfolding slotFilled
-    filled-sized b o = ⊎-elim (λ e. rw e (carried-sized b o e)) (λ e. rw e (old-sized b o)) (true-or-false (has (indicatorOf body) b))
+    filled-sized b o = ⊎-elim (λ e. rw e (carried-sized b o e)) (λ e. rw e (slot-sized b slots l o)) (true-or-false (has (indicatorOf body) b))
 
     filled-length : length (filled slots) ≡ slotWords
     unfolding slotBits slotted
@@ -123,9 +119,9 @@ module _ (body : List ℕ) (ok : contextOf body ≡ accepted tt) where
     after-sized b o =
         ⊎-elim
         (λ (y : both (has (indicatorOf body) b) (holds b) ≡ true).
-        ⊎-elim (λ (s : eqb b 16 ≡ true). rw (y, s) (sym (ap fieldSize (eqb-true b 16 s) ∙ state-words)))
+        ⊎-elim (λ (s : eqb b 16 ≡ true). rw (y, s) (sym (ap fieldSize (eqb-true b 16 s) ∙ state-size)))
         (λ (s : eqb b 16 ≡ false). rw (y, s) (carried-sized b o (both-left (has (indicatorOf body) b) (holds b) y))) (true-or-false (eqb b 16)))
-        (λ (n : both (has (indicatorOf body) b) (holds b) ≡ false). rw n (old-sized b o)) (true-or-false (both (has (indicatorOf body) b) (holds b)))
+        (λ (n : both (has (indicatorOf body) b) (holds b) ≡ false). rw n (slot-sized b slots l o)) (true-or-false (both (has (indicatorOf body) b) (holds b)))
 
     pub slots-length : length (slotsAfter body slots) ≡ slotWords
     unfolding slotsAfter slotBits slotted
@@ -161,13 +157,13 @@ module _ (body : List ℕ) (ok : contextOf body ≡ accepted tt) where
       -- field 22 is as it was, and no other changes
       back-count : slotIn 22 back ≡ slotIn 22 slots
       back-count =
-          ap (slotIn 22) back-put ∙ slot-put 22 (count ∷ []) mid mid-length (slotted-all 22 (omega arith) (omega arith)) (sym count-words)
-          ∙ ap (λ (n : ℕ). n ∷ []) ec ∙ sym (count-word slots l)
+          ap (slotIn 22) back-put ∙ slot-put 22 (count ∷ []) mid mid-length (slotted-all 22 (omega arith) (omega arith)) (sym over-range-size)
+          ∙ ap (λ (n : ℕ). n ∷ []) ec ∙ sym (over-range-word slots l)
 
       back-other : (b : ℕ) → slotted b ≡ true → (b ≡ 22 → ⊥) → slotIn b back ≡ slotFilled (has (indicatorOf body) b) (fieldOf b body) (slotIn b slots)
       back-other b o n =
           ap (slotIn b) back-put
-          ∙ slot-put-other 22 (count ∷ []) mid mid-length (slotted-all 22 (omega arith) (omega arith)) (sym count-words) b o n ∙ mid-at b o
+          ∙ slot-put-other 22 (count ∷ []) mid mid-length (slotted-all 22 (omega arith) (omega arith)) (sym over-range-size) b o n ∙ mid-at b o
 
       module _ (word r : ℕ) (ew : word ≡ getD mid 22 0) (er : r ≡ stateAfter word state) (small : state < 2 ^ 32) where
         abbrev done : List ℕ
@@ -180,7 +176,7 @@ module _ (body : List ℕ) (ok : contextOf body ≡ accepted tt) where
         done-other : (b : ℕ) → slotted b ≡ true → (b ≡ 16 → ⊥) → slotIn b done ≡ slotIn b back
         done-other b o n =
             ap (slotIn b) done-put
-            ∙ slot-put-other 16 (r ∷ []) back back-length (slotted-all 16 (omega arith) (omega arith)) (sym state-words) b o n
+            ∙ slot-put-other 16 (r ∷ []) back back-length (slotted-all 16 (omega arith) (omega arith)) (sym state-size) b o n
 
         -- the word of field 16 in its slot
         word-is : word ≡ getD (slotFilled (has (indicatorOf body) 16) (fieldOf 16 body) (slotIn 16 slots)) 0 0
@@ -197,12 +193,13 @@ module _ (body : List ℕ) (ok : contextOf body ≡ accepted tt) where
             (ap (λ (n : ℕ). n ∷ []) (er ∙ ap₂ stateAfter (rw e at word-is) old-is))
         state-made false e =
             rw e
-            (ap (λ (n : ℕ). n ∷ []) (er ∙ ap (λ (n : ℕ). stateAfter n state) (rw e at word-is ∙ sym old-is) ∙ state-same state small ∙ es) ∙ sym (state-word slots l))
+            (ap (λ (n : ℕ). n ∷ []) (er ∙ ap (λ (n : ℕ). stateAfter n state) (rw e at word-is ∙ sym old-is) ∙ state-same state small ∙ es)
+            ∙ sym (state-word slots l))
 
         done-state : slotIn 16 done ≡ slotAfterBody 16 body (slotIn 16 slots)
         done-state =
             ap (slotIn 16) done-put
-            ∙ slot-put 16 (r ∷ []) back back-length (slotted-all 16 (omega arith) (omega arith)) (sym state-words)
+            ∙ slot-put 16 (r ∷ []) back back-length (slotted-all 16 (omega arith) (omega arith)) (sym state-size)
             ∙ state-made (has (indicatorOf body) 16) refl
 
         done-count : slotIn 22 done ≡ slotAfterBody 22 body (slotIn 22 slots)

@@ -177,11 +177,12 @@ module _ (r : List ℕ) where
       (true-or-false (has (heldOf r) b)))
       (λ (o : slotted b ≡ false). rw o) (true-or-false (slotted b))
 
-  pub slots-apart : all 31 (slotGood r) ≡ both (all 31 (slotRuled r)) (pick (has (heldOf r) 16) (stateHeld (getD (slotOf 16 r) 0 0)) true)
-  slots-apart =
+  pub slots-ruled : all 31 (slotGood r) ≡ both (all 31 (slotRuled r)) (pick (has (heldOf r) 16) (stateHeld (getD (slotOf 16 r) 0 0)) true)
+  slots-ruled =
       all-same (slotGood r) _ 31 (λ b h. slot-both b) ∙ all-both (slotRuled r) stated 31
       ∙ ap (both (all 31 (slotRuled r)))
-      (all-only stated 31 16 (omega arith) (λ i n. rw (ne-eqb i 16 n, both-no (has (heldOf r) i), both-no (slotted i))) ∙ rw (slotted-all 16 (omega arith) (omega arith), both-yes (has (heldOf r) 16)))
+      (all-only stated 31 16 (omega arith) (λ i n. rw (ne-eqb i 16 n, both-no (has (heldOf r) i), both-no (slotted i)))
+      ∙ rw (slotted-all 16 (omega arith) (omega arith), both-yes (has (heldOf r) 16)))
 
 -- ---- words that are zero, piece by piece
 

@@ -17,8 +17,8 @@ use Rattle.record.specs.Held.{slotMask, slotted, slotBits, slotAt, heldM
 use Rattle.record.specs.Layout.{slotWords, slotIn}
 use Rattle.record.specs.After.{slotFilled, refilled, Inside}
 use Rattle.record.proofs.CopyLaws.{size-slotted}
-use Rattle.record.proofs.SlotLaws.{placed, placed-split, placed-inside, placed-apart, in-order-same, in-order-parts, slots-small, slotted-high, slots-whole}
-use Rattle.record.proofs.SlotLaws.{held-small, held-slotted}
+use Rattle.record.proofs.SlotLaws.{placed, placed-split, placed-inside, placed-apart, in-order-same, in-order-parts, slots-small, slotted-high}
+use Rattle.record.proofs.SlotLaws.{slots-whole, held-small, held-slotted}
 
 -- ---- bits of a mask alone, and of fields that have a slot
 
@@ -50,6 +50,10 @@ module _ (bits : ℕ) (within : bitAnd bits slotMask ≡ bits) where
 pub slot-inside : (b : ℕ) → slotted b ≡ true → slotAt b + fieldSize b ≤ slotWords
 unfolding slotAt slotBits slotted
 slot-inside b e = rw slots-whole at (placed-inside 31 slotMask b (slotted-high b e) e)
+
+pub slot-sized : (b : ℕ) (slots : List ℕ) → length slots ≡ slotWords → slotted b ≡ true → length (slotIn b slots) ≡ fieldSize b
+unfolding slotIn
+slot-sized b slots l o = part-length (slotAt b) (fieldSize b) slots (omega (arith, slot-inside b o))
 
 slots-apart : (b x : ℕ) → b < x → slotted b ≡ true → slotted x ≡ true → slotAt x + fieldSize x ≤ slotAt b
 unfolding slotAt slotBits slotted

@@ -13,7 +13,7 @@ use Rattle.record.specs.Held.{slotMask, slotted, slotBits, slotAt}
 use Rattle.record.specs.Layout.{slotWords, slotIn}
 use Rattle.record.specs.After.{slotFilled, refilled, heldWords}
 use Rattle.record.proofs.SlotLaws.{placed, placed-inside, in-order-same, in-order-length, in-order-at, in-order-parts, slots-whole}
-use Rattle.record.proofs.HoldLaws.{within-slotted, slot-inside}
+use Rattle.record.proofs.HoldLaws.{within-slotted, slot-sized}
 
 -- fields that stand from a place on are those of the words from there on
 pub refilled-drop : (bits at : ℕ) (ws slots : List ℕ) → refilled bits at ws slots ≡ refilled bits 0 (drop at ws) slots
@@ -22,10 +22,6 @@ refilled-drop bits at ws slots =
     in-order-same 31 slotMask _ _
     (λ b h e. ap (λ (f : List ℕ). slotFilled (has bits b) f (slotIn b slots))
     (sym (part-drop (placed 31 bits b) (fieldSize b) at ws) ∙ ap (λ (n : ℕ). part n (fieldSize b) (drop at ws)) (sym (zero-add (placed 31 bits b)))))
-
-slot-sized : (b : ℕ) (slots : List ℕ) → length slots ≡ slotWords → slotted b ≡ true → length (slotIn b slots) ≡ fieldSize b
-unfolding slotIn
-slot-sized b slots l o = part-length (slotAt b) (fieldSize b) slots (omega (arith, slot-inside b o))
 
 module _ (held : ℕ) (within : bitAnd held slotMask ≡ held) where
   pub held-length : (slots : List ℕ) → length slots ≡ slotWords → length (heldWords held slots) ≡ sizesOf (bitsOf 31 held)

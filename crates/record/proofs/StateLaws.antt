@@ -1,6 +1,6 @@
 -- What is held of a state word. The idea: all is said of one bit. The bits that a word speaks of are its enables, these again 12 bits down, and the user bits
 -- (`spoken-mask`, by one test over the bit that computes); a held word has at each bit what the last word that spoke of it had (`state-bit`).
-use Rattle.words.proofs.Kit.{_≡_, refl, sym, ap, _∙_, Bool, true, false, not, ⊎-elim, List, [], _∷_, ℕ, _+_, _-_, _/_, _%_, _^_, _≤_, _<_, arith}
+use Rattle.words.proofs.Kit.{_≡_, refl, sym, ap, _∙_, Bool, true, false, not, ⊎-elim, List, ℕ, _+_, _-_, _/_, _%_, _^_, _≤_, _<_, arith}
 use Rattle.words.proofs.Kit.{eq-eqb, eqb-true, lt-ltb, le-ltb, le-leb, lt-leb, eqb, leb, ltb, getD}
 use native.Mathlib.Nat.{mod-lt, lt-of-le-of-lt, add-comm}
 use lib.Bits.{bitAnd, bitOr, bitXor, and-le-l, and-le-r, or-lt, xor-lt}

@@ -1,6 +1,6 @@
 -- Document 01, 'The table and its page', of a stream's record: "unheld fields .. zero; held fields obey their rules; a count not started has zeros; a last
--- count is at most 15; no field held unless type 4 has started"; and what of field 16 is held is by document 02, C-11. Each is a test, and `Good` says the same in facts
--- (proofs/GoodLaws.antt: `good-of`, `of-good`).
+-- count is at most 15; no field held unless type 4 has started"; and what of field 16 is held is by document 02, C-11. Each is a test, and `Good` says the
+-- same in facts (proofs/GoodLaws.antt: `good-of`, `of-good`).
 use Rattle.words.specs.Kit.{_≡_, ℕ, _^_, _≤_, _<_, Bool, true, false, List, eqb, leb, length, getD}
 use lib.Bits.{bitAnd}
 use lib.ListN.{replicate}

@@ -99,8 +99,8 @@ pub fn refill(slots: &mut [u32], bits: u32, source: &[u32], at: usize)
     }
 }
 
-// The slots after a Context packet: each field that it carries replaces its slot whole; then field 22 has what it had, and field 16 what the packet's state word
-// makes of what it had. A packet without one leaves the word in its slot, which changes nothing of itself.
+// The slots after a Context packet: each field that it carries replaces its slot whole; then field 22 has what it had, and field 16 what the packet's state
+// word makes of what it had. Where the packet has none, the word in the slot is the held one, which changes nothing of itself.
 fn hold_fields(slots: &mut [u32], body: &[u32])
     requires { ⌜ (length (now slots) ≡ slotWords) × (contextOf (now body) ≡ accepted tt) ⌝ }
     ensures { λ _. ⌜ now (slots .exit) ≡ slotsAfter (now (body .entry)) (now (slots .entry)) ⌝ }

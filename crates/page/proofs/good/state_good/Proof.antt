@@ -20,5 +20,5 @@ pub state-good-spec : {M : Type 1} → statement M
 state-good-spec =
     tie.close
     (tie.spec
-    (λ c. omega (arith, first-words (search))) body-words-requires (λ c. search state-some) (λ c. search state-below) (λ c. search state-there) (λ c. search needs)
-    (λ c. search state-inside) (λ c κs. search needs) (λ c. search state-answer) (λ c. search (state-absent, c .if1 .left)))
+    (λ c. omega (arith, first-words (search))) body-words-requires (λ c. search state-some) (λ c. search state-below) (λ c. search state-there)
+    (λ c. search needs) (λ c. search state-inside) (λ c κs. search needs) (λ c. search state-answer) (λ c. search state-absent))

@@ -1,6 +1,5 @@
 -- `spoken_by` meets its promise.
 use Rattle.record.proofs.StateLaws.{spoken-mask}
-use borrow.Author.Needs.{needs}
 use Rattle.record.proofs.inner.state.spoken_by.Statement.{statement}
 use Rattle.record.proofs.inner.state.spoken_by.Tie as tie
 
