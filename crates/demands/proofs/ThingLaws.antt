@@ -10,7 +10,7 @@ use Rattle.words.proofs.Cases.{true-or-false, le-or-lt, same-or-not, both-no, b
 use Rattle.words.proofs.BitLaws.{has-low, word-same, marked-small, marked-has, marked-same}
 use Rattle.words.proofs.PartLaws.{part-length}
 use Rattle.record.specs.Layout.{headWords, slotWords, recordWords, heldOf, slotsOf, slotOf}
-use Rattle.record.specs.State.{stateHeld}
+use Rattle.record.specs.State.{stateGood}
 use Rattle.record.specs.Good.{heldRule, Good}
 use Rattle.record.proofs.StateLaws.{held-word, held-silent, held-enabled, spoken-none, spoken-not}
 use Rattle.record.proofs.AfterLaws.{state-word}
@@ -61,7 +61,7 @@ module _ (r : List ℕ) (l : length r ≡ recordWords) (g : Good r) where
       w ∙ sym (ap (λ (ws : List ℕ). getD ws 0 0 ∷ []) w)
 
   module _ (h : has (heldOf r) 16 ≡ true) where
-    good-state : stateHeld state ≡ true
+    good-state : stateGood state ≡ true
     unfolding heldRule
     good-state = both-right (ruleOf 16 (slotOf 16 r)) _ (g .obeys 16 state-slotted h)
 

@@ -14,7 +14,7 @@ use Rattle.words.proofs.BitLaws.{has-low, word-same}
 use Rattle.words.proofs.SetBitLaws.{has-above}
 use Rattle.fields.specs.Rules.{ruleOf, stateRule}
 use Rattle.record.specs.Held.{slotted}
-use Rattle.record.specs.State.{spoken, stateHeld}
+use Rattle.record.specs.State.{spoken, stateGood}
 use Rattle.record.specs.Layout.{heldOf, countedTypes, orderOf, countWords, seenOf, missingOf, lastOf, slotOf}
 use Rattle.record.specs.Good.{heldRule, GoodCount, Good}
 use Rattle.record.proofs.PacketLaws.{order-small}
@@ -78,7 +78,7 @@ by-order r g (suc (suc (suc (suc k)))) h = absurd (omega arith)
 
 -- ---- the state word
 
-module _ (r : List ℕ) (good : stateHeld (stateIn r) ≡ true) where
+module _ (r : List ℕ) (good : stateGood (stateIn r) ≡ true) where
   state-unlit : (e : ℕ) → 24 ≤ e → e ≤ 25 → (has (stateIn r) e ≡ false) × (has (stateIn r) (e - 12) ≡ false)
   state-unlit e a b = (
     held-silent (stateIn r) good e (omega arith) (spoken-not (stateIn r) e (omega arith) (omega arith)),
@@ -127,7 +127,7 @@ module _ (r : List ℕ) (c : RecordClauses r) (h : has (heldOf r) 16 ≡ true) w
       (le-or-lt 14 i))
       (le-or-lt 20 i)
 
-  state-clauses : stateHeld (stateIn r) ≡ true
+  state-clauses : stateGood (stateIn r) ≡ true
   state-clauses = state-good w (c .word h) state-spoken
 
 -- ---- a record
@@ -135,7 +135,7 @@ module _ (r : List ℕ) (c : RecordClauses r) (h : has (heldOf r) 16 ≡ true) w
 record-clauses : (r : List ℕ) → Good r → RecordClauses r
 unfolding orderOf heldRule
 record-clauses r g =
-    let state : has (heldOf r) 16 ≡ true → stateHeld (stateIn r) ≡ true = λ h. both-right (ruleOf 16 (slotOf 16 r)) _ (g .obeys 16 state-slotted h) in
+    let state : has (heldOf r) 16 ≡ true → stateGood (stateIn r) ≡ true = λ h. both-right (ruleOf 16 (slotOf 16 r)) _ (g .obeys 16 state-slotted h) in
     record {
       unheld = λ b k n. g .unheld b (sym (bit-same b) ∙ k) n;
       meaningless = (g .small, low-zero (heldOf r) (λ b e. held-slotted b (g .bits b e)));
@@ -161,7 +161,7 @@ clauses-good r c = record {
   unheld = λ b o n. c .unheld b (bit-same b ∙ o) n;
   obeys = λ b o y.
       both-true _ _ (c .obeys b (bit-same b ∙ o) y)
-      (pick-true (eqb b 16) (stateHeld (getD (slotOf b r) 0 0))
+      (pick-true (eqb b 16) (stateGood (getD (slotOf b r) 0 0))
       (λ e. let i : b ≡ 16 = eqb-true b 16 e in rw i (state-clauses r c (rw i at y))));
 }
 

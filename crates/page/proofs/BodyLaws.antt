@@ -136,9 +136,9 @@ held-size : sizesOf (bitsOf 31 heldMask) ≡ 73
 unfolding bitsOf heldMask slotMask sizesOf fieldSize
 held-size = refl
 
-pub held-most : (held : ℕ) → bitAnd held heldMask ≡ held → pageBodyWords held ≤ 87
+pub body-most : (held : ℕ) → bitAnd held heldMask ≡ held → pageBodyWords held ≤ 87
 unfolding pageBodyWords
-held-most held w = omega (arith, sizes-within 31 held heldMask (λ b h y. within-bits heldMask held w b y), held-size)
+body-most held w = omega (arith, sizes-within 31 held heldMask (λ b h y. within-bits heldMask held w b y), held-size)
 
 -- the loop that adds the fields: its start, a turn and its end. The length so far and the words of the bits that are left are the whole
 abbrev pub Adding : ℕ → ℕ → ℕ → Type 0

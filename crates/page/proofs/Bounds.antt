@@ -1,5 +1,5 @@
 -- How long a page is: "at least 2 + 16S" words (document 01), and "A body has at most 87 words and a page at most 2 + 89S" (C-11). The idea: a body has its 14
--- first words and at most the 73 words of all held fields (`held-most`). So no page reaches SIZE (`page-small`).
+-- first words and at most the 73 words of all held fields (`body-most`). So no page reaches SIZE (`page-small`).
 use Rattle.words.proofs.Kit.{_≡_, ap, true, List, ℕ, zero, suc, _+_, _*_, _≤_, _<_, arith, length}
 use Rattle.record.specs.Layout.{headWords, heldOf}
 use Rattle.table.specs.Layout.{streamsOf, recordAt}
@@ -10,7 +10,7 @@ use Rattle.words.specs.Pieces.{pieces}
 use Rattle.page.specs.Body.{pageBodyWords}
 use Rattle.page.specs.Layout.{offsetOf, savedBody, pageOf, pageLength, mostWords}
 use Rattle.words.proofs.PieceLaws.{pieces-none, pieces-next}
-use Rattle.page.proofs.BodyLaws.{good-within, held-most, body-length}
+use Rattle.page.proofs.BodyLaws.{good-within, body-most, body-length}
 use Rattle.page.proofs.LayoutLaws.{page-length}
 
 -- pieces of bounded length
@@ -27,7 +27,7 @@ module _ (t : List ℕ) (w : wellMade t ≡ true) where
   unfolding savedBody pageBodyWords
   saved-between s h =
       let l = body-length (recordAt s t) (Records.record-length s t (layout-has t s (well-whole t w) h)) (well-record t w s h) in
-      (omega (arith, l), omega (arith, l, held-most (heldOf (recordAt s t)) (good-within (recordAt s t) (well-record t w s h))))
+      (omega (arith, l), omega (arith, l, body-most (heldOf (recordAt s t)) (good-within (recordAt s t) (well-record t w s h))))
 
   pub page-between : (2 + 16 * streamsOf t ≤ pageLength t) × (pageLength t ≤ 2 + 89 * streamsOf t)
   unfolding pageLength offsetOf

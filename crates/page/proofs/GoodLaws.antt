@@ -24,7 +24,7 @@ use Rattle.fields.proofs.SizeLaws.{sizes-more, size-some, words-fixed}
 use Rattle.fields.proofs.RuleLaws.{rule-own}
 use Rattle.fields.proofs.WalkLaws.{rules-cons}
 use Rattle.record.specs.Held.{slotMask, slotted}
-use Rattle.record.specs.State.{stateHeld}
+use Rattle.record.specs.State.{stateGood}
 use Rattle.record.specs.Layout.{headWords, heldOf, countAt, countWords, lastOf, slotOf}
 use Rattle.record.specs.After.{slotFilled}
 use Rattle.record.specs.Good.{countGoodAt, heldGood, recordGood}
@@ -172,7 +172,7 @@ module _ (b : List ℕ) (l : length b ≡ pageBodyWords (heldOf b)) where
       (true-or-false (has held k))
 
   -- the state word of the record is that of the body
-  state-in : stateGoodIn b ≡ pick (has (heldOf (recordOf b)) 16) (stateHeld (getD (slotOf 16 (recordOf b)) 0 0)) true
+  state-in : stateGoodIn b ≡ pick (has (heldOf (recordOf b)) 16) (stateGood (getD (slotOf 16 (recordOf b)) 0 0)) true
   unfolding stateGoodIn slotFilled
   state-in =
       let h : heldOf (recordOf b) ≡ heldOf b = record-word b 1 (omega arith) (body-some b l) in
@@ -180,7 +180,7 @@ module _ (b : List ℕ) (l : length b ≡ pageBodyWords (heldOf b)) where
       ⊎-elim
       (λ (y : has (heldOf b) 16 ≡ true).
       rw (h, y, record-slot b l 16 (slotted-all 16 (omega arith) (omega arith)), y)
-      (ap stateHeld (sym (getD-part (placed 31 (heldOf b) 16) (fieldSize 16) 0 (drop headWords b) some ∙ getD-drop headWords b (placed 31 (heldOf b) 16 + 0) 0
+      (ap stateGood (sym (getD-part (placed 31 (heldOf b) 16) (fieldSize 16) 0 (drop headWords b) some ∙ getD-drop headWords b (placed 31 (heldOf b) 16 + 0) 0
       ∙ ap (λ (k : ℕ). getD b (headWords + k) 0) (add-zero (placed 31 (heldOf b) 16))))))
       (λ (y : has (heldOf b) 16 ≡ false). rw (h, y)) (true-or-false (has (heldOf b) 16))
 
@@ -251,11 +251,11 @@ module _ (b : List ℕ) (l : length b ≡ pageBodyWords (heldOf b)) where
     pub state-inside : length b - 1 - (w - headWords) < length b
     state-inside = omega (arith, state-last)
 
-    pub state-answer : (r : Bool) → r ≡ stateHeld (getD b (length b - 1 - (w - headWords)) 0) → r ≡ stateGoodIn b
+    pub state-answer : (r : Bool) → r ≡ stateGood (getD b (length b - 1 - (w - headWords)) 0) → r ≡ stateGoodIn b
     unfolding stateGoodIn
     state-answer r g =
         let place : length b - 1 - (w - headWords) ≡ headWords + placed 31 (heldOf b) 16 = omega (arith, state-last) in
-        g ∙ ap (λ (k : ℕ). stateHeld (getD b k 0)) place ∙ rw (eq-eqb (heldOf b / 2 ^ 16 % 2) 1 h)
+        g ∙ ap (λ (k : ℕ). stateGood (getD b k 0)) place ∙ rw (eq-eqb (heldOf b / 2 ^ 16 % 2) 1 h)
 
 -- ---- the page: k is the answer to its contents, l that to its list, and n is S
 

@@ -23,22 +23,22 @@ use Rattle.record.proofs.HoldLaws.{slot-inside, within-slotted}
 use Rattle.record.proofs.CopyLaws.{size-slotted}
 use Rattle.page.proofs.WriteLaws.{laid-part}
 
--- the bits of a list are those of held fields
-abbrev pub AllHeld : List ℕ → Type 0
-AllHeld [] = Unit
-AllHeld (b ∷ bs) = (slotted b ≡ true) × AllHeld bs
+-- the bits of a list are those of fields that have a slot
+abbrev pub AllSlotted : List ℕ → Type 0
+AllSlotted [] = Unit
+AllSlotted (b ∷ bs) = (slotted b ≡ true) × AllSlotted bs
 
-all-held : (k held : ℕ) → ((b : ℕ) → has held b ≡ true → slotted b ≡ true) → AllHeld (bitsOf k held)
-all-held zero held w = rw (bits-zero held) tt
-all-held (suc k) held w =
-    ⊎-elim (λ (y : has held k ≡ true). rw (bits-yes k held y) (w k y, all-held k held w))
-    (λ (n : has held k ≡ false). rw (bits-no k held n) (all-held k held w)) (true-or-false (has held k))
+all-slotted : (k held : ℕ) → ((b : ℕ) → has held b ≡ true → slotted b ≡ true) → AllSlotted (bitsOf k held)
+all-slotted zero held w = rw (bits-zero held) tt
+all-slotted (suc k) held w =
+    ⊎-elim (λ (y : has held k ≡ true). rw (bits-yes k held y) (w k y, all-slotted k held w))
+    (λ (n : has held k ≡ false). rw (bits-no k held n) (all-slotted k held w)) (true-or-false (has held k))
 
 pub record Squeezing (held at : ℕ) (slots before after : List ℕ) (rest to : ℕ) : Type 0 where
   pub done : List ℕ
   pub laid : Laid before at done to after
   pub left : done ++ inOrder (bitsOf 32 rest) (λ b. slotIn b slots) ≡ heldWords held slots
-  pub bits : AllHeld (bitsOf 32 rest)
+  pub bits : AllSlotted (bitsOf 32 rest)
   pub fits : to + sizesOf (bitsOf 32 rest) ≡ at + sizesOf (bitsOf 31 held)
 
 pub squeezing-start : (held at : ℕ) (slots page : List ℕ) → bitAnd held slotMask ≡ held → Squeezing held at slots page page held at
@@ -49,7 +49,7 @@ squeezing-start held at slots page w =
       done = [];
       laid = record { past = sym (add-zero at); kept = refl };
       left = ap (λ (l : List ℕ). inOrder l (λ b. slotIn b slots)) (bits-trim 31 32 held (omega arith) h);
-      bits = all-held 32 held (within-slotted held w);
+      bits = all-slotted 32 held (within-slotted held w);
       fits = ap (λ (l : List ℕ). at + sizesOf l) (bits-trim 31 32 held (omega arith) h);
     }
 

@@ -58,17 +58,17 @@ unfolding inOrder
 words-order [] f w = tt
 words-order (b ∷ bs) f w = words-append (f b) (inOrder bs f) (w b) (words-order bs f w)
 
-words-after : (carried : Bool) (field slot : List ℕ) → Words32 field → Words32 slot → Words32 (slotFilled carried field slot)
+words-filled : (carried : Bool) (field slot : List ℕ) → Words32 field → Words32 slot → Words32 (slotFilled carried field slot)
 unfolding slotFilled
-words-after true field slot a b = a
-words-after false field slot a b = b
+words-filled true field slot a b = a
+words-filled false field slot a b = b
 
 words-record : (b : List ℕ) → Words32 b → Words32 (recordOf b)
 unfolding recordOf refilled slotIn
 words-record b w =
     words-append (part 0 headWords b) _ (words-part 0 headWords b w)
     (words-order slotBits _
-    (λ x. words-after (has (heldOf b) x) _ _
+    (λ x. words-filled (has (heldOf b) x) _ _
     (words-part (headWords + sizesOf (above x (bitsOf 31 (heldOf b)))) (fieldSize x) b w)
     (words-part _ (fieldSize x) (replicate slotWords 0) (words-zero slotWords))))
 

@@ -82,7 +82,7 @@ fn list_good(page: &[u32], n: usize) -> bool
 }
 
 // Whether the state word of a body, where it has one, can be held. Behind it stand the words of the fields below 16 alone, so it is found from the body's end.
-fn state_good(body: &[u32]) -> bool
+fn state_good_in(body: &[u32]) -> bool
     requires { ⌜ length (now body) ≡ pageBodyWords (heldOf (now body)) ⌝ }
     ensures { λ r. ⌜ r ≡ stateGoodIn (now (body .entry)) ⌝ }
 {
@@ -91,7 +91,7 @@ fn state_good(body: &[u32]) -> bool
         let sizes = fields::inner::SIZES;
         let below = crate::bodies::body_words(held % 0x1_0000, &sizes);
         let at = body.len() - 1 - (below - record::inner::HEAD_WORDS);
-        return record::inner::state_held(body[at]);
+        return record::inner::state_good(body[at]);
     }
     true
 }
@@ -107,7 +107,7 @@ fn body_good(body: &[u32]) -> bool
         return false;
     }
     let walked = fields::inner::walk(body[1], &body[record::inner::HEAD_WORDS - 1..]);
-    words::inner::both_of(walked.kept, state_good(body))
+    words::inner::both_of(walked.kept, state_good_in(body))
 }
 
 // Whether the record of body s is good.

@@ -84,10 +84,10 @@ module _ (body : List ℕ) (ok : contextOf body ≡ accepted tt) where
       omega (arith, f, words-fixed b (fromField b body) l, place-fixed b body (omega arith), same)
 
   -- the slots with each carried field put in whole
-  abbrev filled : List ℕ → List ℕ
-  filled slots = inOrder slotBits (λ b. slotFilled (has (indicatorOf body) b) (fieldOf b body) (slotIn b slots))
+  abbrev allFilled : List ℕ → List ℕ
+  allFilled slots = inOrder slotBits (λ b. slotFilled (has (indicatorOf body) b) (fieldOf b body) (slotIn b slots))
 
-  packet-fields : (slots : List ℕ) → refilled (bitAnd (indicatorOf body) slotMask) 1 body slots ≡ filled slots
+  packet-fields : (slots : List ℕ) → refilled (bitAnd (indicatorOf body) slotMask) 1 body slots ≡ allFilled slots
   unfolding refilled slotBits slotFilled slotted
   packet-fields slots =
       in-order-same 31 slotMask _ _
@@ -106,11 +106,11 @@ module _ (body : List ℕ) (ok : contextOf body ≡ accepted tt) where
     unfolding slotFilled
     filled-sized b o = ⊎-elim (λ e. rw e (carried-sized b o e)) (λ e. rw e (slot-sized b slots l o)) (true-or-false (has (indicatorOf body) b))
 
-    filled-length : length (filled slots) ≡ slotWords
+    filled-length : length (allFilled slots) ≡ slotWords
     unfolding slotBits slotted
     filled-length = in-order-length 31 slotMask _ (λ b h o. filled-sized b o) ∙ slots-whole
 
-    filled-at : (b : ℕ) → slotted b ≡ true → slotIn b (filled slots) ≡ slotFilled (has (indicatorOf body) b) (fieldOf b body) (slotIn b slots)
+    filled-at : (b : ℕ) → slotted b ≡ true → slotIn b (allFilled slots) ≡ slotFilled (has (indicatorOf body) b) (fieldOf b body) (slotIn b slots)
     unfolding slotBits slotAt slotIn slotted
     filled-at b o = in-order-at 31 slotMask b _ (λ x h e. filled-sized x e) (slotted-high b o) o
 
@@ -135,11 +135,15 @@ module _ (body : List ℕ) (ok : contextOf body ≡ accepted tt) where
     -- its new one makes of the one that it had, `state`
     module _ (count state : ℕ) (mid : List ℕ) (ec : count ≡ getD slots 13 0) (es : state ≡ getD slots 22 0)
         (em : mid ≡ refilled (bitAnd (indicatorOf body) slotMask) 1 body slots) where
-      mid-filled : mid ≡ filled slots
+      mid-filled : mid ≡ allFilled slots
       mid-filled = em ∙ packet-fields slots
 
       mid-length : length mid ≡ slotWords
       mid-length = ap length mid-filled ∙ filled-length
+
+      -- field 16 has its word, also after a store
+      pub state-slot-there : (i v : ℕ) → 22 < length (set mid i v)
+      state-slot-there i v = simp length-set (omega (arith, mid-length))
 
       mid-at : (b : ℕ) → slotted b ≡ true → slotIn b mid ≡ slotFilled (has (indicatorOf body) b) (fieldOf b body) (slotIn b slots)
       mid-at b o = ap (slotIn b) mid-filled ∙ filled-at b o
@@ -151,7 +155,7 @@ module _ (body : List ℕ) (ok : contextOf body ≡ accepted tt) where
       unfolding slotAt slotBits slotMask bitsOf above sizesOf fieldSize
       back-put = set-put 13 count mid (omega (arith, mid-length))
 
-      pub back-length : length (set mid 13 count) ≡ slotWords
+      back-length : length (set mid 13 count) ≡ slotWords
       back-length = simp length-set mid-length
 
       -- field 22 is as it was, and no other changes
@@ -272,7 +276,7 @@ module _ (body r : List ℕ) (l : length r ≡ recordWords) (ok : contextOf body
       part-set-before headWords slotWords 1 _ (put headWords slotWords (slotsAfter body (part headWords slotWords r)) r) (omega arith)
       ∙ part-put headWords slotWords (slotsAfter body (part headWords slotWords r)) r fits new-slots
 
-  -- a slot has the field's words where the packet carries it, and is else as it was
+  -- a slot is as `slotAfter` has it
   pub hold-slot : (b : ℕ) → slotted b ≡ true → slotOf b (holdRecord body r) ≡ slotAfterBody b body (slotOf b r)
   unfolding slotOf
   hold-slot b o = ap (slotIn b) hold-slots ∙ slots-at body ok (slotsOf r) old-slots b o

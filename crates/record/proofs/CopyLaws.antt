@@ -1,4 +1,4 @@
--- The words of a field, copied without a loop. The idea: a field that is held has 1, 2, 11 or 13 words (`size-few`).
+-- The words of a field, copied without a loop. The idea: a field that has a slot has 1, 2, 11 or 13 words (`size-few`).
 use Rattle.words.proofs.Kit.{_≡_, refl, sym, _∙_, Bool, true, ⊎-elim, List, [], _∷_, ℕ, _+_, _≤_, _<_, arith, ne-eqb, eqb-true, le-ltb, eqb}
 use Rattle.words.proofs.Kit.{ltb, length}
 use mathlib.Core.Logic.{_⊎_, inl, inr}
@@ -24,12 +24,12 @@ module _ (n d s : ℕ) (ws xs last : List ℕ) where
       → last ≡ put (d + 11) 2 (part (s + 11) 2 ws) mid → last ≡ put d n (part s n ws) xs
   copied-longer mid h g i e f = rw i (copied-then 11 2 d s ws xs mid last (omega arith) (omega arith) e f)
 
--- ---- the sizes of fields that are held
+-- ---- the sizes of fields that have a slot
 
 few : ℕ → ℕ → Bool
 few b n = pick (ltb b 10) true (among n (1 ∷ 2 ∷ 11 ∷ 13 ∷ []))
 
--- a held field has 1, 2, 11 or 13 words
+-- such a field has 1, 2, 11 or 13 words
 size-few : (b : ℕ) → 10 ≤ b → b < 31 → among (fieldSize b) (1 ∷ 2 ∷ 11 ∷ 13 ∷ []) ≡ true
 unfolding few fieldSize all
 size-few b h g = rw (le-ltb b 10 h) at (all-at (λ i. few i (fieldSize i)) 31 b g refl)

@@ -23,7 +23,7 @@ use Rattle.fields.proofs.SizeLaws.{size-some}
 use Rattle.fields.specs.Layout.{indicatorOf, fieldOf, contextOf}
 use Rattle.fields.proofs.BodyLaws.{context-fits, field-rule}
 use Rattle.record.specs.Held.{slotted, slotAt, heldMask, holds}
-use Rattle.record.specs.State.{stateAfter, stateHeld}
+use Rattle.record.specs.State.{stateAfter, stateGood}
 use Rattle.record.specs.Layout.{headWords, slotWords, recordWords, heldOf, countAt, countWords, seenOf, missingOf, lastOf, slotIn, slotsOf, slotOf}
 use Rattle.record.specs.Counts.{countedOf, countRecord}
 use Rattle.record.specs.After.{slotAfter, heldAfter, holdRecord}
@@ -149,12 +149,12 @@ module _ (b : ℕ) (ws : List ℕ) (below : Bool) (f : below ≡ firstOk b (getD
   held-more under n v more e m = rule-more b ws below f h under v more e m ∙ rw (ne-eqb b 16 n) (sym (both-yes (ruleOf b ws)))
 
 -- of a state word nothing else is asked than that it can be held
-pub held-state : (b : ℕ) (ws : List ℕ) (t : Bool) → b ≡ 16 → t ≡ stateHeld (getD ws 0 0) → t ≡ heldRule b ws
+pub held-state : (b : ℕ) (ws : List ℕ) (t : Bool) → b ≡ 16 → t ≡ stateGood (getD ws 0 0) → t ≡ heldRule b ws
 unfolding heldRule
 held-state b ws t e f =
-    f ∙ rw (e) (sym (ruled (stateHeld (getD ws 0 0)) refl))
+    f ∙ rw (e) (sym (ruled (stateGood (getD ws 0 0)) refl))
   where
-    ruled : (s : Bool) → stateHeld (getD ws 0 0) ≡ s → both (ruleOf 16 ws) s ≡ s
+    ruled : (s : Bool) → stateGood (getD ws 0 0) ≡ s → both (ruleOf 16 ws) s ≡ s
     ruled true y = both-true _ _ (state-ruled (getD ws 0 0) y ws refl) refl
     ruled false y = both-no (ruleOf 16 ws)
 
@@ -166,7 +166,7 @@ slotRuled r b = pick (slotted b) (pick (has (heldOf r) b) (ruleOf b (slotOf b r)
 
 module _ (r : List ℕ) where
   abbrev stated : ℕ → Bool
-  stated b = pick (both (slotted b) (both (has (heldOf r) b) (eqb b 16))) (stateHeld (getD (slotOf b r) 0 0)) true
+  stated b = pick (both (slotted b) (both (has (heldOf r) b) (eqb b 16))) (stateGood (getD (slotOf b r) 0 0)) true
 
   slot-both : (b : ℕ) → slotGood r b ≡ both (slotRuled r b) (stated b)
   unfolding slotGood heldRule
@@ -177,7 +177,7 @@ module _ (r : List ℕ) where
       (true-or-false (has (heldOf r) b)))
       (λ (o : slotted b ≡ false). rw o) (true-or-false (slotted b))
 
-  pub slots-ruled : all 31 (slotGood r) ≡ both (all 31 (slotRuled r)) (pick (has (heldOf r) 16) (stateHeld (getD (slotOf 16 r) 0 0)) true)
+  pub slots-ruled : all 31 (slotGood r) ≡ both (all 31 (slotRuled r)) (pick (has (heldOf r) 16) (stateGood (getD (slotOf 16 r) 0 0)) true)
   slots-ruled =
       all-same (slotGood r) _ 31 (λ b h. slot-both b) ∙ all-both (slotRuled r) stated 31
       ∙ ap (both (all 31 (slotRuled r)))
@@ -374,7 +374,7 @@ unfolding slotAfter
 slot-stays b carried field slot e = rw e
 
 -- a slot that is held is by its rule, also after a packet
-rule-after : (b : ℕ) (carried : Bool) (field slot : List ℕ) → (carried ≡ true → ruleOf b field ≡ true) → (b ≡ 16 → stateHeld (getD slot 0 0) ≡ true)
+rule-after : (b : ℕ) (carried : Bool) (field slot : List ℕ) → (carried ≡ true → ruleOf b field ≡ true) → (b ≡ 16 → stateGood (getD slot 0 0) ≡ true)
     → (both carried (holds b) ≡ false → heldRule b slot ≡ true) → heldRule b (slotAfter b carried field slot) ≡ true
 unfolding slotAfter heldRule
 rule-after b carried field slot f s g =
@@ -382,7 +382,7 @@ rule-after b carried field slot f s g =
     (λ (y : both carried (holds b) ≡ true).
     ⊎-elim
     (λ (e : eqb b 16 ≡ true).
-    let new : stateHeld (stateAfter (getD field 0 0) (getD slot 0 0)) ≡ true = state-stays-good (getD field 0 0) (getD slot 0 0) (s (eqb-true b 16 e)) in
+    let new : stateGood (stateAfter (getD field 0 0) (getD slot 0 0)) ≡ true = state-stays-good (getD field 0 0) (getD slot 0 0) (s (eqb-true b 16 e)) in
     rw (y, e) (both-true _ _ (ap (λ (n : ℕ). ruleOf n (stateAfter (getD field 0 0) (getD slot 0 0) ∷ [])) (eqb-true b 16 e) ∙ state-ruled _ new _ refl) new))
     (λ (e : eqb b 16 ≡ false). rw (y, e) (both-true _ _ (f (both-left carried (holds b) y)) refl)) (true-or-false (eqb b 16)))
     (λ (n : both carried (holds b) ≡ false). rw n (g n)) (true-or-false (both carried (holds b)))
@@ -443,12 +443,12 @@ module _ (body r : List ℕ) (l : length r ≡ recordWords) (ok : contextOf body
   was-held b c e = ⊎-elim (λ y. y) (λ (n : has (heldOf r) b ≡ false). absurd (true-is-false (sym (rw (n, c) at e)))) (true-or-false (has (heldOf r) b))
 
   -- the state word that is held is such a word, and so is the zero that stands for none
-  old-state : (b : ℕ) → b ≡ 16 → stateHeld (getD (slotOf b r) 0 0) ≡ true
+  old-state : (b : ℕ) → b ≡ 16 → stateGood (getD (slotOf b r) 0 0) ≡ true
   unfolding heldRule
   old-state b e =
       let o : slotted b ≡ true = slotted-all b (omega arith) (omega arith) in
       ⊎-elim (λ y. rw (eq-eqb b 16 e) at (both-right (ruleOf b (slotOf b r)) _ (g .obeys b o y)))
-      (λ n. ap (λ (ws : List ℕ). stateHeld (getD ws 0 0)) (g .unheld b o n) ∙ ap stateHeld (zero-at (fieldSize b) 0) ∙ state-none)
+      (λ n. ap (λ (ws : List ℕ). stateGood (getD ws 0 0)) (g .unheld b o n) ∙ ap stateGood (zero-at (fieldSize b) 0) ∙ state-none)
       (true-or-false (has (heldOf r) b))
 
   pub hold-good : Good (holdRecord body r)

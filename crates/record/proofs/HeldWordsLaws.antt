@@ -12,15 +12,15 @@ use Rattle.record.proofs.SlotLaws.{slotted-all}
 use Rattle.record.proofs.HoldLaws.{slot-inside}
 
 module _ (r : List ℕ) (b at z : ℕ) (l : length r ≡ recordWords) (lo : 10 ≤ b) (hi : b ≤ 30) (ea : at ≡ slotAt b) (ez : z ≡ fieldSize b) where
-  held-here : slotted b ≡ true
-  held-here = slotted-all b lo (omega arith)
+  slotted-here : slotted b ≡ true
+  slotted-here = slotted-all b lo (omega arith)
 
   pub slot-is : slotOf b r ≡ part (headWords + at) (fieldSize b) r
   unfolding slotOf slotIn slotsOf
-  slot-is = rw ea (part-part (slotAt b) (fieldSize b) headWords slotWords r (slot-inside b held-here))
+  slot-is = rw ea (part-part (slotAt b) (fieldSize b) headWords slotWords r (slot-inside b slotted-here))
 
   pub slot-most : headWords + at + z ≤ length r
-  slot-most = omega (arith, slot-inside b held-here)
+  slot-most = omega (arith, slot-inside b slotted-here)
 
   -- the held words are a part of the record
   part-when : (t : Bool) → pick t (slotOf b r) [] ≡ part (headWords + at) (when t (fieldSize b)) r

@@ -98,7 +98,7 @@ module _ (kind count : ℕ) (body r : List ℕ) (l : length r ≡ recordWords) (
       let i = count-other (orderOf kind) count r l (order-small kind) k h n in
       by-kind (countWords k) _ (λ e. hold-count body counted whole (ok e) k h ∙ i) i
 
-  -- a slot has the field's words where a Context packet carries it, and is else as it was
+  -- a slot is as `slotAfter` has it after a Context packet, and else as it was
   pub after-slot : (b : ℕ) → slotted b ≡ true → slotOf b (recordAfter kind count body r) ≡ pick (eqb kind 4) (slotAfterBody b body (slotOf b r)) (slotOf b r)
   after-slot b o =
       let i = count-slot (orderOf kind) count r l (order-small kind) b in

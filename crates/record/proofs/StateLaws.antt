@@ -8,12 +8,12 @@ use lib.Pow.{pow-pos}
 use Rattle.words.specs.Tests.{pick, both}
 use Rattle.words.specs.Word.{has, marked}
 use Rattle.words.specs.All.{all}
-use Rattle.words.proofs.Cases.{true-or-false, true-is-false, le-or-lt, both-true, agreed}
+use Rattle.words.proofs.Cases.{true-or-false, true-is-false, le-or-lt, both-true, agreed, pick-same}
 use Rattle.words.proofs.AllLaws.{all-at}
 use Rattle.words.proofs.BitLaws.{has-and, has-or, has-low, has-down, merged-bit, word-same, marked-small, marked-has}
 use Rattle.words.proofs.SetBitLaws.{has-above}
 use Rattle.fields.specs.Rules.{ruleOf, stateRule}
-use Rattle.record.specs.State.{spoken, stateAfter, stateHeld}
+use Rattle.record.specs.State.{spoken, stateAfter, stateGood}
 
 -- ---- the bits that a word speaks of
 
@@ -99,11 +99,11 @@ module _ (w h : ℕ) where
 
   -- the enable of an indicator, its value, and the user bits
   pub state-enable : (e : ℕ) → 26 ≤ e → e < 32 → has (stateAfter w h) e ≡ pick (has w e) true (has h e)
-  state-enable e l g = state-bit e g ∙ rw (spoken-enable w e l) (kept (has w e))
+  state-enable e l g = state-bit e g ∙ rw (spoken-enable w e l) (set-or-old (has w e))
     where
-      kept : (t : Bool) → pick t t (has h e) ≡ pick t true (has h e)
-      kept true = refl
-      kept false = refl
+      set-or-old : (t : Bool) → pick t t (has h e) ≡ pick t true (has h e)
+      set-or-old true = refl
+      set-or-old false = refl
 
   pub state-value : (i : ℕ) → 14 ≤ i → i < 20 → has (stateAfter w h) i ≡ pick (has w (i + 12)) (has w i) (has h i)
   state-value i l g = state-bit i (omega arith) ∙ rw (spoken-value w i l g)
@@ -115,18 +115,14 @@ module _ (w h : ℕ) where
 
 -- a word that is already held changes nothing of itself
 pub state-same : (h : ℕ) → h < 2 ^ 32 → stateAfter h h ≡ h
-state-same h s = word-same 32 _ h (state-small h h) s (λ i l. state-bit h h i l ∙ either-way (spoken h i))
-  where
-    either-way : {A : Type 0} {a : A} (t : Bool) → pick t a a ≡ a
-    either-way true = refl
-    either-way false = refl
+state-same h s = word-same 32 _ h (state-small h h) s (λ i l. state-bit h h i l ∙ pick-same (spoken h i) (has h i))
 
 -- ---- a word that can be held
 
 module _ (w : ℕ) where
   -- as a program tests it: m has the bits that w speaks of
-  pub state-tested : (m : ℕ) (r : Bool) → w < 2 ^ 32 → m ≡ marked 32 (spoken w) → r ≡ eqb (bitAnd w m) w → r ≡ stateHeld w
-  unfolding stateHeld
+  pub state-tested : (m : ℕ) (r : Bool) → w < 2 ^ 32 → m ≡ marked 32 (spoken w) → r ≡ eqb (bitAnd w m) w → r ≡ stateGood w
+  unfolding stateGood
   state-tested m r s e f =
       f ∙ ap (λ (n : ℕ). eqb n w)
       (word-same 32 (bitAnd w m) (stateAfter w 0) (lt-of-le-of-lt (and-le-l w m) s) (state-small w 0)
@@ -140,9 +136,9 @@ module _ (w : ℕ) where
       only false true = refl
       only false false = refl
 
-  module _ (t : stateHeld w ≡ true) where
+  module _ (t : stateGood w ≡ true) where
     pub state-again : stateAfter w 0 ≡ w
-    unfolding stateHeld
+    unfolding stateGood
     state-again = eqb-true _ w t
 
     pub held-word : w < 2 ^ 32
@@ -184,13 +180,13 @@ reserved-zero k i w e a b =
     ap (has w) (sym j) ∙ sym (has-down w k (i - k)) ∙ sym (has-low (w / 2 ^ k) 4 (i - k) (omega arith)) ∙ ap (λ (n : ℕ). has n (i - k)) e
     ∙ has-above 0 (i - k) (pow-pos (i - k))
 
-pub state-none : stateHeld 0 ≡ true
-unfolding stateHeld stateAfter spoken marked
+pub state-none : stateGood 0 ≡ true
+unfolding stateGood stateAfter spoken marked
 state-none = refl
 
 -- and so is a word that speaks of each bit that it has
-pub state-good : (w : ℕ) → w < 2 ^ 32 → ((i : ℕ) → i < 32 → has w i ≡ true → spoken w i ≡ true) → stateHeld w ≡ true
-unfolding stateHeld
+pub state-good : (w : ℕ) → w < 2 ^ 32 → ((i : ℕ) → i < 32 → has w i ≡ true → spoken w i ≡ true) → stateGood w ≡ true
+unfolding stateGood
 state-good w s f =
     eq-eqb _ w
     (word-same 32 _ w (state-small w 0) s
@@ -198,15 +194,11 @@ state-good w s f =
     state-bit w 0 i l
     ∙ ⊎-elim (λ (y : has w i ≡ true). rw (f i l y))
     (λ (n : has w i ≡ false).
-    ap (λ (t : Bool). pick (spoken w i) t (has 0 i)) n ∙ ap (pick (spoken w i) false) (has-above 0 i (pow-pos i)) ∙ neither-way (spoken w i) ∙ sym n)
+    ap (λ (t : Bool). pick (spoken w i) t (has 0 i)) n ∙ ap (pick (spoken w i) false) (has-above 0 i (pow-pos i)) ∙ pick-same (spoken w i) false ∙ sym n)
     (true-or-false (has w i))))
-  where
-    neither-way : (t : Bool) → pick t false false ≡ false
-    neither-way true = refl
-    neither-way false = refl
 
 -- what is held stays such a word
-module _ (w h : ℕ) (t : stateHeld h ≡ true) where
+module _ (w h : ℕ) (t : stateGood h ≡ true) where
   abbrev next : ℕ
   next = stateAfter w h
 
@@ -238,5 +230,5 @@ module _ (w h : ℕ) (t : stateHeld h ≡ true) where
       ⊎-elim (λ (b : 8 ≤ i). never i l (λ v. spoken-none v i b a) y) (λ (b : i < 8). spoken-user next i b) (le-or-lt 8 i))
       (le-or-lt 14 i)
 
-  pub state-stays-good : stateHeld (stateAfter w h) ≡ true
+  pub state-stays-good : stateGood (stateAfter w h) ≡ true
   state-stays-good = state-good next (state-small w h) bit-stays

@@ -10,7 +10,7 @@ use Rattle.words.specs.All.{all}
 use Rattle.fields.specs.Sizes.{fieldSize}
 use Rattle.fields.specs.Rules.{ruleOf}
 use Rattle.record.specs.Held.{slotted, heldMask, holds}
-use Rattle.record.specs.State.{stateHeld}
+use Rattle.record.specs.State.{stateGood}
 use Rattle.record.specs.Layout.{heldOf, countWords, seenOf, missingOf, lastOf, slotOf}
 
 -- the words are zero
@@ -30,7 +30,7 @@ heldGood held last = both (eqb (bitAnd held heldMask) held) (pick (eqb last 0) (
 
 -- the rule of a held field of bit b: that of the field, and of 16 that the word can be held
 unfoldable pub heldRule : ℕ → List ℕ → Bool
-heldRule b ws = both (ruleOf b ws) (pick (eqb b 16) (stateHeld (getD ws 0 0)) true)
+heldRule b ws = both (ruleOf b ws) (pick (eqb b 16) (stateGood (getD ws 0 0)) true)
 
 -- "unheld fields .. zero; held fields obey their rules", of the slot of bit b
 unfoldable pub slotGood : List ℕ → ℕ → Bool

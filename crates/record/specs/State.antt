@@ -19,5 +19,5 @@ stateAfter w h = marked 32 (λ i. pick (spoken w i) (has w i) (has h i))
 
 -- a word that can be held: what is held after it, where nothing was, is all of it. So it has neither over-range nor sample loss, no reserved bit, and no
 -- value without its enable.
-unfoldable pub stateHeld : ℕ → Bool
-stateHeld w = eqb (stateAfter w 0) w
+unfoldable pub stateGood : ℕ → Bool
+stateGood w = eqb (stateAfter w 0) w

@@ -19,7 +19,7 @@ pub use held::is_held;
 pub use held::refill;
 pub use held::slot_at;
 pub use held::slot_in;
-pub use state::state_held;
+pub use state::state_good;
 
 // The words of a record before its slots, those of its slots, and all.
 pub const HEAD_WORDS: usize = 14;

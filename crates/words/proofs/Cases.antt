@@ -90,7 +90,11 @@ agreed true false e = sym e
 agreed false true e = e
 agreed false false e = refl
 
--- ---- a test that matters only where another holds
+-- ---- a test that does not matter, and one that matters only where another holds
+pub pick-same : {A : Type 0} (t : Bool) (a : A) → pick t a a ≡ a
+pick-same true a = refl
+pick-same false a = refl
+
 pub pick-true : (t a : Bool) → (t ≡ true → a ≡ true) → pick t a true ≡ true
 pick-true true a f = f refl
 pick-true false a f = refl

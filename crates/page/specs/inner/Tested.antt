@@ -7,7 +7,7 @@ use Rattle.words.specs.SetBits.{bitsOf, above}
 use Rattle.words.specs.All.{all}
 use Rattle.fields.specs.Sizes.{sizesOf}
 use Rattle.record.specs.Layout.{headWords, heldOf}
-use Rattle.record.specs.State.{stateHeld}
+use Rattle.record.specs.State.{stateGood}
 use Rattle.record.specs.Good.{recordGood}
 use Rattle.table.specs.Identifiers.{listed, listGood}
 use Rattle.page.specs.Body.{pageBodyWords}
@@ -43,7 +43,7 @@ Gathered n p ids = (s : ℕ) → s < n → listed ids s ≡ identifierAt p s
 
 -- where a body has a state word, which stands behind the words of the fields above 16, it can be held
 unfoldable pub stateGoodIn : List ℕ → Bool
-stateGoodIn b = pick (has (heldOf b) 16) (stateHeld (getD b (headWords + sizesOf (above 16 (bitsOf 31 (heldOf b)))) 0)) true
+stateGoodIn b = pick (has (heldOf b) 16) (stateGood (getD b (headWords + sizesOf (above 16 (bitsOf 31 (heldOf b)))) 0)) true
 
 -- held fields, counts and rules: the record that body s gives is good
 unfoldable pub recordGoodIn : List ℕ → ℕ → Bool

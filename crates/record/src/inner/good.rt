@@ -106,7 +106,7 @@ fn rule_good(bit: u32, slot: &[u32]) -> bool
             return true;
         }
         if bit == 16 {
-            return crate::inner::state::state_held(slot[0]);
+            return crate::inner::state::state_good(slot[0]);
         }
         return fields::inner::more_ok(bit, slot[0], words::inner::word_at(slot, 1));
     }

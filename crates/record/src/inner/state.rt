@@ -1,7 +1,7 @@
 // What is held of a state word, field 16: the user bits, and of each of the six persistent indicators its enable and its value.
 ghost use Rattle.words.specs.Kit.{_≡_};
 ghost use Rattle.words.specs.Word.{marked};
-ghost use Rattle.record.specs.State.{spoken, stateAfter, stateHeld};
+ghost use Rattle.record.specs.State.{spoken, stateAfter, stateGood};
 
 // The enables of the persistent indicators, 31 to 26: calibrated time, valid data, reference lock, AGC, detected signal, spectral inversion. Each has its value
 // 12 bits below.
@@ -26,8 +26,8 @@ pub fn state_after(word: u32, held: u32) -> u32
 }
 
 // Whether a state word can be held: it has no bit but those that it speaks of.
-pub fn state_held(word: u32) -> bool
-    ensures { λ r. ⌜ r ≡ stateHeld word ⌝ }
+pub fn state_good(word: u32) -> bool
+    ensures { λ r. ⌜ r ≡ stateGood word ⌝ }
 {
     word & spoken_by(word) == word
 }

@@ -2,7 +2,7 @@
 use Rattle.words.proofs.Kit.{_≡_, refl, sym, Bool, true, false, ℕ, eqb, ne-eqb, eq-eqb, arith}
 use lib.Bits.{bitAnd}
 use Rattle.words.specs.Tests.{pick}
-use Rattle.words.proofs.Cases.{both-yes, both-no}
+use Rattle.words.proofs.Cases.{both-yes, both-no, pick-same}
 use Rattle.record.specs.Held.{slotMask, heldMask}
 use Rattle.record.specs.Good.{heldGood}
 use Rattle.record.proofs.inner.good.held_good.Statement.{statement}
@@ -11,11 +11,7 @@ use Rattle.record.proofs.inner.good.held_good.Tie as tie
 module _ (held last : ℕ) where
   none-held : held ≡ 0 → true ≡ heldGood held last
   unfolding heldGood heldMask slotMask
-  none-held e = rw e (either-way (eqb last 0))
-    where
-      either-way : (t : Bool) → true ≡ pick t true true
-      either-way true = refl
-      either-way false = refl
+  none-held e = rw e (sym (pick-same (eqb last 0) true))
 
   held-early : (held ≡ 0 → ⊥) → last ≡ 0 → false ≡ heldGood held last
   unfolding heldGood

@@ -2,7 +2,7 @@
 use Rattle.words.proofs.Kit.{refl, _^_, _<_, arith, getD}
 use Rattle.fields.specs.Layout.{indicatorOf}
 use Rattle.record.specs.Held.{slotMask}
-use Rattle.record.proofs.AfterLaws.{body-some, masked-within, packet-inside, back-length, slots-made}
+use Rattle.record.proofs.AfterLaws.{body-some, masked-within, packet-inside, state-slot-there, slots-made}
 use borrow.Author.Needs.{needs}
 use Rattle.record.proofs.inner.held.hold_fields.Statement.{statement}
 use Rattle.record.proofs.inner.held.hold_fields.Tie as tie
@@ -22,8 +22,7 @@ unfolding slotMask
 slice-write-slots-2 c =
     let start : tie.Start = search in
     let filled : tie.After-refill = search in
-    let whole = back-length (start .args .body .now) (start .pre .1) (start .args .slots .now) (start .pre .0) _ _ _ refl refl (filled .refill .ensures) in
-    omega (arith, whole)
+    state-slot-there (start .args .body .now) (start .pre .1) (start .args .slots .now) (start .pre .0) _ _ _ refl refl (filled .refill .ensures) _ _
 
 returns : tie.Need-returns
 unfolding slotMask
