@@ -6,7 +6,7 @@ use native.Mathlib.Nat.{zero-add, mod-lt}
 use lib.Bits.{bitAnd}
 use lib.ListN.{replicate, length-append, length-drop, length-replicate, take-append-drop}
 use lib.Seq.{drop-at, ext-getD}
-use Rattle.words.specs.Tests.{both}
+use Rattle.words.specs.Tests.{pick, both}
 use Rattle.words.specs.Word.{has}
 use Rattle.words.specs.Part.{part}
 use Rattle.words.specs.SetBits.{bitsOf}
@@ -19,7 +19,7 @@ use Rattle.fields.specs.Sizes.{fieldSize, sizesOf}
 use Rattle.fields.proofs.SizeLaws.{sizes-none, sizes-more}
 use Rattle.record.specs.Held.{slotMask, slotted, slotBits, slotAt, heldMask}
 use Rattle.record.specs.Layout.{headWords, slotWords, recordWords, heldOf, countWords, lastOf, slotIn, slotsOf, slotOf}
-use Rattle.record.specs.After.{slotFilled, refilled, heldWords}
+use Rattle.record.specs.After.{refilled, heldWords}
 use Rattle.record.specs.Good.{recordGood, heldGood}
 use Rattle.record.proofs.SlotLaws.{placed, placed-inside, in-order-length, in-order-at, slots-whole, slotted-high}
 use Rattle.record.proofs.HoldLaws.{slot-inside, within-bits, held-within}
@@ -166,9 +166,9 @@ module _ (held rest n : ℕ) (p : Adding held rest n) (z : rest ≡ 0) where
 -- ---- slots that words are put into
 
 module _ (held : ℕ) (ws blank : List ℕ) (l : length ws ≡ sizesOf (bitsOf 31 held)) (m : length blank ≡ slotWords) where
-  refilled-sized : (b : ℕ) → b < 31 → slotted b ≡ true → length (slotFilled (has held b) (part (0 + placed 31 held b) (fieldSize b) ws) (slotIn b blank))
+  refilled-sized : (b : ℕ) → b < 31 → slotted b ≡ true → length (pick (has held b) (part (0 + placed 31 held b) (fieldSize b) ws) (slotIn b blank))
       ≡ fieldSize b
-  unfolding slotFilled slotIn
+  unfolding slotIn
   refilled-sized b g o =
       ⊎-elim (λ (y : has held b ≡ true). rw y (part-length (0 + placed 31 held b) (fieldSize b) ws (omega (arith, placed-inside 31 held b g y))))
       (λ (n : has held b ≡ false). rw n (part-length (slotAt b) (fieldSize b) blank (omega (arith, slot-inside b o)))) (true-or-false (has held b))
@@ -214,13 +214,13 @@ module _ (b : List ℕ) (l : length b ≡ pageBodyWords (heldOf b)) where
 
   -- a slot has the words of its field where the body holds it, and is else zero
   pub record-slot : (x : ℕ) → slotted x ≡ true
-      → slotOf x (recordOf b) ≡ slotFilled (has (heldOf b) x) (part (placed 31 (heldOf b) x) (fieldSize x) (drop headWords b)) (replicate (fieldSize x) 0)
+      → slotOf x (recordOf b) ≡ pick (has (heldOf b) x) (part (placed 31 (heldOf b) x) (fieldSize x) (drop headWords b)) (replicate (fieldSize x) 0)
   unfolding slotOf slotIn slotAt refilled slotBits slotted
   record-slot x o =
       let ws : List ℕ = drop headWords b in
       ap (slotIn x) record-slots
       ∙ in-order-at 31 slotMask x _ (refilled-sized (heldOf b) ws (replicate slotWords 0) rest-length zeros-length) (slotted-high x o) o
-      ∙ ap₂ (λ (n : ℕ) (z : List ℕ). slotFilled (has (heldOf b) x) (part n (fieldSize x) ws) z) (zero-add (placed 31 (heldOf b) x)) (zero-slot x o)
+      ∙ ap₂ (λ (n : ℕ) (z : List ℕ). pick (has (heldOf b) x) (part n (fieldSize x) ws) z) (zero-add (placed 31 (heldOf b) x)) (zero-slot x o)
 
   pub body-record : bitAnd (heldOf b) slotMask ≡ heldOf b → pageBody (recordOf b) ≡ b
   unfolding recordOf pageBody

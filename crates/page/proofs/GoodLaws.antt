@@ -26,7 +26,6 @@ use Rattle.fields.proofs.WalkLaws.{rules-cons}
 use Rattle.record.specs.Held.{slotMask, slotted}
 use Rattle.record.specs.State.{stateGood}
 use Rattle.record.specs.Layout.{headWords, heldOf, countAt, countWords, lastOf, slotOf}
-use Rattle.record.specs.After.{slotFilled}
 use Rattle.record.specs.Good.{countGoodAt, heldGood, recordGood}
 use Rattle.record.proofs.SlotLaws.{placed, placed-split, slotted-low, slotted-high, slotted-all}
 use Rattle.record.proofs.HoldLaws.{within-small, within-slotted, held-within}
@@ -136,14 +135,12 @@ both-swap false t = sym (both-no t)
 module _ (b : List ℕ) (l : length b ≡ pageBodyWords (heldOf b)) where
   -- the slot of a field that is held, and of one that is not
   slot-held : (x : ℕ) → slotted x ≡ true → has (heldOf b) x ≡ true → slotRuled (recordOf b) x ≡ ruleOf x (drop (placed 31 (heldOf b) x) (drop headWords b))
-  unfolding slotFilled
   slot-held x o y =
       let h : heldOf (recordOf b) ≡ heldOf b = record-word b 1 (omega arith) (body-some b l) in
       rw (o, h, y, record-slot b l x o, y, part-is (placed 31 (heldOf b) x) (fieldSize x) (drop headWords b))
       (rule-own x _ (slotted-low x o) (slotted-high x o))
 
   slot-blank : (x : ℕ) → has (heldOf b) x ≡ false → slotRuled (recordOf b) x ≡ true
-  unfolding slotFilled
   slot-blank x n =
       let h : heldOf (recordOf b) ≡ heldOf b = record-word b 1 (omega arith) (body-some b l) in
       pick-true (slotted x) _ (λ o. rw (h, n, record-slot b l x o, n) (zeros-good (fieldSize x)))
@@ -173,7 +170,7 @@ module _ (b : List ℕ) (l : length b ≡ pageBodyWords (heldOf b)) where
 
   -- the state word of the record is that of the body
   state-in : stateGoodIn b ≡ pick (has (heldOf (recordOf b)) 16) (stateGood (getD (slotOf 16 (recordOf b)) 0 0)) true
-  unfolding stateGoodIn slotFilled
+  unfolding stateGoodIn
   state-in =
       let h : heldOf (recordOf b) ≡ heldOf b = record-word b 1 (omega arith) (body-some b l) in
       let some : 0 < fieldSize 16 = size-some 16 (omega arith) (omega arith) in

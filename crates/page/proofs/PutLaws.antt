@@ -19,7 +19,7 @@ use Rattle.words.proofs.PartLaws.{seen, lent-to, put-at, part-length, part-past
 use Rattle.fields.specs.Sizes.{fieldSize, sizesOf}
 use Rattle.record.specs.Held.{slotMask, slotted, slotBits}
 use Rattle.record.specs.Layout.{headWords, slotWords, recordWords, heldOf, slotIn}
-use Rattle.record.specs.After.{slotFilled, refilled, Inside}
+use Rattle.record.specs.After.{refilled, Inside}
 use Rattle.record.specs.Good.{recordGood}
 use Rattle.record.proofs.SlotLaws.{placed-inside, in-order-same, slotted-low, slotted-high}
 use Rattle.record.proofs.HoldLaws.{within-slotted}
@@ -43,7 +43,7 @@ zeroed-length zeroed z = ap length z ∙ length-replicate {A = ℕ} recordWords 
 
 -- bits of no held field do not matter
 refilled-masked : (n at : ℕ) (ws slots : List ℕ) → refilled (bitAnd n slotMask) at ws slots ≡ refilled n at ws slots
-unfolding refilled slotBits slotFilled slotted
+unfolding refilled slotBits slotted
 refilled-masked n at ws slots =
     in-order-same 31 slotMask _ _
     (λ b h e.

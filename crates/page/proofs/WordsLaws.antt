@@ -3,13 +3,14 @@
 use Rattle.words.proofs.Kit.{_≡_, _∙_, Bool, true, false, List, [], _∷_, _++_, ℕ, zero, suc, _+_, _^_, _<_, arith, getD, take, drop}
 use mathlib.Core.Logic.{_↔_}
 use lib.ListN.{replicate}
+use Rattle.words.specs.Tests.{pick}
 use Rattle.words.specs.Word.{has}
 use Rattle.words.specs.SetBits.{bitsOf, above}
 use Rattle.words.specs.Part.{part}
 use Rattle.fields.specs.Sizes.{fieldSize, sizesOf}
 use Rattle.record.specs.Held.{slotBits, inOrder}
 use Rattle.record.specs.Layout.{headWords, slotWords, heldOf, slotIn}
-use Rattle.record.specs.After.{slotFilled, refilled}
+use Rattle.record.specs.After.{refilled}
 use Rattle.table.specs.Well.{wellMade}
 use Rattle.words.specs.Pieces.{pieces}
 use Rattle.page.specs.Body.{recordOf}
@@ -58,8 +59,7 @@ unfolding inOrder
 words-order [] f w = tt
 words-order (b ∷ bs) f w = words-append (f b) (inOrder bs f) (w b) (words-order bs f w)
 
-words-filled : (carried : Bool) (field slot : List ℕ) → Words32 field → Words32 slot → Words32 (slotFilled carried field slot)
-unfolding slotFilled
+words-filled : (carried : Bool) (field slot : List ℕ) → Words32 field → Words32 slot → Words32 (pick carried field slot)
 words-filled true field slot a b = a
 words-filled false field slot a b = b
 

@@ -24,7 +24,7 @@ use Rattle.record.specs.Held.{slotMask, slotted, slotBits, slotAt, heldM
 use Rattle.record.specs.State.{stateAfter}
 use Rattle.record.specs.Layout.{headWords, slotWords, recordWords, identifierOf, heldOf, countAt, countWords, slotIn, slotsOf, slotOf}
 use Rattle.record.specs.Counts.{countedOf, countRecord}
-use Rattle.record.specs.After.{slotAfter, slotFilled, slotAfterBody, slotsAfter, heldAfter, holdRecord, refilled, Inside}
+use Rattle.record.specs.After.{slotAfter, slotAfterBody, slotsAfter, heldAfter, holdRecord, refilled, Inside}
 use Rattle.record.proofs.SlotLaws.{in-order-same, in-order-length, in-order-at, in-order-parts, slots-small, slotted-low, slotted-high, slotted-all}
 use Rattle.record.proofs.SlotLaws.{slots-whole, held-but, never-held}
 use Rattle.record.proofs.StateLaws.{state-same}
@@ -85,10 +85,10 @@ module _ (body : List ℕ) (ok : contextOf body ≡ accepted tt) where
 
   -- the slots with each carried field put in whole
   abbrev allFilled : List ℕ → List ℕ
-  allFilled slots = inOrder slotBits (λ b. slotFilled (has (indicatorOf body) b) (fieldOf b body) (slotIn b slots))
+  allFilled slots = inOrder slotBits (λ b. pick (has (indicatorOf body) b) (fieldOf b body) (slotIn b slots))
 
   packet-fields : (slots : List ℕ) → refilled (bitAnd (indicatorOf body) slotMask) 1 body slots ≡ allFilled slots
-  unfolding refilled slotBits slotFilled slotted
+  unfolding refilled slotBits slotted
   packet-fields slots =
       in-order-same 31 slotMask _ _
       (λ b h e.
@@ -102,15 +102,14 @@ module _ (body : List ℕ) (ok : contextOf body ≡ accepted tt) where
     carried-sized : (b : ℕ) → slotted b ≡ true → has (indicatorOf body) b ≡ true → length (fieldOf b body) ≡ fieldSize b
     carried-sized b o e = field-length b body (slotted-high b o) e (context-fits body ok) ∙ words-fixed b (fromField b body) (slotted-low b o)
 
-    filled-sized : (b : ℕ) → slotted b ≡ true → length (slotFilled (has (indicatorOf body) b) (fieldOf b body) (slotIn b slots)) ≡ fieldSize b
-    unfolding slotFilled
+    filled-sized : (b : ℕ) → slotted b ≡ true → length (pick (has (indicatorOf body) b) (fieldOf b body) (slotIn b slots)) ≡ fieldSize b
     filled-sized b o = ⊎-elim (λ e. rw e (carried-sized b o e)) (λ e. rw e (slot-sized b slots l o)) (true-or-false (has (indicatorOf body) b))
 
     filled-length : length (allFilled slots) ≡ slotWords
     unfolding slotBits slotted
     filled-length = in-order-length 31 slotMask _ (λ b h o. filled-sized b o) ∙ slots-whole
 
-    filled-at : (b : ℕ) → slotted b ≡ true → slotIn b (allFilled slots) ≡ slotFilled (has (indicatorOf body) b) (fieldOf b body) (slotIn b slots)
+    filled-at : (b : ℕ) → slotted b ≡ true → slotIn b (allFilled slots) ≡ pick (has (indicatorOf body) b) (fieldOf b body) (slotIn b slots)
     unfolding slotBits slotAt slotIn slotted
     filled-at b o = in-order-at 31 slotMask b _ (λ x h e. filled-sized x e) (slotted-high b o) o
 
@@ -145,7 +144,7 @@ module _ (body : List ℕ) (ok : contextOf body ≡ accepted tt) where
       pub state-slot-there : (i v : ℕ) → 22 < length (set mid i v)
       state-slot-there i v = simp length-set (omega (arith, mid-length))
 
-      mid-at : (b : ℕ) → slotted b ≡ true → slotIn b mid ≡ slotFilled (has (indicatorOf body) b) (fieldOf b body) (slotIn b slots)
+      mid-at : (b : ℕ) → slotted b ≡ true → slotIn b mid ≡ pick (has (indicatorOf body) b) (fieldOf b body) (slotIn b slots)
       mid-at b o = ap (slotIn b) mid-filled ∙ filled-at b o
 
       abbrev back : List ℕ
@@ -164,7 +163,7 @@ module _ (body : List ℕ) (ok : contextOf body ≡ accepted tt) where
           ap (slotIn 22) back-put ∙ slot-put 22 (count ∷ []) mid mid-length (slotted-all 22 (omega arith) (omega arith)) (sym over-range-size)
           ∙ ap (λ (n : ℕ). n ∷ []) ec ∙ sym (over-range-word slots l)
 
-      back-other : (b : ℕ) → slotted b ≡ true → (b ≡ 22 → ⊥) → slotIn b back ≡ slotFilled (has (indicatorOf body) b) (fieldOf b body) (slotIn b slots)
+      back-other : (b : ℕ) → slotted b ≡ true → (b ≡ 22 → ⊥) → slotIn b back ≡ pick (has (indicatorOf body) b) (fieldOf b body) (slotIn b slots)
       back-other b o n =
           ap (slotIn b) back-put
           ∙ slot-put-other 22 (count ∷ []) mid mid-length (slotted-all 22 (omega arith) (omega arith)) (sym over-range-size) b o n ∙ mid-at b o
@@ -183,7 +182,7 @@ module _ (body : List ℕ) (ok : contextOf body ≡ accepted tt) where
             ∙ slot-put-other 16 (r ∷ []) back back-length (slotted-all 16 (omega arith) (omega arith)) (sym state-size) b o n
 
         -- the word of field 16 in its slot
-        word-is : word ≡ getD (slotFilled (has (indicatorOf body) 16) (fieldOf 16 body) (slotIn 16 slots)) 0 0
+        word-is : word ≡ getD (pick (has (indicatorOf body) 16) (fieldOf 16 body) (slotIn 16 slots)) 0 0
         word-is =
             ew ∙ ap (λ (ws : List ℕ). getD ws 0 0) (sym (state-word mid mid-length) ∙ mid-at 16 (slotted-all 16 (omega arith) (omega arith)))
 
@@ -191,7 +190,7 @@ module _ (body : List ℕ) (ok : contextOf body ≡ accepted tt) where
         old-is = es ∙ ap (λ (ws : List ℕ). getD ws 0 0) (sym (state-word slots l))
 
         state-made : (carried : Bool) → has (indicatorOf body) 16 ≡ carried → r ∷ [] ≡ slotAfterBody 16 body (slotIn 16 slots)
-        unfolding slotAfter slotFilled
+        unfolding slotAfter
         state-made true e =
             rw (e, held-but 16 (slotted-all 16 (omega arith) (omega arith)) (λ x. omega arith))
             (ap (λ (n : ℕ). n ∷ []) (er ∙ ap₂ stateAfter (rw e at word-is) old-is))
@@ -213,7 +212,7 @@ module _ (body : List ℕ) (ok : contextOf body ≡ accepted tt) where
             ∙ back-count ∙ sym (rw (never-held, both-no (has (indicatorOf body) 22)))
 
         done-whole : (b : ℕ) → slotted b ≡ true → (b ≡ 22 → ⊥) → (b ≡ 16 → ⊥) → slotIn b done ≡ slotAfterBody b body (slotIn b slots)
-        unfolding slotAfter slotFilled
+        unfolding slotAfter
         done-whole b o n m =
             done-other b o m ∙ back-other b o n ∙ sym (rw (held-but b o n, both-yes (has (indicatorOf body) b), ne-eqb b 16 m))
 

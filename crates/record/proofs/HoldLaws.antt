@@ -15,7 +15,7 @@ use Rattle.fields.specs.Sizes.{fieldSize, sizesOf}
 use Rattle.fields.proofs.SizeLaws.{sizes-more}
 use Rattle.record.specs.Held.{slotMask, slotted, slotBits, slotAt, heldMask, holds}
 use Rattle.record.specs.Layout.{slotWords, slotIn}
-use Rattle.record.specs.After.{slotFilled, refilled, Inside}
+use Rattle.record.specs.After.{refilled, Inside}
 use Rattle.record.proofs.CopyLaws.{size-slotted}
 use Rattle.record.proofs.SlotLaws.{placed, placed-split, placed-inside, placed-apart, in-order-same, in-order-parts, slots-small, slotted-high}
 use Rattle.record.proofs.SlotLaws.{slots-whole, held-small, held-slotted}
@@ -88,11 +88,10 @@ pub record Holding (bits at : ℕ) (ws slots₀ slots : List ℕ) (rest from : �
   pub within : bitAnd bits slotMask ≡ bits
   pub inside : Inside bits at ws
   pub place : from + sizesOf (bitsOf reached bits) ≡ at + sizesOf (bitsOf 31 bits)
-  pub is : (b : ℕ) → slotted b ≡ true → slotIn b slots ≡ slotFilled (both (leb reached b) (has bits b)) (fieldIn bits at ws b) (slotIn b slots₀)
+  pub is : (b : ℕ) → slotted b ≡ true → slotIn b slots ≡ pick (both (leb reached b) (has bits b)) (fieldIn bits at ws b) (slotIn b slots₀)
 
 pub holding-start : (bits at : ℕ) (ws slots : List ℕ) → length slots ≡ slotWords → bitAnd bits slotMask ≡ bits → Inside bits at ws
     → Holding bits at ws slots slots bits at
-unfolding slotFilled
 holding-start bits at ws slots l w i = record {
   reached = 31;
   top = le-refl 31;
@@ -146,8 +145,7 @@ module _ {bits at rest from : ℕ} {ws slots₀ slots : List ℕ} (p : Holding b
     abbrev filled : List ℕ
     filled = put (slotAt b) (fieldSize b) (part from (fieldSize b) ws) slots
 
-    turn-slot : (x : ℕ) → slotted x ≡ true → slotIn x filled ≡ slotFilled (both (leb b x) (has bits x)) (fieldIn bits at ws x) (slotIn x slots₀)
-    unfolding slotFilled
+    turn-slot : (x : ℕ) → slotted x ≡ true → slotIn x filled ≡ pick (both (leb b x) (has bits x)) (fieldIn bits at ws x) (slotIn x slots₀)
     turn-slot x f =
         ⊎-elim
         (λ (h : x ≡ b).
@@ -182,7 +180,7 @@ all-filled r x bits e =
     ⊎-elim (λ (g : r ≤ x). rw (le-leb r x g)) (λ (g : x < r). rw (bits-unset r bits x e g, both-no (leb r x))) (le-or-lt r x)
 
 pub holding-end : {bits at rest from : ℕ} {ws slots₀ slots : List ℕ} → Holding bits at ws slots₀ slots rest from → rest ≡ 0 → slots ≡ refilled bits at ws slots₀
-unfolding refilled slotFilled slotIn slotAt slotBits slotted
+unfolding refilled slotIn slotAt slotBits slotted
 holding-end {bits} {at} {rest} {from} {ws} {slots₀} {slots} p z =
     let none : bitsOf (p .reached) bits ≡ [] = sym (p .left) ∙ bits-none 32 rest (omega arith) in
     sym (in-order-parts 31 slotMask slots (p .same ∙ sym slots-whole))

@@ -43,13 +43,9 @@ addedBy kind count r = addedTo (orderOf kind) count r
 
 -- ---- fields that are put into their slots whole, as they stand in a packet or in a page
 
--- what a slot is where its field is there, or is not: the field's words, and else what it was
-unfoldable pub slotFilled : Bool → List ℕ → List ℕ → List ℕ
-slotFilled there field slot = pick there field slot
-
--- the slots where the fields of these bits stand in ws, one after the other from the place at on
+-- the slots where the fields of these bits stand in ws, one after the other from the place at on: a slot has its field's words, and else what it had
 unfoldable pub refilled : ℕ → ℕ → List ℕ → List ℕ → List ℕ
-refilled bits at ws slots = inOrder slotBits (λ b. slotFilled (has bits b) (part (at + sizesOf (above b (bitsOf 31 bits))) (fieldSize b) ws) (slotIn b slots))
+refilled bits at ws slots = inOrder slotBits (λ b. pick (has bits b) (part (at + sizesOf (above b (bitsOf 31 bits))) (fieldSize b) ws) (slotIn b slots))
 
 -- the field of each of these bits, where they stand so, lies inside the words
 abbrev pub Inside : ℕ → ℕ → List ℕ → Type 0
