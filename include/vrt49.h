@@ -134,7 +134,8 @@ enum vrt49_tsf {
 };
 
 /* The fields of a type 4 body, by their bit of the indicator word. A table holds 30 to 10 but 22,
-   whose count is of one data packet; of 16 it holds what enum vrt49_state_bit names. */
+   whose count is of one data packet; of 16 it holds the indicators of enum vrt49_state_bit and the
+   user bits. */
 enum vrt49_bit {
     VRT49_BIT_REFERENCE_POINT = 30,               /* 1 word */
     VRT49_BIT_BANDWIDTH = 29,                     /* 2 words: a frequency */
@@ -150,7 +151,7 @@ enum vrt49_bit {
     VRT49_BIT_TIMESTAMP_CALIBRATION_TIME = 19,    /* 1 word */
     VRT49_BIT_TEMPERATURE = 18,                   /* 1 word: a temperature */
     VRT49_BIT_DEVICE = 17,                        /* 2 words */
-    VRT49_BIT_STATE = 16,                         /* 1 word; held by its indicators */
+    VRT49_BIT_STATE = 16,                         /* 1 word; held in part, see below */
     VRT49_BIT_FORMAT = 15,                        /* 2 words: for vrt49_unpack */
     VRT49_BIT_GPS_GEOLOCATION = 14,               /* 11 words */
     VRT49_BIT_INS_GEOLOCATION = 13,               /* 11 words */

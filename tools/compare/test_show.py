@@ -27,6 +27,12 @@ FAULTS = {
         ("lines.c", "(double)shown->levels[0], (double)shown->levels[1]", "(double)shown->levels[1], (double)shown->levels[0]"),
         ("lines.c", "before && old.kind != VRT49_KIND_ABSENT", "before"),
         ("lines.c", '{VRT49_BIT_STATE, "state"}', '{VRT49_BIT_STATE, "device"}'),
+        ("lines.c", "read.tsf == VRT49_TSF_PICOSECONDS", "read.tsf != VRT49_TSF_NONE"),
+        ("lines.c", "if (read->tsf != VRT49_TSF_NONE)", "if (read->tsf == VRT49_TSF_PICOSECONDS)"),
+        ("survey.c", "if (changed & TUNING_FIELDS || all->every)", "if (changed & TUNING_FIELDS)"),
+        ("vrtshow.h", "#define TUNING_FIELDS 0x3FA00000u", "#define TUNING_FIELDS 0x3F800000u"),
+    ],
+    "states": [
         # the state in lines: its indicators, their names and values, the user bits
         ("lines.c", "if (vrt49_state_holds(state, INDICATORS[i].bit))", "if (1)"),
         ("lines.c", "if (vrt49_state_holds(state, INDICATORS[i].bit))", "if (vrt49_state_on(state, INDICATORS[i].bit))"),
@@ -51,10 +57,6 @@ FAULTS = {
         ("lines.c", 'PRIX32 "\\n", of->state', 'PRIX32 "\\n", of->state & ~VRT49_STATE_USER'),
         ("lines.c", "    put_state_cell(of);\n", "    put_state_cell(of ? all->streams : NULL);\n"),
         ("lines.c", "temperature_c,state\"", "temperature_c\""),
-        ("lines.c", "read.tsf == VRT49_TSF_PICOSECONDS", "read.tsf != VRT49_TSF_NONE"),
-        ("lines.c", "if (read->tsf != VRT49_TSF_NONE)", "if (read->tsf == VRT49_TSF_PICOSECONDS)"),
-        ("survey.c", "if (changed & TUNING_FIELDS || all->every)", "if (changed & TUNING_FIELDS)"),
-        ("vrtshow.h", "#define TUNING_FIELDS 0x3FA00000u", "#define TUNING_FIELDS 0x3F800000u"),
     ],
     "surveys": [
         ("survey.c", "    of->since = 0;\n", ""),

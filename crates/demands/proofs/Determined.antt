@@ -23,7 +23,7 @@ use Rattle.page.proofs.LayoutLaws.{table-same, table-again}
 use Rattle.demands.specs.Things.{Thing}
 use Rattle.demands.specs.Trace.{traceOf, own, lastCarried, countsOf, countRule}
 use Rattle.demands.specs.Right.{heldIn, Right, layoutOf, Determined}
-use Rattle.demands.proofs.ThingLaws.{field-same, field-held}
+use Rattle.demands.proofs.ThingLaws.{fieldHeld, field-same, field-held}
 use Rattle.demands.proofs.HearingLaws.{record-whole}
 use Rattle.demands.proofs.RightLaws.{right-listed}
 
@@ -66,7 +66,7 @@ module _ (r q : List ℕ) (lr : length r ≡ recordWords) (lq : length q ≡ rec
   Q : Good q
   Q = good-of q lq gq
 
-  held : (b : ℕ) → pick (has (heldOf r) b) (some (slotOf b r)) none ≡ pick (has (heldOf q) b) (some (slotOf b q)) none
+  held : (b : ℕ) → fieldHeld b r ≡ fieldHeld b q
   held b = field-held r lr R b ∙ field-same b (λ x. heldIn x r) (λ x. heldIn x q) things ∙ sym (field-held q lq Q b)
 
   same-bit : (b : ℕ) → has (heldOf r) b ≡ has (heldOf q) b
@@ -100,8 +100,8 @@ module _ (r q : List ℕ) (lr : length r ≡ recordWords) (lq : length q ≡ rec
       let second = same-join 0 5 3 r q first (counts 3 refl) in
       let third = same-join 0 8 3 r q second (counts 4 refl) in
       let head = same-join 0 11 3 r q third (counts 5 refl) in
-      let whole : part 0 recordWords r ≡ part 0 recordWords q = same-join 0 headWords slotWords r q head same-slots in
-      sym (part-whole r) ∙ ap (λ (n : ℕ). part 0 n r) lr ∙ whole ∙ ap (λ (n : ℕ). part 0 n q) (sym lq) ∙ part-whole q
+      let replaced : part 0 recordWords r ≡ part 0 recordWords q = same-join 0 headWords slotWords r q head same-slots in
+      sym (part-whole r) ∙ ap (λ (n : ℕ). part 0 n r) lr ∙ replaced ∙ ap (λ (n : ℕ). part 0 n q) (sym lq) ∙ part-whole q
 
 -- ---- a table
 

@@ -13,7 +13,7 @@ use Rattle.words.specs.Tests.{pick, both, among, either}
 use Rattle.words.specs.Word.{has}
 use Rattle.words.specs.Part.{part}
 use Rattle.words.specs.Outcome.{refused, accepted}
-use Rattle.words.proofs.Cases.{true-or-false, both-left, both-right, both-yes, both-no, le-or-lt}
+use Rattle.words.proofs.Cases.{true-or-false, both-left, both-right, both-yes, both-no, pick-same, le-or-lt}
 use Rattle.words.proofs.BitLaws.{marked-small, marked-has}
 use Rattle.words.proofs.RefusalLaws.{None, none-given}
 use Rattle.words.proofs.PartLaws.{part-part}
@@ -35,7 +35,7 @@ use Rattle.panel.proofs.AllReadingLaws.{map-both}
 use Rattle.panel_streams.specs.Changed.{differs, changedIn, changedList, changedOf}
 use Rattle.panel_streams.specs.Identity.{Declared, declaredIn, identityOf}
 use Rattle.panel_streams.specs.TypeCounts.{countIn, typeCountIn, typeCountsOf}
-use Rattle.demands.specs.Things.{wholeField, userBits, fieldBit, kept, whole, isThere, wordsBy}
+use Rattle.demands.specs.Things.{wholeField, userBits, fieldBit, kept, replaced, isThere, wordsBy}
 use Rattle.demands.specs.Trace.{Arrival, traceOf, own, valueCarried, orElse, lastCarried, fieldCarried, countsOf, lastCount, countRule}
 use Rattle.demands.specs.Program.{ours}
 use Rattle.demands.specs.Right.{heldIn, Right}
@@ -43,14 +43,10 @@ use Rattle.demands.specs.PanelShows.{shownBy, changedBy, someCarried, co
 use Rattle.demands.proofs.HearingLaws.{record-whole}
 use Rattle.demands.proofs.RecordLaws.{bit-same}
 use Rattle.demands.proofs.RightLaws.{right-listed}
-use Rattle.demands.proofs.ThingLaws.{there-pick, field-same, field-held}
+use Rattle.demands.proofs.ThingLaws.{fieldHeld, there-pick, field-same, field-held}
 use Rattle.vrt49.proofs.CallLaws.{_and_}
 
 -- ---- a record
-
--- the value of the field of bit b that a record holds, if it does
-abbrev fieldIn : ℕ → List ℕ → Option (List ℕ)
-fieldIn b r = pick (has (heldOf r) b) (some (slotOf b r)) none
 
 by-value : (b : ℕ) (held : Bool) (v : List ℕ) → pick held (shownOf b v) absent ≡ shownBy b (pick held (some v) none)
 by-value b true v = refl
@@ -60,11 +56,11 @@ by-words : (held : Bool) (v : List ℕ) → pick held v [] ≡ wordsBy (pick hel
 by-words true v = refl
 by-words false v = refl
 
-shows-held : (b : ℕ) (r : List ℕ) → recordShows b r ≡ shownBy b (fieldIn b r)
+shows-held : (b : ℕ) (r : List ℕ) → recordShows b r ≡ shownBy b (fieldHeld b r)
 unfolding recordShows isHeld
 shows-held b r = by-value b (has (heldOf r) b) (slotOf b r)
 
-words-held : (b : ℕ) (r : List ℕ) → heldWordsIn b r ≡ wordsBy (fieldIn b r)
+words-held : (b : ℕ) (r : List ℕ) → heldWordsIn b r ≡ wordsBy (fieldHeld b r)
 unfolding heldWordsIn isHeld
 words-held b r = by-words (has (heldOf r) b) (slotOf b r)
 
@@ -93,27 +89,23 @@ user-carried (a ∷ later) =
     there-else (lastCarried userBits later) (valueCarried userBits a)
     ∙ rw (there-context (eqb (a .kind) 4) (has (indicatorOf (a .body)) 16) (getD (fieldOf 16 (a .body)) 0 0 % 2 ^ 8 ∷ []), user-carried later)
 
-whole-carried : (b : ℕ) → eqb b 16 ≡ false → (packets : List Arrival) → isThere (lastCarried (wholeField b) packets) ≡ someCarried b packets
-whole-carried b n [] = refl
-whole-carried b n (a ∷ later) =
+field-carried : (b : ℕ) → eqb b 16 ≡ false → (packets : List Arrival) → isThere (lastCarried (wholeField b) packets) ≡ someCarried b packets
+field-carried b n [] = refl
+field-carried b n (a ∷ later) =
     there-else (lastCarried (wholeField b) later) (valueCarried (wholeField b) a)
-    ∙ rw (there-context (eqb (a .kind) 4) (both (whole b) (has (indicatorOf (a .body)) b)) (fieldOf b (a .body)), whole-carried b n later, n)
+    ∙ rw (there-context (eqb (a .kind) 4) (both (replaced b) (has (indicatorOf (a .body)) b)) (fieldOf b (a .body)), field-carried b n later, n)
     (ap (λ (t : Bool). either t (someCarried b later)) (both-moved (eqb (a .kind) 4) (kept b) (has (indicatorOf (a .body)) b)))
 
 some-carried : (b : ℕ) (packets : List Arrival) → isThere (fieldCarried b packets) ≡ someCarried b packets
 some-carried b packets =
     ⊎-elim
     (λ (e : eqb b 16 ≡ true). let i : b ≡ 16 = eqb-true b 16 e in rw i (there-pick (isThere (lastCarried userBits packets)) _ ∙ user-carried packets))
-    (λ (n : eqb b 16 ≡ false). rw n (whole-carried b n packets)) (true-or-false (eqb b 16))
+    (λ (n : eqb b 16 ≡ false). rw n (field-carried b n packets)) (true-or-false (eqb b 16))
 
 -- field 22 is not
 never-carried : (packets : List Arrival) → lastCarried (wholeField 22) packets ≡ none
 never-carried [] = refl
-never-carried (a ∷ later) = rw (never-carried later) (not-either (eqb (a .kind) 4))
-  where
-    not-either : (k : Bool) → _≡_ {A = Option (List ℕ)} (pick k none none) none
-    not-either true = refl
-    not-either false = refl
+never-carried (a ∷ later) = rw (never-carried later) (pick-same (eqb (a .kind) 4) none)
 
 count-by : (counts : List ℕ) → countIn (countRule counts) ≡ countBy counts
 unfolding countIn
@@ -135,7 +127,7 @@ module _ (ids : List ℕ) (packets : List (List ℕ)) (t : List ℕ) (r : Right 
       let high : b ≤ 30 = leb-true b 30 (both-right (leb 10 b) (leb b 30) k) in
       numbered .0 and numbered .1 .0 and (rw (le-ltb b 10 low, le-ltb 30 b high)) and tt
 
-  held-last : (b : ℕ) → fieldIn b (recordAt s t) ≡ fieldCarried b (own s (traceOf ids packets))
+  held-last : (b : ℕ) → fieldHeld b (recordAt s t) ≡ fieldCarried b (own s (traceOf ids packets))
   held-last b =
       let l = record-whole ids t (right-listed r) s h in
       field-held (recordAt s t) l (good-of (recordAt s t) l (well-record t (r .made) s (rw (r .streams) h))) b
@@ -203,7 +195,7 @@ module _ (ids : List ℕ) (packets : List (List ℕ)) (t : List ℕ) (r : Right 
     readings = all-shown;
     heldWords = held-words-last;
     no-room = held-words-room;
-    never = never-shown;
+    over-range = never-shown;
     counts = counts-stand;
     typeCounts = counts-said;
     identity = identified;

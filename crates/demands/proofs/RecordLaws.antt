@@ -25,7 +25,7 @@ use Rattle.record.proofs.CountLaws.{by-types}
 use Rattle.record.proofs.GoodLaws.{zero-at, good-of}
 use Rattle.record.proofs.PacketLaws.{order-small, after-slot, after-held, after-count, after-other}
 use Rattle.table.specs.Start.{freshRecord}
-use Rattle.demands.specs.Things.{Thing, wholeField, indicator, userBits, fieldBit, kept, whole, persistent, told}
+use Rattle.demands.specs.Things.{Thing, wholeField, stateIndicator, userBits, fieldBit, kept, replaced, persistent, tellsOf}
 use Rattle.demands.specs.Trace.{Arrival, valueCarried, orElse}
 use Rattle.demands.specs.Right.{heldIn}
 use Rattle.demands.proofs.HearingLaws.{Heeded}
@@ -65,10 +65,10 @@ kept-same b =
     (λ e. both-true _ _ (bit-same b ∙ held-slotted b e) (ap not (ne-eqb b 22 (λ i. true-is-false (sym e ∙ ap holds i ∙ never-held)))))
 
 -- a field that is replaced whole is held, and is not 16
-whole-held : (b : ℕ) → whole b ≡ true → holds b ≡ true
+whole-held : (b : ℕ) → replaced b ≡ true → holds b ≡ true
 whole-held b w = sym (kept-same b) ∙ both-left (kept b) (not (eqb b 16)) w
 
-whole-other : (b : ℕ) → whole b ≡ true → eqb b 16 ≡ false
+whole-other : (b : ℕ) → replaced b ≡ true → eqb b 16 ≡ false
 whole-other b w = not-true (eqb b 16) (both-right (kept b) (not (eqb b 16)) w)
 
 -- field 16 has a slot, and is held
@@ -81,10 +81,10 @@ state-holds = held-but 16 state-slotted (λ e. omega arith)
 -- ---- what fields tell of a thing
 
 -- no more is looked at than the bits and the words of fields that have a slot
-told-same : (x : Thing) (i j : ℕ) (f g : ℕ → List ℕ) → ((b : ℕ) → has i b ≡ has j b) → ((b : ℕ) → slotted b ≡ true → f b ≡ g b) → told x i f ≡ told x j g
+told-same : (x : Thing) (i j : ℕ) (f g : ℕ → List ℕ) → ((b : ℕ) → has i b ≡ has j b) → ((b : ℕ) → slotted b ≡ true → f b ≡ g b) → tellsOf x i f ≡ tellsOf x j g
 told-same (wholeField b) i j f g e h =
-    ⊎-elim (λ (w : whole b ≡ true). rw (w, e b, h b (held-slotted b (whole-held b w)))) (λ (w : whole b ≡ false). rw w) (true-or-false (whole b))
-told-same (indicator k) i j f g e h = rw (e 16, h 16 state-slotted)
+    ⊎-elim (λ (w : replaced b ≡ true). rw (w, e b, h b (held-slotted b (whole-held b w)))) (λ (w : replaced b ≡ false). rw w) (true-or-false (replaced b))
+told-same (stateIndicator k) i j f g e h = rw (e 16, h 16 state-slotted)
 told-same userBits i j f g e h = rw (e 16, h 16 state-slotted)
 
 -- a field comes from a packet whose indicator has its bit, and else was there before
@@ -159,19 +159,19 @@ module _ (body r : List ℕ) (good : Good r) where
       rw (state-enable word old e low (omega arith), value)
       (lights (has word e) (has old e) (has word (e - 12)) (has old (e - 12)) (has (heldOf r) 16) (dark e))
 
-  field-after : (b : ℕ) → whole b ≡ true → slotAfterBody b body (slotOf b r) ≡ pick (both (has fields b) true) (fieldOf b body) (slotOf b r)
+  field-after : (b : ℕ) → replaced b ≡ true → slotAfterBody b body (slotOf b r) ≡ pick (both (has fields b) true) (fieldOf b body) (slotOf b r)
   unfolding slotAfter
   field-after b w = rw (whole-held b w, whole-other b w)
 
-  told-after : (x : Thing) → told x (heldAfter fields (heldOf r)) (λ b. slotAfterBody b body (slotOf b r))
-      ≡ orElse (told x fields (λ b. fieldOf b body)) (heldIn x r)
+  told-after : (x : Thing) → tellsOf x (heldAfter fields (heldOf r)) (λ b. slotAfterBody b body (slotOf b r))
+      ≡ orElse (tellsOf x fields (λ b. fieldOf b body)) (heldIn x r)
   told-after (wholeField b) =
       ⊎-elim
-      (λ (w : whole b ≡ true).
+      (λ (w : replaced b ≡ true).
       rw (w, held-bit fields (heldOf r) b, whole-held b w, field-after b w)
       (comes (has fields b) (has (heldOf r) b) (fieldOf b body) (slotOf b r)))
-      (λ (w : whole b ≡ false). rw w) (true-or-false (whole b))
-  told-after (indicator e) =
+      (λ (w : replaced b ≡ false). rw w) (true-or-false (replaced b))
+  told-after (stateIndicator e) =
       ⊎-elim
       (λ (p : persistent e ≡ true).
       ⊎-elim (λ (c : has fields 16 ≡ true). rw (p, held-then c, word-then c, c) (indicator-after e p c))
@@ -193,7 +193,7 @@ module _ (ids : List ℕ) (a : Arrival) (f : Heeded ids a) (r : List ℕ) (l : l
       (λ b o. after-slot (a .kind) (a .count) (a .body) r l (f .body) b o ∙ rw k)
 
   held-context : eqb (a .kind) 4 ≡ true → (x : Thing)
-      → heldIn x next ≡ told x (heldAfter (indicatorOf (a .body)) (heldOf r)) (λ b. slotAfterBody b (a .body) (slotOf b r))
+      → heldIn x next ≡ tellsOf x (heldAfter (indicatorOf (a .body)) (heldOf r)) (λ b. slotAfterBody b (a .body) (slotOf b r))
   held-context k x =
       told-same x (heldOf next) _ (λ b. slotOf b next) (λ b. slotAfterBody b (a .body) (slotOf b r))
       (λ b. ap (λ (n : ℕ). has n b) (after-held (a .kind) (a .count) (a .body) r l (f .body) ∙ rw k))
@@ -223,8 +223,8 @@ module _ (ids : List ℕ) (a : Arrival) (f : Heeded ids a) (r : List ℕ) (l : l
 
 pub fresh-held : (i : ℕ) (x : Thing) → heldIn x (freshRecord i) ≡ none
 unfolding freshRecord
-fresh-held i (wholeField b) = rw (has-above 0 b (pow-pos b), both-no (whole b))
-fresh-held i (indicator e) = rw (both-no (persistent e))
+fresh-held i (wholeField b) = rw (has-above 0 b (pow-pos b), both-no (replaced b))
+fresh-held i (stateIndicator e) = rw (both-no (persistent e))
 fresh-held i userBits = refl
 
 pub fresh-count : (i kind : ℕ) → among kind countedTypes ≡ true → countWords (orderOf kind) (freshRecord i) ≡ 0 ∷ 0 ∷ 0 ∷ []

@@ -19,7 +19,7 @@ use Rattle.page.specs.Layout.{pageFrom, pageOf, pageLength}
 use Rattle.page.specs.Save.{sizeLimit, saveList, saveOf}
 use Rattle.page.specs.PutBack.{putBackOf}
 use Rattle.page.proofs.LayoutLaws.{record-in, table-streams}
-use Rattle.page.proofs.Bounds.{page-between, page-small, page-whole}
+use Rattle.page.proofs.Bounds.{body-between, page-between, page-small, page-whole}
 use Rattle.page.proofs.Exact.{table-back, page-passes, table-well, page-back, page-tested}
 use Rattle.page.proofs.RoundTrip.{save-accepted, put-back-saved}
 use Rattle.demands.specs.Trace.{traceOf, answersAfter}
@@ -75,6 +75,7 @@ saves ids packets t r =
       page = pageOf t;
       least = omega (arith, l, b .0, r .streams);
       most = omega (arith, l, b .1, r .streams);
+      bodies = λ s h. body-between t (r .made) s (rw (r .streams) h) .1;
       fits = saves-as t (r .made);
       short = λ lent h. no-room-for t lent (r .made) h;
     }

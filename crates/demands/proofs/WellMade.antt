@@ -28,7 +28,7 @@ use Rattle.page.specs.Layout.{bodiesIn, tableOf}
 use Rattle.page.specs.Good.{pageGood}
 use Rattle.page.specs.PutBack.{putBackOf}
 use Rattle.page.proofs.Exact.{page-exact}
-use Rattle.demands.specs.Things.{persistent}
+use Rattle.demands.specs.Things.{persistent, passing}
 use Rattle.demands.specs.WellMade.{stateIn, RecordClauses, TableClauses, SavedBySome, Judged}
 use Rattle.demands.proofs.RecordLaws.{bit-same, state-slotted}
 use Rattle.demands.proofs.Resumed.{saves-as, saved-page}
@@ -79,11 +79,13 @@ by-order r g (suc (suc (suc (suc k)))) h = absurd (omega arith)
 -- ---- the state word
 
 module _ (r : List ℕ) (good : stateGood (stateIn r) ≡ true) where
-  state-unlit : (e : ℕ) → 24 ≤ e → e ≤ 25 → (has (stateIn r) e ≡ false) × (has (stateIn r) (e - 12) ≡ false)
-  state-unlit e a b = (
-    held-silent (stateIn r) good e (omega arith) (spoken-not (stateIn r) e (omega arith) (omega arith)),
-    held-silent (stateIn r) good (e - 12) (omega arith) (spoken-none (stateIn r) (e - 12) (omega arith) (omega arith)),
-  )
+  state-unlit : (e : ℕ) → passing e ≡ true → (has (stateIn r) e ≡ false) × (has (stateIn r) (e - 12) ≡ false)
+  state-unlit e p =
+      let a : 24 ≤ e = leb-true 24 e (both-left (leb 24 e) (leb e 25) p) in
+      let b : e ≤ 25 = leb-true e 25 (both-right (leb 24 e) (leb e 25) p) in (
+        held-silent (stateIn r) good e (omega arith) (spoken-not (stateIn r) e (omega arith) (omega arith)),
+        held-silent (stateIn r) good (e - 12) (omega arith) (spoken-none (stateIn r) (e - 12) (omega arith) (omega arith)),
+      )
 
   state-enabled : (e : ℕ) → persistent e ≡ true → has (stateIn r) (e - 12) ≡ true → has (stateIn r) e ≡ true
   state-enabled e p y =
@@ -114,14 +116,14 @@ module _ (r : List ℕ) (c : RecordClauses r) (h : has (heldOf r) 16 ≡ true) w
       (λ (a : 20 ≤ i).
       ⊎-elim (λ (b : 26 ≤ i). spoken-enable w i b ∙ y)
       (λ (b : i < 26).
-      ⊎-elim (λ (d : 24 ≤ i). absurd (true-is-false (sym y ∙ c .unlit h i d (omega arith) .0))) (λ (d : i < 24). zero-from 20 i high a d y)
+      ⊎-elim (λ (d : 24 ≤ i). absurd (true-is-false (sym y ∙ c .unlit h i (both-true _ _ (le-leb 24 i d) (le-leb i 25 (omega arith))) .0))) (λ (d : i < 24). zero-from 20 i high a d y)
       (le-or-lt 24 i)) (le-or-lt 26 i))
       (λ (a : i < 20).
       ⊎-elim
       (λ (b : 14 ≤ i).
       spoken-value w i b a ∙ c .enabled h (i + 12) (both-true _ _ (le-leb 26 (i + 12) (omega arith)) (le-leb (i + 12) 31 (omega arith))) (ap (has w) back ∙ y))
       (λ (b : i < 14).
-      ⊎-elim (λ (d : 12 ≤ i). absurd (true-is-false (sym y ∙ sym (ap (has w) back) ∙ c .unlit h (i + 12) (omega arith) (omega arith) .1)))
+      ⊎-elim (λ (d : 12 ≤ i). absurd (true-is-false (sym y ∙ sym (ap (has w) back) ∙ c .unlit h (i + 12) (both-true _ _ (le-leb 24 (i + 12) (omega arith)) (le-leb (i + 12) 25 (omega arith))) .1)))
       (λ (d : i < 12).
       ⊎-elim (λ (e : 8 ≤ i). zero-from 8 i low e d y) (λ (e : i < 8). spoken-user w i e) (le-or-lt 8 i)) (le-or-lt 12 i))
       (le-or-lt 14 i))

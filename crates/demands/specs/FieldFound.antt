@@ -11,8 +11,8 @@ use Rattle.demands.specs.Program.{Program}
 abbrev pub carriesField : ℕ → List ℕ → Bool
 carriesField b body = both (both (leb 8 b) (leb b 30)) (has (indicatorOf body) b)
 
--- a field that is carried is found, at its place after the indicator and the fields of the bits above, with its words, which lie in the body; the words there
--- are those that are held of the field (`valueCarried`). No other is found.
+-- a field that is carried is found, at its place after the indicator and the fields of the bits above, with its words, which lie in the body; by these
+-- words the fields of a packet tell what is held (`valueCarried`). No other is found.
 pub record FieldFound (P : Program) (b : ℕ) (body : List ℕ) : Type 0 where
   pub carried : carriesField b body ≡ true → P .find b body ≡ placeOf b body ∷ length (fieldOf b body) ∷ []
   pub inside : carriesField b body ≡ true → placeOf b body + length (fieldOf b body) ≤ length body

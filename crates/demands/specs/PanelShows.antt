@@ -50,8 +50,8 @@ pub record PanelShows (P : Program) (ids : List ℕ) (packets : List (List ℕ))
       length ws ≤ length out → P .heldWords t s b out ≡ accepted (record { says = length ws; leaves = ws ++ drop (length ws) out })
   pub no-room : (b : ℕ) → fieldBit b ≡ true → (out : List ℕ) → length out < length (wordsBy (fieldCarried b (own s (traceOf ids packets))))
       → P .heldWords t s b out ≡ refused ROOM
-  -- of field 22 nothing is ever held
-  pub never : (P .reading t s 22 ≡ accepted absent) × ((out : List ℕ) → P .heldWords t s 22 out ≡ accepted (record { says = 0; leaves = out }))
+  -- of field 22, the over-range count, nothing is ever held
+  pub over-range : (P .reading t s 22 ≡ accepted absent) × ((out : List ℕ) → P .heldWords t s 22 out ≡ accepted (record { says = 0; leaves = out }))
   -- seen, missing and last plus one or 0, where docs/LAYOUT.md says that they stand
   pub counts : (kind : ℕ) → among kind countedTypes ≡ true
       → part (base s + countAt (orderOf kind)) 3 t ≡ countRule (countsOf kind (own s (traceOf ids packets)))

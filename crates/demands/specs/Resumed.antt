@@ -5,6 +5,7 @@ use Rattle.words.specs.Numbers.{ROOM}
 use Rattle.words.specs.Outcome.{Outcome, refused, accepted, Done, saidOf, leftOf}
 use Rattle.table.specs.Layout.{layoutWords}
 use Rattle.play.specs.declared.Heard.{Heard}
+use Rattle.page.specs.Layout.{lengthAt}
 use Rattle.demands.specs.Trace.{traceOf, answersAfter}
 use Rattle.demands.specs.Program.{Program, playAll, saidAll}
 use Rattle.demands.specs.Right.{Right, layoutOf, pastOf}
@@ -22,6 +23,8 @@ pub record Saves (P : Program) (ids t : List ℕ) : Type 0 where
   pub page : List ℕ
   pub least : 2 + 16 * length ids ≤ length page
   pub most : length page ≤ 2 + 89 * length ids
+  -- "A body has at most 87 words", by the contents
+  pub bodies : (s : ℕ) → s < length ids → lengthAt page s ≤ 87
   pub fits : SavesAs P t page
   pub short : (lent : List ℕ) → length lent < length page → P .save t lent ≡ refused ROOM
 

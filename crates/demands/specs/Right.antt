@@ -7,12 +7,12 @@ use Rattle.record.specs.Layout.{heldOf, countedTypes, orderOf, countWords, slot
 use Rattle.table.specs.Layout.{streamsOf, layoutWords, recordAt}
 use Rattle.table.specs.Identifiers.{listed, declared}
 use Rattle.table.specs.Well.{wellMade}
-use Rattle.demands.specs.Things.{Thing, told}
+use Rattle.demands.specs.Things.{Thing, tellsOf}
 use Rattle.demands.specs.Trace.{Arrival, traceOf, own, lastCarried, NoneCarried, LastCarried, countsOf, countRule}
 
 -- the value of a thing that a record holds, if it does: what the held fields tell of it
 abbrev pub heldIn : Thing → List ℕ → Option (List ℕ)
-heldIn x r = told x (heldOf r) (λ b. slotOf b r)
+heldIn x r = tellsOf x (heldOf r) (λ b. slotOf b r)
 
 -- the table t is right for a list of streams and the packets that were played: it is well made and of that list. "Each stream then holds, for every context
 -- field document 01 keeps, the value in the last accepted Context packet of that stream that carried the field, and nothing if none did. Its counts are those

@@ -7,7 +7,7 @@ use Rattle.words.specs.Word.{has, marked}
 
 pub data Thing : Type 0 where
   wholeField : (bit : ℕ) → Thing
-  indicator : (enable : ℕ) → Thing
+  stateIndicator : (enable : ℕ) → Thing
   userBits : Thing
 
 -- "from bits 30 to 10"
@@ -19,21 +19,25 @@ abbrev pub kept : ℕ → Bool
 kept b = both (fieldBit b) (not (eqb b 22))
 
 -- those that are replaced whole: all but field 16
-abbrev pub whole : ℕ → Bool
-whole b = both (kept b) (not (eqb b 16))
+abbrev pub replaced : ℕ → Bool
+replaced b = both (kept b) (not (eqb b 16))
 
--- the persistent indicators, by the bit of their enable: 31 to 26. "over-range and sample loss (25/13, 24/12) are never held"
+-- the indicators of field 16, by the bit of their enable; the value of each stands 12 bits below. Those that persist are 31 to 26; "over-range and sample loss
+-- (25/13, 24/12) are never held"
 abbrev pub persistent : ℕ → Bool
 persistent e = both (leb 26 e) (leb e 31)
 
+abbrev pub passing : ℕ → Bool
+passing e = both (leb 24 e) (leb e 25)
+
 -- what some fields tell of a thing: its value, or nothing. The fields are those of an indicator word, each with its words: a packet's, or those that a record
--- holds. An indicator is told of where its enable is set, and its value is 1 or 0, by the bit 12 below.
-abbrev pub told : Thing → (fields : ℕ) → (words : ℕ → List ℕ) → Option (List ℕ)
-told (wholeField b) fields words = pick (both (whole b) (has fields b)) (some (words b)) none
-told (indicator e) fields words =
+-- holds. Of an indicator of field 16 they tell where its enable is set, and its value is 1 or 0.
+abbrev pub tellsOf : Thing → (indicator : ℕ) → (words : ℕ → List ℕ) → Option (List ℕ)
+tellsOf (wholeField b) indicator words = pick (both (replaced b) (has indicator b)) (some (words b)) none
+tellsOf (stateIndicator e) indicator words =
     let state = getD (words 16) 0 0 in
-    pick (both (persistent e) (both (has fields 16) (has state e))) (some (when (has state (e - 12)) 1 ∷ [])) none
-told userBits fields words = pick (has fields 16) (some (getD (words 16) 0 0 % 2 ^ 8 ∷ [])) none
+    pick (both (persistent e) (both (has indicator 16) (has state e))) (some (when (has state (e - 12)) 1 ∷ [])) none
+tellsOf userBits indicator words = pick (has indicator 16) (some (getD (words 16) 0 0 % 2 ^ 8 ∷ [])) none
 
 -- ---- a field again, from its things
 
@@ -53,8 +57,8 @@ wordBy v = getD (wordsBy v) 0 0
 abbrev pub stateBit : (Thing → Option (List ℕ)) → ℕ → Bool
 stateBit things i =
     pick (ltb i 8) (has (wordBy (things userBits)) i)
-    (pick (ltb i 20) (eqb (wordBy (things (indicator (i + 12)))) 1)
-    (isThere (things (indicator i))))
+    (pick (persistent (i + 12)) (eqb (wordBy (things (stateIndicator (i + 12)))) 1)
+    (both (persistent i) (isThere (things (stateIndicator i)))))
 
 unfoldable pub stateOf : (Thing → Option (List ℕ)) → ℕ
 stateOf things = marked 32 (stateBit things)

@@ -16,7 +16,7 @@ use Rattle.packet.specs.Read.{readOf}
 use Rattle.record.specs.Counts.{missedOf}
 use Rattle.table.specs.Identifiers.{listed}
 use Rattle.play.specs.declared.Heard.{Heard}
-use Rattle.demands.specs.Things.{Thing, kept, told, fieldBy}
+use Rattle.demands.specs.Things.{Thing, kept, tellsOf, fieldBy}
 
 -- ---- the packets of a trace
 
@@ -79,7 +79,7 @@ carries b a = both (kept b) (both (eqb (a .kind) 4) (has (indicatorOf (a .body))
 
 -- the value of a thing that a packet carries: what the fields of a Context packet tell of it
 abbrev pub valueCarried : Thing → Arrival → Option (List ℕ)
-valueCarried x a = pick (eqb (a .kind) 4) (told x (indicatorOf (a .body)) (λ b. fieldOf b (a .body))) none
+valueCarried x a = pick (eqb (a .kind) 4) (tellsOf x (indicatorOf (a .body)) (λ b. fieldOf b (a .body))) none
 
 -- the first that is there
 abbrev pub orElse : {A : Type 0} → Option A → Option A → Option A

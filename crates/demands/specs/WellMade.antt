@@ -15,7 +15,7 @@ use Rattle.table.specs.Identifiers.{declared}
 use Rattle.table.specs.Well.{wellMade}
 use Rattle.page.specs.Good.{pageGood}
 use Rattle.page.specs.PutBack.{putBackOf}
-use Rattle.demands.specs.Things.{fieldBit, persistent}
+use Rattle.demands.specs.Things.{fieldBit, persistent, passing}
 use Rattle.demands.specs.Program.{ours}
 use Rattle.demands.specs.Resumed.{SavesAs}
 
@@ -27,15 +27,17 @@ stateIn r = getD (slotOf 16 r) 0 0
 pub record RecordClauses (r : List ℕ) : Type 0 where
   -- "unheld fields .. zero", field 22 among them
   pub unheld : (b : ℕ) → fieldBit b ≡ true → has (heldOf r) b ≡ false → slotOf b r ≡ replicate (fieldSize b) 0
-  -- "and words of no stated meaning zero": every word of the layout has a meaning, but of the held indicator bits 31 and 9 to 0 have none
+  -- "and words of no stated meaning zero": of the held indicator bits 31 and 9 to 0 have none; the slot of field 22, which has none either, is zero by the clause
+  -- above
   pub meaningless : (heldOf r < 2 ^ 31) × (bits 9 0 (heldOf r) ≡ 0)
   -- "held fields obey their rules"
   pub obeys : (b : ℕ) → fieldBit b ≡ true → has (heldOf r) b ≡ true → ruleOf b (slotOf b r) ≡ true
   -- document 02, C-11: "a page that holds field 22, those bits or a value without its enable is PAGE, a table likewise TABLE", those bits being over-range and
   -- sample loss (25/13, 24/12)
   pub never : has (heldOf r) 22 ≡ false
-  pub unlit : has (heldOf r) 16 ≡ true → (e : ℕ) → 24 ≤ e → e ≤ 25 → (has (stateIn r) e ≡ false) × (has (stateIn r) (e - 12) ≡ false)
+  pub unlit : has (heldOf r) 16 ≡ true → (e : ℕ) → passing e ≡ true → (has (stateIn r) e ≡ false) × (has (stateIn r) (e - 12) ≡ false)
   pub enabled : has (heldOf r) 16 ≡ true → (e : ℕ) → persistent e ≡ true → has (stateIn r) (e - 12) ≡ true → has (stateIn r) e ≡ true
+  -- and it is a word, which is said since a list may have numbers of any size
   pub word : has (heldOf r) 16 ≡ true → stateIn r < 2 ^ 32
   -- "a count not started has zeros"
   pub unstarted : (kind : ℕ) → among kind countedTypes ≡ true → let count = countWords (orderOf kind) r in

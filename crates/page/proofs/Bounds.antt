@@ -8,10 +8,10 @@ use Rattle.table.proofs.RecordLaws as Records
 use Rattle.table.proofs.WellLaws.{layout-has, well-whole, well-few, well-record}
 use Rattle.words.specs.Pieces.{pieces}
 use Rattle.page.specs.Body.{pageBodyWords}
-use Rattle.page.specs.Layout.{offsetOf, savedBody, pageOf, pageLength, mostWords}
+use Rattle.page.specs.Layout.{offsetOf, savedBody, pageOf, pageLength, mostWords, lengthAt}
 use Rattle.words.proofs.PieceLaws.{pieces-none, pieces-next}
 use Rattle.page.proofs.BodyLaws.{good-within, body-most, body-length}
-use Rattle.page.proofs.LayoutLaws.{page-length}
+use Rattle.page.proofs.LayoutLaws.{page-length, length-at}
 
 -- pieces of bounded length
 pieces-between : (n least most : ℕ) (f : ℕ → List ℕ) → ((s : ℕ) → s < n → (least ≤ length (f s)) × (length (f s) ≤ most))
@@ -28,6 +28,12 @@ module _ (t : List ℕ) (w : wellMade t ≡ true) where
   saved-between s h =
       let l = body-length (recordAt s t) (Records.record-length s t (layout-has t s (well-whole t w) h)) (well-record t w s h) in
       (omega (arith, l), omega (arith, l, body-most (heldOf (recordAt s t)) (good-within (recordAt s t) (well-record t w s h))))
+
+  -- by the contents
+  pub body-between : (s : ℕ) → s < streamsOf t → (headWords ≤ lengthAt (pageOf t) s) × (lengthAt (pageOf t) s ≤ 87)
+  unfolding pageOf
+  body-between s h =
+      let l = length-at (streamsOf t) (savedBody t) s h in (omega (arith, l, saved-between s h .0), omega (arith, l, saved-between s h .1))
 
   pub page-between : (2 + 16 * streamsOf t ≤ pageLength t) × (pageLength t ≤ 2 + 89 * streamsOf t)
   unfolding pageLength offsetOf
