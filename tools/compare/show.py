@@ -1064,6 +1064,9 @@ def states_of_a_stream():
     said += ["changed: state (user bits 0xF0)", "tuned: RF 1 MHz"]
     column = ["0x00000000", "0x0000000F", "0x000000F0", "0x000000F0"]
     yield "nothing that persists", s.sent, said, "user bits 0xF0", column
+    s = Sender().tells(state=0x0F).tells(state=0)
+    said = ["changed: state (user bits 0x0F)", "changed: state (user bits 0x00)"]
+    yield "a word of zero at the end", s.sent, said, "user bits 0x00", ["0x0000000F", "0x00000000"]
     s = Sender().tells(state=0xFF0FF0FF).tells(warm=64).tells(state=0x80000000, warm=128, point=3)
     every = [f"{name} on" for name in INDICATORS.values()]
     first = ", ".join([*every, "user bits 0xFF"])

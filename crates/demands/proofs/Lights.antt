@@ -51,7 +51,8 @@ module _ (ids ws vs : List ℕ) (p : SameButLights ids ws vs) where
     user-same =
         word-same 8 _ _ (mod-lt _ (pow-pos 8)) (mod-lt _ (pow-pos 8))
         (λ i h.
-        has-low (word one) 8 i h ∙ p .state c i (not-passing i (λ a b. omega arith)) (not-passing (i + 12) (λ a b. omega arith)) ∙ sym (has-low (word other) 8 i h))
+        has-low (word one) 8 i h ∙ p .state c i (not-passing i (λ a b. omega arith)) (not-passing (i + 12) (λ a b. omega arith))
+        ∙ sym (has-low (word other) 8 i h))
 
     enable-same : (e : ℕ) → 26 ≤ e → has (word one) e ≡ has (word other) e
     enable-same e h = p .state c e (not-passing e (λ a b. omega arith)) (not-passing (e + 12) (λ a b. omega arith))
@@ -59,7 +60,8 @@ module _ (ids ws vs : List ℕ) (p : SameButLights ids ws vs) where
     value-same : (e : ℕ) → 26 ≤ e → e ≤ 31 → has (word one) (e - 12) ≡ has (word other) (e - 12)
     value-same e h g = p .state c (e - 12) (not-passing (e - 12) (λ a b. omega arith)) (not-passing (e - 12 + 12) (λ a b. omega arith))
 
-  told-alike : (x : Thing) → tellsOf x (indicatorOf (one .body)) (λ b. fieldOf b (one .body)) ≡ tellsOf x (indicatorOf (other .body)) (λ b. fieldOf b (other .body))
+  told-alike : (x : Thing)
+      → tellsOf x (indicatorOf (one .body)) (λ b. fieldOf b (one .body)) ≡ tellsOf x (indicatorOf (other .body)) (λ b. fieldOf b (other .body))
   told-alike (wholeField b) =
       ⊎-elim
       (λ (w : replaced b ≡ true).

@@ -106,6 +106,9 @@ module _ (r : List ℕ) (c : RecordClauses r) (h : has (heldOf r) 16 ≡ true) w
   zero-from : (k i : ℕ) → w / 2 ^ k % 2 ^ 4 ≡ 0 → k ≤ i → i < k + 4 → has w i ≡ true → spoken w i ≡ true
   zero-from k i z a b y = absurd (true-is-false (sym y ∙ reserved-zero k i w z a b))
 
+  dark : (e : ℕ) → 24 ≤ e → e ≤ 25 → (has (stateIn r) e ≡ false) × (has (stateIn r) (e - 12) ≡ false)
+  dark e a b = c .unlit h e (both-true _ _ (le-leb 24 e a) (le-leb e 25 b))
+
   state-spoken : (i : ℕ) → i < 32 → has (stateIn r) i ≡ true → spoken (stateIn r) i ≡ true
   unfolding stateRule
   state-spoken i s y =
@@ -116,14 +119,14 @@ module _ (r : List ℕ) (c : RecordClauses r) (h : has (heldOf r) 16 ≡ true) w
       (λ (a : 20 ≤ i).
       ⊎-elim (λ (b : 26 ≤ i). spoken-enable w i b ∙ y)
       (λ (b : i < 26).
-      ⊎-elim (λ (d : 24 ≤ i). absurd (true-is-false (sym y ∙ c .unlit h i (both-true _ _ (le-leb 24 i d) (le-leb i 25 (omega arith))) .0))) (λ (d : i < 24). zero-from 20 i high a d y)
-      (le-or-lt 24 i)) (le-or-lt 26 i))
+      ⊎-elim (λ (d : 24 ≤ i). absurd (true-is-false (sym y ∙ dark i d (omega arith) .0))) (λ (d : i < 24). zero-from 20 i high a d y) (le-or-lt 24 i))
+      (le-or-lt 26 i))
       (λ (a : i < 20).
       ⊎-elim
       (λ (b : 14 ≤ i).
       spoken-value w i b a ∙ c .enabled h (i + 12) (both-true _ _ (le-leb 26 (i + 12) (omega arith)) (le-leb (i + 12) 31 (omega arith))) (ap (has w) back ∙ y))
       (λ (b : i < 14).
-      ⊎-elim (λ (d : 12 ≤ i). absurd (true-is-false (sym y ∙ sym (ap (has w) back) ∙ c .unlit h (i + 12) (both-true _ _ (le-leb 24 (i + 12) (omega arith)) (le-leb (i + 12) 25 (omega arith))) .1)))
+      ⊎-elim (λ (d : 12 ≤ i). absurd (true-is-false (sym y ∙ sym (ap (has w) back) ∙ dark (i + 12) (omega arith) (omega arith) .1)))
       (λ (d : i < 12).
       ⊎-elim (λ (e : 8 ≤ i). zero-from 8 i low e d y) (λ (e : i < 8). spoken-user w i e) (le-or-lt 8 i)) (le-or-lt 12 i))
       (le-or-lt 14 i))

@@ -9,8 +9,8 @@ use Rattle.demands.specs.Trace.{Arrival, heardBy}
 use Rattle.demands.specs.Program.{Program}
 use Rattle.demands.specs.Right.{Right}
 
--- to a list, two accepted packets of one stream, type and count that carry the same fields, but for 22, and the same words in them, but for the enables and values
--- of over-range and sample loss in 16. Of 22 nothing is asked: one packet may carry it and the other not, or another number.
+-- to a list, two accepted packets of one stream, type and count that carry the same fields, but for 22, and the same words in them, but for the enables and
+-- values of over-range and sample loss in 16. Of 22 nothing is asked: one packet may carry it and the other not, or another number.
 pub record SameButLights (ids ws vs : List ℕ) : Type 0 where
   pub one : Arrival
   pub other : Arrival

@@ -27,8 +27,8 @@ stateIn r = getD (slotOf 16 r) 0 0
 pub record RecordClauses (r : List ℕ) : Type 0 where
   -- "unheld fields .. zero", field 22 among them
   pub unheld : (b : ℕ) → fieldBit b ≡ true → has (heldOf r) b ≡ false → slotOf b r ≡ replicate (fieldSize b) 0
-  -- "and words of no stated meaning zero": of the held indicator bits 31 and 9 to 0 have none; the slot of field 22, which has none either, is zero by the clause
-  -- above
+  -- "and words of no stated meaning zero": of the held indicator bits 31 and 9 to 0 have none; the slot of field 22, which has none either, is zero by the
+  -- clause above
   pub meaningless : (heldOf r < 2 ^ 31) × (bits 9 0 (heldOf r) ≡ 0)
   -- "held fields obey their rules"
   pub obeys : (b : ℕ) → fieldBit b ≡ true → has (heldOf r) b ≡ true → ruleOf b (slotOf b r) ≡ true

@@ -1,4 +1,5 @@
--- `state_good_in` meets its promise: behind the state word stand the words of the lower fields, as many as a body that holds these alone has past its first words.
+-- `state_good_in` meets its promise: behind the state word stand the words of the lower fields, as many as a body that holds these alone has past its first
+-- words.
 use Rattle.words.proofs.Kit.{refl, _≤_, arith, length, needs}
 use Rattle.words.specs.All.{all}
 use Rattle.fields.specs.Sizes.{fieldSize}

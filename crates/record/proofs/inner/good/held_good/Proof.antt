@@ -1,7 +1,6 @@
 -- `held_good` meets its promise: each return is a row of the definition. Where nothing is held, both of its tests pass.
-use Rattle.words.proofs.Kit.{_≡_, refl, sym, Bool, true, false, ℕ, eqb, ne-eqb, eq-eqb, arith}
+use Rattle.words.proofs.Kit.{_≡_, sym, true, false, ℕ, eqb, ne-eqb, eq-eqb, arith}
 use lib.Bits.{bitAnd}
-use Rattle.words.specs.Tests.{pick}
 use Rattle.words.proofs.Cases.{both-yes, both-no, pick-same}
 use Rattle.record.specs.Held.{slotMask, heldMask}
 use Rattle.record.specs.Good.{heldGood}
