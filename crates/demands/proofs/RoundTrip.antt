@@ -171,7 +171,7 @@ item-small p l ws k =
     let e : p .item + (p .field - p .item) ≡ p .field = omega arith in
     shr-lt (p .item) (p .field - p .item) (rw e (below (p .carry) (streamBits (p .carry) ws) (p .field * k) (p .field)))
 
-module _ (first second n : ℕ) (ws items events channels out : List ℕ) (f : formatBad first second ≡ false) (c : countBad first second n ≡ false)
+module _ (first second n : ℕ) (ws items events channels out : List ℕ) (f : formatBad first ≡ false) (c : countBad first second n ≡ false)
     (there : length ws ≡ wordsFor first n) (h : Parts first n ws items events channels) (room : length ws ≤ length out) where
   repacks : PackPassed first second items events channels (length out)
   unfolding packingOf

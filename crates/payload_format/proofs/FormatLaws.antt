@@ -1,6 +1,7 @@
 -- What is known of a format that FORMAT does not refuse, and of a number of items that COUNT does not refuse.
-use Rattle.words.proofs.Kit.{_≡_, refl, sym, ap, _∙_, Bool, true, false, not, [], _∷_, ℕ, _+_, _*_, _/_, _≤_, _<_, arith, ltb, leb, eqb, ltb-false, not-false}
-use native.Mathlib.Nat.{div-mul-le-self, le-div-iff-mul-le, mul-le-mul-right}
+use Rattle.words.proofs.Kit.{_≡_, refl, sym, ap, _∙_, Bool, true, false, not, [], _∷_, ℕ, _+_, _*_, _/_, _%_, _≤_, _<_, arith, ltb, leb, eqb, ltb-false, eqb-true}
+use Rattle.words.proofs.Kit.{not-false}
+use native.Mathlib.Nat.{div-mul-le-self, le-div-iff-mul-le, mul-le-mul-right, div-add-mod', zero-mod, mod-eq-of-lt}
 use borrow.Author.Tests.{leb-true}
 use Rattle.words.specs.Tests.{pick, either}
 use Rattle.words.specs.declared.Check.{Check}
@@ -17,7 +18,7 @@ use Rattle.payload_format.specs.Format.{linkEfficient, formatBad, carrie
 use Rattle.payload_format.specs.inner.Legal.{Legal}
 use Rattle.payload_format.specs.inner.Checked.{itemsCheck}
 use Rattle.bitstream.specs.Carried.{needed}
-use Rattle.payload_format.specs.Count.{countBad, wordsFor, neededList, neededOf}
+use Rattle.payload_format.specs.Count.{groupOf, countBad, wordsFor, neededList, neededOf}
 
 -- ---- the bits that carry fields
 pub field-some : (first : ℕ) → 1 ≤ packingSize first
@@ -62,9 +63,9 @@ pub carry-most : (first : ℕ) → carriedBits first ≤ 32
 carry-most first = carrying first .most
 
 -- ---- where FORMAT is not given
-format-ok : (first second : ℕ) → formatBad first second ≡ false → formatOk first ≡ true
+format-ok : (first : ℕ) → formatBad first ≡ false → formatOk first ≡ true
 unfolding formatBad
-format-ok first second e = not-false (formatOk first) (either-passed (not (formatOk first)) _ e .0)
+format-ok first e = not-false (formatOk first) (either-passed (not (formatOk first)) _ e .0)
 
 -- the sizes together do not exceed the packing field
 sizes-fit : (first : ℕ) → formatOk first ≡ true → itemSize first + eventSize first + channelSize first ≤ packingSize first
@@ -76,9 +77,9 @@ sizes-fit first e =
     (both-right (not (eqb (realComplex first) 3)) _
     (both-right (eqb (bits 15 12 first) 0) _ e))))
 
-pub legal : (first second : ℕ) → formatBad first second ≡ false → Legal (packingOf first)
+pub legal : (first : ℕ) → formatBad first ≡ false → Legal (packingOf first)
 unfolding packingOf
-legal first second e =
+legal first e =
     let c = carrying first in
     record {
       some = c .some;
@@ -86,7 +87,7 @@ legal first second e =
       narrow = c .narrow;
       wide = c .wide;
       item = omega arith;
-      parts = sizes-fit first (format-ok first second e);
+      parts = sizes-fit first (format-ok first e);
       few = field-most first;
       event = omega arith;
       channel = omega arith;
@@ -97,6 +98,24 @@ pub count-few : (first second n : ℕ) → countBad first second n ≡ false →
 unfolding countBad
 count-few first second n e = ltb-false 2097120 n (either-passed (ltb 2097120 n) _ e .0)
 
+-- n is a number of whole groups
+pub count-whole : (first second n : ℕ) → countBad first second n ≡ false → n % groupOf first second ≡ 0
+unfolding countBad
+count-whole first second n e = eqb-true (n % groupOf first second) 0 (not-false _ (either-passed (ltb 2097120 n) _ e .1))
+
+pub count-groups : (first second n : ℕ) → countBad first second n ≡ false → n / groupOf first second * groupOf first second ≡ n
+count-groups first second n e = omega (arith, div-add-mod' n (groupOf first second), count-whole first second n e)
+
+-- no items are a legal number of any format; where a group has more than 2,097,120 they are the only one
+pub count-none : (first second : ℕ) → countBad first second 0 ≡ false
+unfolding countBad
+count-none first second = rw (zero-mod (groupOf first second)) refl
+
+pub group-large : (first second n : ℕ) → 2097120 < groupOf first second → countBad first second n ≡ false → n ≡ 0
+group-large first second n large e =
+    let few : n < groupOf first second = omega (arith, count-few first second n e) in
+    sym (mod-eq-of-lt few) ∙ count-whole first second n e
+
 -- the words that a packing needs
 pub words-for : (first n m : ℕ) (p : Packing) → p ≡ packingOf first → m ≡ needed (p .carry) (p .field) n → m ≡ wordsFor first n
 unfolding packingOf wordsFor
@@ -106,10 +125,10 @@ words-for first n m p q e = e ∙ rw q
 module _ (first second n : ℕ) where
   -- a list that begins with FORMAT and COUNT of n, and has another test of COUNT beside it: what `items_check` answers, and then the rest
   pub items-first : {A : Type 0} (more : Bool) (rest : Refusals) (answer : Outcome A)
-      → firstGiven ((FORMAT, formatBad first second) ∷ (COUNT, either (countBad first second n) more) ∷ rest) answer
+      → firstGiven ((FORMAT, formatBad first) ∷ (COUNT, either (countBad first second n) more) ∷ rest) answer
       ≡ after (itemsCheck first second n) (firstGiven ((COUNT, more) ∷ rest) answer)
   unfolding itemsCheck
-  items-first more rest answer = by-tests (formatBad first second) (countBad first second n)
+  items-first more rest answer = by-tests (formatBad first) (countBad first second n)
     where
       by-tests : (f c : Bool) → firstGiven ((FORMAT, f) ∷ (COUNT, either c more) ∷ rest) answer
           ≡ after (firstGiven {A = Unit} ((FORMAT, f) ∷ (COUNT, c) ∷ []) (accepted tt)) (firstGiven ((COUNT, more) ∷ rest) answer)
@@ -121,7 +140,7 @@ module _ (first second n : ℕ) where
     -- what is let through: a legal format, and a number of items that is not too large
     pub items-legal : answer ≡ found.Fine → Legal (packingOf first)
     unfolding itemsCheck
-    items-legal fine = legal first second (first-passed (neededList first second n) _ tt (sym e ∙ ap checked fine) .0 .0)
+    items-legal fine = legal first (first-passed (neededList first second n) _ tt (sym e ∙ ap checked fine) .0 .0)
 
     pub items-few : answer ≡ found.Fine → n ≤ 2097120
     unfolding itemsCheck

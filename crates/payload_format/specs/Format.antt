@@ -2,7 +2,7 @@
 use Rattle.words.specs.Kit.{ℕ, _+_, _*_, _/_, Bool, not, eqb, ltb, leb}
 use Rattle.words.specs.Tests.{pick, both, either}
 use Rattle.words.specs.Word.{bits, has}
-use Rattle.fields.specs.Format.{eventSize, channelSize, packingSize, itemSize, formatOk}
+use Rattle.fields.specs.Format.{realComplex, eventSize, channelSize, packingSize, itemSize, formatOk}
 use Rattle.payload_format.specs.declared.inner.Packing.{Packing}
 
 -- ---- the parts
@@ -23,19 +23,20 @@ repeatSize second = bits 31 16 second + 1
 abbrev pub vectorSize : ℕ → ℕ
 vectorSize second = bits 15 0 second + 1
 
+-- how many components a sample has: "2 (complex) or 1 (real)"
+unfoldable pub componentCount : ℕ → ℕ
+componentCount first = pick (eqb (realComplex first) 0) 1 2
+
 -- ---- FORMAT
 
 -- "a processing-efficient field of 33 to 63 bits"
 unfoldable pub wideProcessing : ℕ → Bool
 wideProcessing first = both (not (linkEfficient first)) (both (ltb 32 (packingSize first)) (ltb (packingSize first) 64))
 
--- FORMAT is given when: "rule of field 15 broken, repeat not 1, bit 23 set, a processing-efficient field of 33 to 63 bits"
-unfoldable pub formatBad : ℕ → ℕ → Bool
-formatBad first second =
-    either (not (formatOk first))
-    (either (not (eqb (repeatSize second) 1))
-    (either (componentRepeat first)
-    (wideProcessing first)))
+-- FORMAT is given when: "rule of field 15 broken, .. a processing-efficient field of 33 to 63 bits". Document 02, C-12: "FORMAT no longer covers repeat or
+-- bit 23", so the second word has no say in it.
+unfoldable pub formatBad : ℕ → Bool
+formatBad first = either (not (formatOk first)) (wideProcessing first)
 
 -- ---- how fields lie in words
 

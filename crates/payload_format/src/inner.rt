@@ -2,8 +2,9 @@
 ghost use Rattle.words.specs.Kit.{_≡_, _≤_, _<_};
 ghost use Rattle.words.specs.Outcome.{checked};
 ghost use Rattle.bitstream.specs.Carried.{needed};
-ghost use Rattle.payload_format.specs.Format.{linkEfficient, componentRepeat, repeatSize, vectorSize, wideProcessing, formatBad, carriedBits, packingOf};
-ghost use Rattle.payload_format.specs.Count.{unitOf, countBad, wordsFor};
+ghost use Rattle.payload_format.specs.Format.{linkEfficient, componentRepeat, repeatSize, vectorSize, componentCount, wideProcessing};
+ghost use Rattle.payload_format.specs.Format.{formatBad, carriedBits, packingOf};
+ghost use Rattle.payload_format.specs.Count.{groupOf, countBad, wordsFor};
 ghost use Rattle.payload_format.specs.inner.Checked.{itemsCheck};
 use fields::inner::channel_size;
 use fields::inner::event_size;
@@ -30,24 +31,34 @@ fn link_efficient(first: u32) -> bool
 }
 
 // Whether a format has bit 23, component repeat.
-fn component_repeat(first: u32) -> bool
+pub fn component_repeat(first: u32) -> bool
     ensures { λ r. ⌜ r ≡ componentRepeat first ⌝ }
 {
     first / 0x80_0000 % 2 == 1
 }
 
-// How often each item is repeated.
-fn repeat_size(second: u32) -> u32
+// How many samples of a channel, or components of one kind, follow each other.
+pub fn repeat_size(second: u32) -> u32
     ensures { λ r. ⌜ r ≡ repeatSize second ⌝ }
 {
     second / 0x1_0000 % 0x1_0000 + 1
 }
 
-// How many items a vector has.
-fn vector_size(second: u32) -> u32
+// How many channels a sample vector has.
+pub fn vector_size(second: u32) -> u32
     ensures { λ r. ⌜ r ≡ vectorSize second ⌝ }
 {
     second % 0x1_0000 + 1
+}
+
+// How many components a sample has.
+pub fn component_count(first: u32) -> u32
+    ensures { λ r. ⌜ (r ≡ componentCount first) × (0 < r) × (r ≤ 2) ⌝ }
+{
+    if real_complex(first) == 0 {
+        return 1;
+    }
+    2
 }
 
 // Whether a format is processing-efficient with a field of 33 to 63 bits.
@@ -62,19 +73,13 @@ fn wide_processing(first: u32) -> bool
 }
 
 // Whether a format is refused.
-fn format_bad(first: u32, second: u32) -> bool
-    ensures { λ r. ⌜ r ≡ formatBad first second ⌝ }
+fn format_bad(first: u32) -> bool
+    ensures { λ r. ⌜ r ≡ formatBad first ⌝ }
 {
-    if repeat_size(second) != 1 {
-        return true;
-    }
     if !format_ok(first) {
         return true;
     }
-    if wide_processing(first) {
-        return true;
-    }
-    component_repeat(first)
+    wide_processing(first)
 }
 
 // How many bits of each word carry packing fields.
@@ -104,15 +109,12 @@ pub fn packing_of(first: u32) -> Packing
     }
 }
 
-// What the number of items is a multiple of.
-fn unit(first: u32, second: u32) -> usize
-    ensures { λ r. ⌜ (r ≡ unitOf first second) × (0 < r) ⌝ }
+// The group of items that the number of items is a multiple of: up to 2 ^ 33 items, which 64 bits hold.
+pub fn group(first: u32, second: u32) -> usize
+    ensures { λ r. ⌜ (r ≡ groupOf first second) × (0 < r) ⌝ }
 {
-    let vector = vector_size(second) as usize;
-    if real_complex(first) == 0 {
-        return vector;
-    }
-    vector * 2
+    let samples = vector_size(second) as usize * repeat_size(second) as usize;
+    samples * component_count(first) as usize
 }
 
 // Whether a number of items is refused.
@@ -122,7 +124,7 @@ fn count_bad(first: u32, second: u32, n: usize) -> bool
     if 2_097_120 < n {
         return true;
     }
-    n % unit(first, second) != 0
+    n % group(first, second) != 0
 }
 
 // The words that n fields of f bits take, where c bits of each word carry them. The division is in 32 bits, which compiles to fewer instructions.
@@ -147,7 +149,7 @@ pub fn words_for(first: u32, n: usize) -> usize
 pub fn items_check(first: u32, second: u32, n: usize) -> Check
     ensures { λ r. ⌜ checked r ≡ itemsCheck first second n ⌝ }
 {
-    if format_bad(first, second) {
+    if format_bad(first) {
         return Check::Refused(words::FORMAT);
     }
     if count_bad(first, second, n) {

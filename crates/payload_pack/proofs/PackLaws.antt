@@ -68,7 +68,7 @@ module _ (first second : ℕ) (items events channels : List ℕ) (room : ℕ) (a
 
 -- ---- what `packCheck` lets through
 pub record PackPassed (first second : ℕ) (items events channels : List ℕ) (room : ℕ) : Type 0 where
-  pub format : formatBad first second ≡ false
+  pub format : formatBad first ≡ false
   pub count : countBad first second (length items) ≡ false
   pub places : wordsFor first (length items) ≤ room
   pub items-fit : Fitting (itemSize first) (length items) items
@@ -102,7 +102,7 @@ module _ (first second : ℕ) (items events channels : List ℕ) (room : ℕ) wh
       × Fitting (packingOf first .event) (length items) events × Fitting (packingOf first .channel) (length items) channels
   unfolding packingOf wordsFor
   packable k = (
-    record { legal = legal first second (k .format); few = count-few first second (length items) (k .count); room = k .places },
+    record { legal = legal first (k .format); few = count-few first second (length items) (k .count); room = k .places },
     k .items-fit,
     k .events-fit,
     k .channels-fit,

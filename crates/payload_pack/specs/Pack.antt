@@ -32,7 +32,7 @@ valueBad first items events channels =
 abbrev pub packList : (first second : ℕ) (items events channels : List ℕ) (room : ℕ) → Refusals
 packList first second items events channels room =
     let n = length items in
-    (FORMAT, formatBad first second)
+    (FORMAT, formatBad first)
     -- "wrong number of items"; "the three inputs have n entries each"
     ∷ (COUNT, either (countBad first second n) (either (not (eqb (length events) n)) (not (eqb (length channels) n))))
     ∷ (VALUE, valueBad first items events channels)

@@ -93,7 +93,7 @@ abbrev pub unpackCheck : (first second n given items events channels : ℕ) → 
 unpackCheck first second n given items events channels = firstGiven (unpackList first second n given items events channels) (accepted tt)
 
 pub record UnpackPassed (first second n given room-items room-events room-channels : ℕ) : Type 0 where
-  pub format : formatBad first second ≡ false
+  pub format : formatBad first ≡ false
   pub count : countBad first second n ≡ false
   pub there : given ≡ wordsFor first n
   pub items : n ≤ room-items

@@ -30,7 +30,7 @@ unpacked p n ws b = record {
 -- the refusals, by how many words there are and how many places in each buffer
 abbrev pub unpackList : (first second n given items events channels : ℕ) → Refusals
 unpackList first second n given items events channels =
-    (FORMAT, formatBad first second)
+    (FORMAT, formatBad first)
     -- "wrong number of items or words"
     ∷ (COUNT, either (countBad first second n) (not (eqb given (wordsFor first n))))
     -- "a buffer to be written is too short"

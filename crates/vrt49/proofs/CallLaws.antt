@@ -10,6 +10,7 @@ use Rattle.packet.specs.Read.{readBy}
 use Rattle.packet_trailer.specs.Trailer.{trailerWordOf}
 use Rattle.payload_format.specs.Count.{neededOf}
 use Rattle.payload_format.specs.Signs.{signedOf}
+use Rattle.payload_order.specs.Numbering.{coordinatesOf, itemOf}
 use Rattle.payload_pack.specs.Pack.{packOf}
 use Rattle.payload_unpack.specs.Unpack.{unpackOf}
 use Rattle.table.specs.Start.{startOf}
@@ -64,7 +65,7 @@ abbrev pub _and_ : {A B : Type 0} → A → B → A × B
 a and b = (a, b)
 
 listed : EachForC Listed callsForC
-unfolding readBy writeWordsOf trailerWordOf contextOf unpackOf packOf neededOf signedOf startOf playOf runOf lengthOf saveOf putBackOf readingOf readingsOf
+unfolding readBy writeWordsOf trailerWordOf contextOf unpackOf packOf neededOf coordinatesOf itemOf signedOf startOf playOf runOf lengthOf saveOf putBackOf readingOf readingsOf
     heldWordsOf identityOf typeCountsOf ownTableOf changedOf
 listed =
     (λ h. ((_, refl), refl, search needs))
@@ -74,6 +75,8 @@ listed =
     and tt
     and (λ h. ((_, refl), refl, search needs))
     and (λ h. ((_, refl), refl, tt))
+    and (λ h. ((_, refl), refl, search needs))
+    and (λ h. ((_, refl), refl, search needs))
     and (λ h. ((_, refl), refl, search needs))
     and (λ h. ((_, refl), refl, search needs))
     and (λ h. ((_, refl), refl, search needs))

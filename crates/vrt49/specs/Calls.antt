@@ -14,6 +14,7 @@ use Rattle.packet.specs.Read.{readList, readOf}
 use Rattle.packet_trailer.specs.Trailer.{trailerOf, trailerList, trailerWordOf}
 use Rattle.payload_format.specs.Count.{neededList, neededOf}
 use Rattle.payload_format.specs.Signs.{signedList, signedOf}
+use Rattle.payload_order.specs.Numbering.{coordinatesList, coordinatesOf, itemList, itemOf}
 use Rattle.payload_pack.specs.Pack.{packList, packOf}
 use Rattle.payload_unpack.specs.Unpack.{Buffers, unpackList, unpackOf}
 use Rattle.table.specs.Start.{startList, startOf}
@@ -32,6 +33,7 @@ use Rattle.panel_streams.specs.OwnTable.{ownTableList, ownTableOf}
 use Rattle.panel_streams.specs.Changed.{changedList, changedOf}
 use Rattle.vrt49.specs.Answers.{Tells, plain, left, beside}
 use Rattle.vrt49.specs.Packets.{packetValues, trailerValues, foundValues, writeWordsList, writeWordsOf}
+use Rattle.vrt49.specs.Payloads.{coordinatesValues, coordinatesIn}
 use Rattle.vrt49.specs.Tables.{heardValues, reachedValues}
 use Rattle.vrt49.specs.Readings.{readingValues, readingsValues}
 use Rattle.vrt49.specs.Streams.{identityValues, countValues}
@@ -128,6 +130,17 @@ abbrev pub forWordsNeeded : CallForC
 forWordsNeeded =
     tells (λ (h : ℕ × ℕ × ℕ × ℕ). neededOf (h .0) (h .1) (h .2)) plain (λ h. h .3) (λ h. neededList (h .0) (h .1) (h .2)) (FORMAT ∷ COUNT ∷ [])
 
+-- the numbering of items (document 02, C-12): FORMAT, COUNT, VALUE
+abbrev pub forCoordinatesOf : CallForC
+forCoordinatesOf =
+    tells (λ (h : ℕ × ℕ × ℕ × ℕ × List ℕ). coordinatesOf (h .0) (h .1) (h .2) (h .3)) coordinatesValues (λ h. h .4)
+    (λ h. coordinatesList (h .0) (h .1) (h .2) (h .3)) (FORMAT ∷ COUNT ∷ VALUE ∷ [])
+
+abbrev pub forItemAt : CallForC
+forItemAt =
+    tells (λ (h : ℕ × ℕ × ℕ × List ℕ × ℕ). itemOf (h .0) (h .1) (h .2) (coordinatesIn (h .3))) plain (λ h. h .4)
+    (λ h. itemList (h .0) (h .1) (h .2) (coordinatesIn (h .3))) (FORMAT ∷ COUNT ∷ VALUE ∷ [])
+
 abbrev pub forSigned : CallForC
 forSigned = tells (λ (h : ℕ × ℕ × ℤ). signedOf (h .0) (h .1)) plain (λ h. h .2) (λ h. signedList (h .0) (h .1)) (FORMAT ∷ VALUE ∷ [])
 
@@ -205,7 +218,7 @@ forChanged =
 abbrev pub callsForC : List {1} CallForC
 callsForC =
     forRead ∷ forWrite ∷ forTrailerParts ∷ forTrailerWord ∷ forFieldCount ∷ forCheckBody ∷ forFind
-    ∷ forUnpack ∷ forPack ∷ forWordsNeeded ∷ forSigned
+    ∷ forUnpack ∷ forPack ∷ forWordsNeeded ∷ forCoordinatesOf ∷ forItemAt ∷ forSigned
     ∷ forStart ∷ forWellMade ∷ forPlay ∷ forPlayRun
     ∷ forPageLength ∷ forSave ∷ forPutBack
     ∷ forReading ∷ forReadings ∷ forHeldWords

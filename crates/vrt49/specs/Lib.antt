@@ -4,6 +4,8 @@
 pub mod Answers
 -- packets, trailers and the fields of a body
 pub mod Packets
+-- packed samples: the coordinates of an item as words
+pub mod Payloads
 -- tables of streams
 pub mod Tables
 -- readings for the panel

@@ -18,6 +18,8 @@ pub use packets::vrt49_write;
 pub use pages::vrt49_page_length;
 pub use pages::vrt49_put_back;
 pub use pages::vrt49_save;
+pub use payloads::vrt49_coordinates_of;
+pub use payloads::vrt49_item_at;
 pub use payloads::vrt49_pack;
 pub use payloads::vrt49_signed;
 pub use payloads::vrt49_unpack;

@@ -11,7 +11,7 @@ returns c = search cases
 
 returns-2 : tie.Need-returns-2
 unfolding countBad
-returns-2 c = rw (← (c .unit .ensures .0)) (search cases)
+returns-2 c = rw (← (c .group .ensures .0)) (search cases)
 
 pub count-bad-spec : {M : Type 1} → statement M
 count-bad-spec =

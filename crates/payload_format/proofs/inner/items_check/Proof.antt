@@ -8,7 +8,7 @@ use Rattle.payload_format.specs.inner.Checked.{itemsCheck}
 use Rattle.payload_format.proofs.inner.items_check.Statement.{statement}
 use Rattle.payload_format.proofs.inner.items_check.Tie as tie
 
-module _ (first second n : ℕ) (bad : Bool) (b : bad ≡ formatBad first second) where
+module _ (first second n : ℕ) (bad : Bool) (b : bad ≡ formatBad first) where
   format-refused : bad ≡ true → refused FORMAT ≡ itemsCheck first second n
   unfolding itemsCheck
   format-refused e = rw (← b, e)

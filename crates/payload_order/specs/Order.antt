@@ -1,0 +1,40 @@
+-- Document 02, C-12: "Add both orders (section 6.1.6.3 of source document 003) and the numbering from an item to time, channel, component and repeat and back".
+-- Items are numbered from 0 as they stand in the payload. Here v is the vector size, r the repeat, c the number of components of a sample, and `apart`
+-- is bit 23 of the format: the components of repeated samples stand apart.
+use Rattle.words.specs.Kit.{ℕ, _+_, _*_, _/_, _%_, _<_, Bool}
+use Rattle.words.specs.Tests.{pick}
+use Rattle.payload_order.specs.declared.Coordinates.{Coordinates}
+
+-- A run is what one channel has in a group: r samples of c components, so r * c items. Bit 23 zero, R. 6.1.6.3-8: "the number of Data Samples specified for each
+-- Channel by the Repeat Count" follow each other, and R. 6.1.6.3-3, -4: a sample's second component follows its first at once. Bit 23 one, R. 6.1.6.3-6, -7: "the
+-- number of "I" Data Items specified by the Repeat Count", "followed by the corresponding "Q" Data Items similarly arranged".
+abbrev pub withinRun : Bool → (r c component repeat : ℕ) → ℕ
+withinRun apart r c component repeat = pick apart (component * r + repeat) (repeat * c + component)
+
+-- The item of coordinates. D. 6.1.6.3-4: a channel's run stands before that of "the next Channel"; D. 6.1.6.5-1: "the entire data payload can be described as a
+-- sequence of identical" groups.
+unfoldable pub itemNumber : Bool → (v r c : ℕ) → Coordinates → ℕ
+itemNumber apart v r c at = (at .time * v + at .channel) * (r * c) + withinRun apart r c (at .component) (at .repeat)
+
+-- The coordinates of an item, from the same sums: which run it stands in, and where in it.
+unfoldable pub itemCoordinates : Bool → (v r c : ℕ) → ℕ → Coordinates
+itemCoordinates apart v r c item =
+    let run = item / (r * c) in
+    let within = item % (r * c) in
+    record {
+      time = run / v;
+      channel = run % v;
+      component = pick apart (within / r) (within % c);
+      repeat = pick apart (within % r) (within / c);
+    }
+
+-- the box of coordinates that a payload of so many groups has
+pub record Inside (groups v r c : ℕ) (at : Coordinates) : Type 0 where
+  pub time : at .time < groups
+  pub channel : at .channel < v
+  pub component : at .component < c
+  pub repeat : at .repeat < r
+
+-- A sample's place in time among those of its channel, from 0: "several samples of one channel" make a group (C-12).
+abbrev pub instant : ℕ → Coordinates → ℕ
+instant r at = at .time * r + at .repeat
