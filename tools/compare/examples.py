@@ -124,11 +124,10 @@ def wrong_with_files():
 
 def in_order(first):
     """Channel, instant and component of each item of the payloads of `samples`, in their order: two groups of two channels, three samples of each, I and Q."""
-    for time in range(2):
-        for channel in range(2):
-            within = [(repeat, component) for component in range(2) for repeat in range(3)] if first >> 23 & 1 else \
-                     [(repeat, component) for repeat in range(3) for component in range(2)]
-            yield from ((channel, 3 * time + repeat, component) for repeat, component in within)
+    within = [(repeat, component) for repeat in range(3) for component in range(2)]
+    if first >> 23 & 1:
+        within = [(repeat, component) for component in range(2) for repeat in range(3)]
+    return [(channel, 3 * time + repeat, component) for time in range(2) for channel in range(2) for repeat, component in within]
 
 
 def samples_of(first, words):
