@@ -32,7 +32,7 @@ static const u32 small[] = {1u << 29 | 1 << 27 | 1 << 24 | 1 << 23 | 1 << 21 | 1
 static const u32 large[] = {1u << 29 | 1 << 27 | 1 << 23 | 1 << 21 | 1 << 20 | 1 << 19, 0x10001, 2, 0xfff20003, 4, 0x7fff0001, 0x01000007, 8, 0x00010009, 10, 0xff80ff80};
 // Formats of 12-bit items: link-efficient, and processing-efficient in fields of 16 bits.
 static const u32 link = 1u << 31 | 11 << 6 | 11, processing = 15 << 6 | 11;
-// A format of complex 16-bit items in vectors of 4, with a repeat of 4: a group has 32 items. Bit 23 makes it one of component repeat.
+// A format of complex 16-bit items in vectors of 4, with a repeat of 4: a group has 32 items. Bit 23 makes it one of component repeating.
 static const u32 complex16 = 1u << 31 | 1 << 29 | 15 << 6 | 15, fours = 3 << 16 | 3;
 static _Alignas(64) u32 t[1 + RECORD * 32]; // the count of memset hangs on the place
 static u32 own[1 + RECORD], ids[32], a[4];
