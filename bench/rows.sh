@@ -10,7 +10,7 @@ n=1000
 built() { # FILE ..: those of C by hand
     $CC -O2 -static -DSIDE=c "$here/drive.c" "$@" -o "$work/c"
     $CC -O2 -static -DSIDE=vrt49 "$here/drive.c" "$LIB" -o "$work/r"
-    echo 'call          of                                  C by hand    proved  ratio  results'
+    echo 'call           of                                  C by hand    proved  ratio  results'
 }
 counted() { "$INSNCOUNT" "$@" 2>&1 | sed -n 's/^instructions //p'; }
 cost() { # PROGRAM CALL KIND SIZE: the instructions of n calls, without those of the set-up and of the choice of the call
@@ -21,5 +21,5 @@ row() { # CALL KIND SIZE WHAT
     c_says=$("$INSNCOUNT" "$work/c" "$1" "$2" "$3" $n 2>/dev/null) r_says=$("$INSNCOUNT" "$work/r" "$1" "$2" "$3" $n 2>/dev/null)
     [ "$c_says" = "$r_says" ] && same=equal || same=DIFFER
     case $r_says in '0 '*) ;; *) same=REFUSED ;; esac
-    awk -v k="$1" -v w="$4" -v c="$c" -v r="$r" -v n=$n -v s=$same 'BEGIN { printf "%-13s %-34s %10.1f %9.1f  %.3f  %s\n", k, w, c / n, r / n, r / c, s }'
+    awk -v k="$1" -v w="$4" -v c="$c" -v r="$r" -v n=$n -v s=$same 'BEGIN { printf "%-14s %-34s %10.1f %9.1f  %.3f  %s\n", k, w, c / n, r / n, r / c, s }'
 }

@@ -1,7 +1,8 @@
 /* vrt49.h: the calls of libvrt49: VITA 49.0 packets, payloads, tables, pages and readings.
 
-   The rules are those of document 01, the scope that the owner of this project wrote:
-   docs/PACKET.md, docs/LAYOUT.md and docs/MANUAL.md say them in the project's words.
+   The rules are those of document 01, the scope that the owner of this project wrote, as the change
+   requests of document 02 have changed it: docs/PACKET.md, docs/LAYOUT.md and docs/MANUAL.md say
+   them in the project's words.
 
    A call answers a number: VRT49_OK, which is 0, where it is accepted, and only there; else the
    number of the first refusal that applies (enum vrt49_refusal). vrt49_field_count and
@@ -37,7 +38,7 @@
 #include <stdint.h>
 
 #define VRT49_VERSION_MAJOR 0
-#define VRT49_VERSION_MINOR 13
+#define VRT49_VERSION_MINOR 14
 #define VRT49_VERSION_PATCH 0
 
 #ifdef __cplusplus
@@ -62,10 +63,10 @@ enum vrt49_refusal {
     VRT49_STREAM = 11,   /* no identifier, one not declared, or a stream number not in the table */
     VRT49_LIST = 12,     /* 0 or over 32 identifiers, or one twice */
     VRT49_ROOM = 13,     /* a buffer to be written is too short */
-    VRT49_VALUE = 14,    /* a number does not fit its bits or type, or a bit is not 30 to 10 */
+    VRT49_VALUE = 14,    /* a number does not fit its bits, type or range; a bit is not 30 to 10 */
     VRT49_SIZE = 15,     /* a packet to be written, or a page, exceeds 65,535 words */
     VRT49_FORMAT = 16,   /* the payload format is refused, or an item width is outside 1 to 64 */
-    VRT49_COUNT = 17,    /* wrong number of items or words */
+    VRT49_COUNT = 17,    /* wrong number of items, which come in whole groups, or of words */
     VRT49_TABLE = 18,    /* table not well made */
     VRT49_PAGE = 19      /* page not well made */
 };
@@ -267,6 +268,14 @@ typedef struct vrt49_place {
     size_t words;
 } vrt49_place;
 
+/* Where an item stands in the order of a payload: of which sample it is, and which part of it. */
+typedef struct vrt49_coordinates {
+    uint32_t time;      /* the group, from 0; vrt49_instant gives the sample's own instant */
+    uint32_t channel;   /* place in the sample vector, from 0 */
+    uint32_t component; /* 0: real, I or amplitude; 1: Q or phase */
+    uint32_t repeat;    /* which sample of the channel within the group, from 0 */
+} vrt49_coordinates;
+
 /* What playing says of one packet. */
 typedef struct vrt49_heard {
     uint32_t size;    /* words of the packet */
@@ -321,6 +330,7 @@ VRT49_ASSERT(vrt49_packet_is_18_words, sizeof(vrt49_packet) == 18 * sizeof(uint3
 VRT49_ASSERT(vrt49_parts_is_15_words, sizeof(vrt49_parts) == 15 * sizeof(uint32_t));
 VRT49_ASSERT(vrt49_trailer_is_4_words, sizeof(vrt49_trailer) == 4 * sizeof(uint32_t));
 VRT49_ASSERT(vrt49_place_is_3_sizes, sizeof(vrt49_place) == 3 * sizeof(size_t));
+VRT49_ASSERT(vrt49_coordinates_is_4_words, sizeof(vrt49_coordinates) == 4 * sizeof(uint32_t));
 VRT49_ASSERT(vrt49_heard_is_4_words, sizeof(vrt49_heard) == 4 * sizeof(uint32_t));
 VRT49_ASSERT(vrt49_entry_is_5_words, sizeof(vrt49_entry) == 5 * sizeof(uint32_t));
 VRT49_ASSERT(vrt49_count_is_4_words, sizeof(vrt49_count) == 4 * sizeof(uint32_t));
@@ -355,7 +365,20 @@ uint32_t vrt49_check_body(const uint32_t *body, size_t n);
 /* Where the field of a bit stands in a type 4 body; nothing is refused. */
 uint32_t vrt49_find(const uint32_t *body, size_t body_n, uint32_t bit, vrt49_place *answer);
 
-/* ---- packed samples; a format is the two words of field 15 */
+/* ---- packed samples; a format is the two words of field 15
+
+   FORMAT: the rule of field 15 is broken, or a processing-efficient field has 33 to 63 bits. COUNT:
+   n is over VRT49_ITEMS_MAX, or no multiple of the group, V * R * C. V is the vector size (second
+   word 15-0, plus 1), R the repeat (31-16, plus 1), and C the items of a sample: 1 where they are
+   real (first word 30-29 are 0), else 2. A group over VRT49_ITEMS_MAX is legal with n of 0 alone.
+
+   Items are packed and unpacked in the order of the payload, and none is moved. That order is
+
+       item = ((time * V + channel) * R + repeat) * C + component    bit 23 of the first word is 0
+       item = ((time * V + channel) * C + component) * R + repeat    bit 23 of the first word is 1
+
+   so where R is 1 or samples are real there is one order. vrt49_coordinates_of and vrt49_item_at
+   lead from an item to its coordinates and back. */
 
 /* Unpacks n items, their event tags and channel tags: FORMAT, COUNT, ROOM. The first n entries of
    items, events and channels are written. */
@@ -371,6 +394,16 @@ uint32_t vrt49_pack(uint32_t first, uint32_t second, const uint64_t *items, size
 
 /* The words that n items need: FORMAT, COUNT. length: how many. */
 uint32_t vrt49_words_needed(uint32_t first, uint32_t second, size_t n, size_t *length);
+
+/* The coordinates of an item of a payload of n items: FORMAT, COUNT, VALUE (it is not below n). */
+uint32_t vrt49_coordinates_of(uint32_t first, uint32_t second, size_t n, size_t item,
+                              vrt49_coordinates *coordinates);
+
+/* The item that has these coordinates, of a payload of n items: FORMAT, COUNT, VALUE (a time not
+   below n over the group, a channel not below V, a component not below C, a repeat not below R).
+   vrt49_sample_at gives the coordinates of a channel's sample at an instant. */
+uint32_t vrt49_item_at(uint32_t first, uint32_t second, size_t n,
+                       const vrt49_coordinates *coordinates, size_t *item);
 
 /* The two's complement value of an item of 1 to 64 bits: FORMAT, VALUE. */
 uint32_t vrt49_signed(uint32_t width, uint64_t item, int64_t *value);
@@ -454,7 +487,7 @@ uint32_t vrt49_changed(const uint32_t *before, size_t before_n, size_t before_st
                        const uint32_t *after, size_t after_n, size_t after_stream,
                        uint32_t *fields);
 
-/* ---- the same with names: each calls one of the above, or puts words together */
+/* ---- the same with names: each calls one of the above, or works a value out of words */
 
 /* The parts that write a packet again as it was read, with the body's words. */
 static inline vrt49_parts vrt49_parts_of(const vrt49_packet *packet)
@@ -482,6 +515,34 @@ static inline vrt49_parts vrt49_parts_of(const vrt49_packet *packet)
 static inline uint64_t vrt49_fraction(const vrt49_packet *packet)
 {
     return (uint64_t)packet->fraction_high << 32 | packet->fraction_low;
+}
+
+/* The items of a group of a format, 1 to 2^33: the number that n is a multiple of. */
+static inline uint64_t vrt49_group(uint32_t first, uint32_t second)
+{
+    uint64_t vector = (second & 0xFFFF) + 1, repeat = (second >> 16) + 1;
+    return vector * repeat * ((first >> 29 & 3) == 0 ? 1 : 2);
+}
+
+/* The instant of a sample within its packet: how many samples of its channel come before it. */
+static inline uint64_t vrt49_instant(const vrt49_coordinates *coordinates, uint32_t second)
+{
+    uint64_t repeat = (second >> 16) + 1;
+    return coordinates->time * repeat + coordinates->repeat;
+}
+
+/* The coordinates of a component of a channel's sample at an instant; the counterpart of
+   vrt49_instant. */
+static inline vrt49_coordinates vrt49_sample_at(uint32_t second, uint32_t instant, uint32_t channel,
+                                                uint32_t component)
+{
+    uint32_t repeat = (second >> 16) + 1;
+    vrt49_coordinates coordinates;
+    coordinates.time = instant / repeat;
+    coordinates.channel = channel;
+    coordinates.component = component;
+    coordinates.repeat = instant % repeat;
+    return coordinates;
 }
 
 /* vrt49_play_run with room for so many entries: TABLE. The pointer to the entries is handed over as

@@ -19,14 +19,12 @@ static int format_ok(u32 w) {
         return 0;
     return item + ev + ch <= f;
 }
-static int format_bad(u32 a, u32 b) {
+static int format_bad(u32 a) {
     u32 f = (a >> 6 & 63) + 1;
-    return !format_ok(a) || b >> 16 || a >> 23 & 1 || (!(a >> 31) && f > 32 && f < 64);
+    return !format_ok(a) || (!(a >> 31) && f > 32 && f < 64);
 }
-static int count_bad(u32 a, u32 b, size_t n) {
-    size_t unit = ((b & 0xffff) + 1) * ((a >> 29 & 3) ? 2 : 1);
-    return n > 2097120 || n % unit;
-}
+static size_t group_of(u32 a, u32 b) { return ((size_t)(b & 0xffff) + 1) * ((b >> 16) + 1) * (a >> 29 & 3 ? 2 : 1); }
+static int count_bad(u32 a, u32 b, size_t n) { return n > 2097120 || n % group_of(a, b); }
 static u32 carry(u32 a) {
     u32 f = (a >> 6 & 63) + 1;
     return (a >> 31) || f == 64 ? 32 : 32 / f * f;
@@ -34,7 +32,7 @@ static u32 carry(u32 a) {
 static size_t needed(u32 c, u32 f, size_t n) { return (f * n + c - 1) / c; }
 long c_unpack(u32 a, u32 b, size_t n, const u32 *w, size_t m, u64 *it, size_t li, u8 *ev, size_t le, u16 *ch,
               size_t lc) {
-    if (format_bad(a, b))
+    if (format_bad(a))
         return -16;
     if (count_bad(a, b, n))
         return -17;
@@ -98,7 +96,7 @@ long c_unpack(u32 a, u32 b, size_t n, const u32 *w, size_t m, u64 *it, size_t li
 }
 long c_pack(u32 a, u32 b, const u64 *it, size_t n, const u8 *ev, size_t le, const u16 *ch, size_t lc,
             u32 *out, size_t lo) {
-    if (format_bad(a, b))
+    if (format_bad(a))
         return -16;
     if (count_bad(a, b, n) || le != n || lc != n)
         return -17;

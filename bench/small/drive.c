@@ -15,6 +15,8 @@ u32 CALL(field_count)(u32);
 u32 CALL(check_body)(const u32 *, size_t);
 u32 CALL(find)(const u32 *, size_t, u32, size_t *);
 u32 CALL(words_needed)(u32, u32, size_t, size_t *);
+u32 CALL(coordinates_of)(u32, u32, size_t, size_t, u32 *);
+u32 CALL(item_at)(u32, u32, size_t, const u32 *, size_t *);
 u32 CALL(signed)(u32, u64, int64_t *);
 u32 CALL(start)(const u32 *, size_t, u32 *, size_t, size_t *);
 u32 CALL(well_made)(const u32 *, size_t);
@@ -30,6 +32,8 @@ static const u32 small[] = {1u << 29 | 1 << 27 | 1 << 24 | 1 << 23 | 1 << 21 | 1
 static const u32 large[] = {1u << 29 | 1 << 27 | 1 << 23 | 1 << 21 | 1 << 20 | 1 << 19, 0x10001, 2, 0xfff20003, 4, 0x7fff0001, 0x01000007, 8, 0x00010009, 10, 0xff80ff80};
 // Formats of 12-bit items: link-efficient, and processing-efficient in fields of 16 bits.
 static const u32 link = 1u << 31 | 11 << 6 | 11, processing = 15 << 6 | 11;
+// A format of complex 16-bit items in vectors of 4, with a repeat of 4: a group has 32 items. Bit 23 makes it one of component repeating.
+static const u32 complex16 = 1u << 31 | 1 << 29 | 15 << 6 | 15, fours = 3 << 16 | 3;
 static _Alignas(64) u32 t[1 + RECORD * 32]; // the count of memset hangs on the place
 static u32 own[1 + RECORD], ids[32], a[4];
 static size_t place[3], length;
@@ -60,12 +64,14 @@ static void table(size_t streams, int all) {
         refused |= CALL(play)(t, 1 + RECORD * streams, w, 2 + n, a);
     }
 }
-// The calls over words and numbers; size is items, or the bits of one.
+// The calls over words and numbers; size is items, or the bits of one. The items of a payload are asked for in turn: there are more of them than turns,
+// in 128 groups or more.
 static void of_words(const char *call, const char *kind, size_t size, size_t times) {
     int of_large = !strcmp(kind, "large");
     const u32 *body = of_large ? large : small;
     size_t n = of_large ? sizeof large / sizeof *large : sizeof small / sizeof *small;
-    u32 format = strcmp(kind, "link") ? processing : link;
+    u32 format = strcmp(kind, "link") ? processing : link, repeated = complex16 | (strcmp(kind, "component") ? 0 : 1 << 23);
+    u32 at[4] = {0, 2, 1, 1};
     if (!strcmp(call, "trailer_parts"))
         REPEAT(refused, CALL(trailer_parts)(0x12345678 + i, a));
     if (!strcmp(call, "trailer_word"))
@@ -77,7 +83,11 @@ static void of_words(const char *call, const char *kind, size_t size, size_t tim
     if (!strcmp(call, "find"))
         REPEAT(refused, CALL(find)(body, n, of_large ? 19 : 18, place));
     if (!strcmp(call, "words_needed"))
-        REPEAT(refused, CALL(words_needed)(format, 0, size, &length));
+        REPEAT(refused, CALL(words_needed)(format, 0, size, place));
+    if (!strcmp(call, "coordinates_of"))
+        REPEAT(refused, CALL(coordinates_of)(repeated, fours, size, i + 2, a));
+    if (!strcmp(call, "item_at"))
+        REPEAT(refused, CALL(item_at)(repeated, fours, size, (at[0] = i % 128, at), place));
     if (!strcmp(call, "signed"))
         REPEAT(refused, CALL(signed)(size, (u64)1 << (size - 1), &value));
 }
@@ -102,7 +112,7 @@ static void of_table(const char *call, size_t streams, size_t times) {
         REPEAT(refused, CALL(changed)(own, 1 + RECORD, 0, t, tn, last, a));
 }
 int main(int argc, char **argv) {
-    // CALL KIND(small large, link processing, all) SIZE TIMES: SIZE is streams of a table, items, or bits of one
+    // CALL KIND(small large, link processing, channel component, all) SIZE TIMES: SIZE is streams of a table, items, or bits of one
     if (argc != 5)
         return 2;
     size_t size = atol(argv[3]), times = atol(argv[4]), streams = size <= 32 ? size : 1;

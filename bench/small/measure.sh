@@ -14,6 +14,10 @@ for kind in small large; do
 done
 row words_needed link 1440 '1,440 items, link-efficient'
 row words_needed processing 1440 '1,440 items, processing-efficient'
+for kind in channel component; do
+    row coordinates_of $kind 4800 "4,800 items, $kind repeating"
+    row item_at $kind 4800 "4,800 items, $kind repeating"
+done
 row signed - 12 'an item of 12 bits'
 row signed - 64 'an item of 64 bits'
 for s in 1 32; do

@@ -1,7 +1,8 @@
 """Holds the examples for C to the reference's text of each recording of samples/recordings: examples.py FOLDER [COMMAND ..]. FOLDER has them as
 tools/try_install leaves them, COMMAND runs them. `stream` must count what the text has, whether it takes 1, 7 or 65,535 words at a time;
 `tuning` must print a line for each Context packet; both must end with the text's refusal; and where there is none, `resume`, stopped after every few
-packets, must save the page of a play that was never stopped. What `resume` cannot read or write it must name, and leave as it is."""
+packets, must save the page of a play that was never stopped. What `resume` cannot read or write it must name, and leave as it is. `samples`, which has
+its payloads in itself, must find each sample where loops over their order find it."""
 import glob
 import os
 import re
@@ -121,8 +122,37 @@ def wrong_with_files():
                 yield f'resume {" ".join(arguments)}: the files are not as they were'
 
 
+def in_order(first):
+    """Channel, instant and component of each item of the payloads of `samples`, in their order: two groups of two channels, three samples of each, I and Q."""
+    within = [(repeat, component) for repeat in range(3) for component in range(2)]
+    if first >> 23 & 1:
+        within = [(repeat, component) for component in range(2) for repeat in range(3)]
+    return [(channel, 3 * time + repeat, component) for time in range(2) for channel in range(2) for repeat, component in within]
+
+
+def samples_of(first, words):
+    """What `samples` prints of a payload: an item is a byte."""
+    items = [int.from_bytes([byte], 'big', signed=True) for word in words for byte in word.to_bytes(4, 'big')]
+    part = {at: f'  {"IQ"[at[2]]} {value:4} (item {item:2})' for item, (at, value) in enumerate(zip(in_order(first), items))}
+    yield f'format 0x{first:08X} 0x00020001: OK\n'
+    for channel in range(2):
+        for instant in range(6):
+            yield f'channel {channel}  instant {instant}{part[channel, instant, 0]}{part[channel, instant, 1]}\n'
+
+
+def wrong_samples():
+    """Where `samples` prints something else of the payloads in its source."""
+    with open(os.path.join(ROOT, 'examples/c/samples.c'), encoding='utf-8') as file:
+        source = file.read()
+    words = {name: [int(word, 16) for word in listed.split(',')] for name, listed in re.findall(r'(\w+)\[WORDS\] = \{([^}]*)\}', source)}
+    payloads = [(int(first, 16), words[name]) for first, name in re.findall(r'print_samples\((0x\w+), (\w+)\)', source)]
+    have = run('samples')
+    if have != (0, ''.join(line for payload in payloads for line in samples_of(*payload)), '') or len(payloads) != 2:
+        yield f'samples: {have}'
+
+
 found = tried = 0
-for line in wrong_with_files():
+for line in [*wrong_with_files(), *wrong_samples()]:
     found += 1
     print(line)
 for recording in sorted(glob.glob(os.path.join(ROOT, 'samples/recordings/*.vrt'))):

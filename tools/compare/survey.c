@@ -1,6 +1,7 @@
 /* Every call of libvrt49 once, by the header's names: a context packet and a data packet are read, one is written again, both are played on a
-   table of two streams, the table is saved and put back, the held fields are read for the panel, and samples are unpacked and packed again. It
-   prints what it does, and exits with 1 where a call answers what it should not. It is C99 and C++; tools/compare/compare.sh runs it. */
+   table of two streams, the table is saved and put back, the held fields are read for the panel, samples are unpacked and packed again, and found
+   by their channel and instant. It prints what it does, and exits with 1 where a call answers what it should not. It is C99 and C++;
+   tools/compare/compare.sh runs it. */
 #include <inttypes.h>
 #include <stdio.h>
 #include <stdlib.h>
@@ -200,6 +201,32 @@ static void unpack_samples(void)
     printf("packed: 0x%08" PRIX32 " 0x%08" PRIX32 "\n", words[0], words[1]);
 }
 
+/* two groups of two channels, complex, each with three samples in a group: every item has its coordinates, and they lead back to it */
+static void find_samples(uint32_t first)
+{
+    static const uint32_t second = 0x00020001;
+    const size_t n = (size_t)(2 * vrt49_group(first, second));
+    vrt49_coordinates at, sample;
+    size_t item, found;
+    expect("the group", n == 24, 1);
+    for (item = 0; item < n; item++) {
+        expect("vrt49_coordinates_of", vrt49_coordinates_of(first, second, n, item, &at), VRT49_OK);
+        expect("vrt49_item_at", vrt49_item_at(first, second, n, &at, &found), VRT49_OK);
+        sample = vrt49_sample_at(second, (uint32_t)vrt49_instant(&at, second), at.channel, at.component);
+        expect("the item that was found", found == item && memcmp(&at, &sample, sizeof at) == 0, 1);
+    }
+    sample = vrt49_sample_at(second, 4, 1, 0);
+    expect("vrt49_item_at", vrt49_item_at(first, second, n, &sample, &item), VRT49_OK);
+    sample.component = 1;
+    expect("vrt49_item_at", vrt49_item_at(first, second, n, &sample, &found), VRT49_OK);
+    printf("channel 1, instant 4: I is item %zu, Q is item %zu\n", item, found);
+    sample.component = 2;
+    expect("vrt49_item_at of no component", vrt49_item_at(first, second, n, &sample, &item), VRT49_VALUE);
+    expect("vrt49_coordinates_of no item", vrt49_coordinates_of(first, second, n, n, &at), VRT49_VALUE);
+    expect("vrt49_coordinates_of no whole group", vrt49_coordinates_of(first, second, n - 2, 0, &at), VRT49_COUNT);
+    expect("the coordinates after refusals", at.time == 1 && at.channel == 1 && at.component == 1 && at.repeat == 2, 1);
+}
+
 int main(void)
 {
     static uint32_t table[VRT49_TABLE_WORDS(VRT49_STREAMS_MAX)];
@@ -212,5 +239,7 @@ int main(void)
     show_all(table, layout);
     ask_stream(table, layout);
     unpack_samples();
+    find_samples(0xA00001C7);
+    find_samples(0xA08001C7);
     return 0;
 }
