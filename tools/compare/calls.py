@@ -273,11 +273,28 @@ def find(r):
 
 def some_count(r, first, second):
     """A number of items, mostly one that the format takes."""
-    unit = payload.unit(first, second)
-    if unit > 1000 or (unit > 100 and r.randrange(8)):
+    group = payload.group(first, second)
+    if group > 1000 or (group > 100 and r.randrange(8)):
         return 0 if r.randrange(3) else r.randrange(100)
-    n = unit * r.choice((0, 1, 1, 2, 3, r.randrange(max(1, 100 // unit) + 1)))
-    return n + r.choice((-1, 1, r.randrange(5))) if r.randrange(12) == 0 and n else n
+    n = group * r.choice((0, 1, 1, 2, 3, r.randrange(max(1, 100 // group) + 1)))
+    if r.randrange(12) == 0 and n:
+        # whole vectors more or fewer are whole groups only where the repeat is 1
+        vectors = group // payload.repeat_of(second)
+        return n + r.choice((-1, 1, r.randrange(5), vectors, -vectors))
+    return n
+
+
+def any_count(r, first, second):
+    """A number of items, up to the most and past it, mostly one that the format takes."""
+    group = payload.group(first, second)
+    most = MOST_ITEMS // group
+    n = r.choice((
+        some_count(r, first, second), most * group, (most + 1) * group,
+        group * r.randrange(most + 1), making.word(r),
+    ))
+    if r.randrange(10) == 0:
+        n = r.choice((n + 1, max(0, n - 1), MOST_ITEMS, MOST_ITEMS + 1, n + 2**32, 2**64 - 1, r.getrandbits(64)))
+    return n
 
 
 def unpack_of(first, second, n, words, outs):
@@ -293,7 +310,7 @@ def unpack_of(first, second, n, words, outs):
 def unpack(r):
     first, second = making.payload_format(r)
     n = some_count(r, first, second)
-    needed = 3 if payload.format_refused(first, second) else payload.words_for(first, n)
+    needed = 3 if payload.format_refused(first) else payload.words_for(first, n)
     if r.randrange(12) == 0:
         needed = around(r, needed)
     if r.randrange(60) == 0:
@@ -330,7 +347,7 @@ def pack(r):
     if r.randrange(15) == 0:
         place = r.randrange(3)
         numbers[place] = numbers[place][:-1] if r.randrange(2) else numbers[place] + [0]
-    needed = 3 if payload.format_refused(first, second) else payload.words_for(first, n)
+    needed = 3 if payload.format_refused(first) else payload.words_for(first, n)
     room = needed + r.choice((0, 0, 1, 4))
     if r.randrange(10) == 0:
         room = around(r, needed)
@@ -338,21 +355,62 @@ def pack(r):
     return pack_of(first, second, *lent, noisy(r, room), length_place(r))
 
 
-def words_needed(r):
-    first, second = making.payload_format(r)
-    unit = payload.unit(first, second)
-    n = r.choice((
-        some_count(r, first, second), MOST_ITEMS // unit * unit, (MOST_ITEMS // unit + 1) * unit,
-        unit * r.randrange(MOST_ITEMS // unit + 1), making.word(r),
-    ))
-    if r.randrange(10) == 0:
-        n = r.choice((n + 1, max(0, n - 1), MOST_ITEMS, MOST_ITEMS + 1, unit * 2**32, 2**64 - 1, r.getrandbits(64)))
+def words_needed_of(r, first, second, n):
     length = length_place(r)
     lent = [first, second, n, length]
     said, what = payload.words_needed(first, second, n)
     if said == "refused":
         return refused(lent, what)
     return Case(lent, 0, {3: put(length, [what])})
+
+
+def words_needed(r):
+    first, second = making.payload_format(r)
+    return words_needed_of(r, first, second, any_count(r, first, second))
+
+
+def below(r, end):
+    """A number below an end, often the first or the last; 0 where there is none."""
+    return r.choice((0, end - 1, r.randrange(end), r.randrange(end))) if end else 0
+
+
+def coordinates_case(r, first, second, n, item):
+    coordinates = noisy(r, 4)
+    lent = [first, second, n, item, coordinates]
+    said, what = payload.coordinates_of(first, second, n, item)
+    if said == "refused":
+        return refused(lent, what)
+    return Case(lent, 0, {4: put(coordinates, what)})
+
+
+def coordinates_of(r):
+    first, second = making.payload_format(r)
+    n = any_count(r, first, second)
+    item = below(r, n)
+    if r.randrange(5) == 0:
+        item = r.choice((n, n + 1, ONES, item + 2**32, 2**64 - 1, making.word(r), r.getrandbits(64))) % 2**64
+    return coordinates_case(r, first, second, n, item)
+
+
+def item_case(r, first, second, n, coordinates):
+    item = noisy(r, 1, "Q")
+    lent = [first, second, n, given(coordinates), item]
+    said, what = payload.item_at(first, second, n, *coordinates)
+    if said == "refused":
+        return refused(lent, what)
+    return Case(lent, 0, {4: put(item, [what])})
+
+
+def item_at(r):
+    first, second = making.payload_format(r)
+    n = any_count(r, first, second)
+    ends = payload.ends(first, second, n)
+    coordinates = [below(r, end) % 2**32 for end in ends]
+    if r.randrange(4) == 0:
+        # one that is outside, mostly
+        place = r.randrange(4)
+        coordinates[place] = r.choice((ends[place], ends[place] + 1, ONES, 1 << 31, making.word(r))) % 2**32
+    return item_case(r, first, second, n, coordinates)
 
 
 def signed(r):
@@ -725,6 +783,8 @@ CALLS = (
     Call("vrt49_unpack", "wwqiLBH", unpack, 15000, (0, 13, 16, 17)),
     Call("vrt49_pack", "wwlbhIL", pack, 15000, (0, 13, 14, 16, 17)),
     Call("vrt49_words_needed", "wwqL", words_needed, 30000, (0, 16, 17)),
+    Call("vrt49_coordinates_of", "wwqqI", coordinates_of, 30000, (0, 14, 16, 17)),
+    Call("vrt49_item_at", "wwqiL", item_at, 30000, (0, 14, 16, 17)),
     Call("vrt49_signed", "wqL", signed, 20000, (0, 14, 16)),
     Call("vrt49_start", "iIL", start, 10000, (0, 12, 13)),
     Call("vrt49_well_made", "i", well_made, 30000, (0, 1)),

@@ -26,6 +26,8 @@ static const struct {
     {"vrt49_unpack", "wwqiLBH", {"words", "items", "events", "channels"}},
     {"vrt49_pack", "wwlbhIL", {"items", "events", "channels", "out", "length"}},
     {"vrt49_words_needed", "wwqL", {"length"}},
+    {"vrt49_coordinates_of", "wwqqI", {"coordinates"}},
+    {"vrt49_item_at", "wwqiL", {"coordinates", "item"}},
     {"vrt49_signed", "wqL", {"value"}},
     {"vrt49_start", "iIL", {"ids", "table", "length"}},
     {"vrt49_well_made", "i", {"table"}},
@@ -72,20 +74,22 @@ static uint32_t call(uint32_t which) {
     case 7: return vrt49_unpack(s[0], s[1], s[2], B(0), B(1), B(2), B(3));
     case 8: return vrt49_pack(s[0], s[1], B(0), B(1), B(2), B(3), P(4));
     case 9: return vrt49_words_needed(s[0], s[1], s[2], P(0));
-    case 10: return vrt49_signed(s[0], s[1], P(0));
-    case 11: return vrt49_start(B(0), B(1), P(2));
-    case 12: return vrt49_well_made(B(0));
-    case 13: return vrt49_play(B(0), B(1), P(2));
-    case 14: return vrt49_play_run(B(0), B(1), s[0], B(2), P(3), P(4));
-    case 15: return vrt49_page_length(B(0), P(1));
-    case 16: return vrt49_save(B(0), B(1), P(2));
-    case 17: return vrt49_put_back(B(0), B(1), P(2));
-    case 18: return vrt49_reading(B(0), s[0], s[1], P(1), P(2), P(3), P(4));
-    case 19: return vrt49_readings(B(0), s[0], P(1), P(2), P(3), P(4), P(5));
-    case 20: return vrt49_held_words(B(0), s[0], s[1], B(1), P(2));
-    case 21: return vrt49_identity(B(0), s[0], P(1), P(2));
-    case 22: return vrt49_counts(B(0), s[0], s[1], P(1));
-    case 23: return vrt49_own_table(B(0), s[0], B(1), P(2));
+    case 10: return vrt49_coordinates_of(s[0], s[1], s[2], s[3], P(0));
+    case 11: return vrt49_item_at(s[0], s[1], s[2], P(0), P(1));
+    case 12: return vrt49_signed(s[0], s[1], P(0));
+    case 13: return vrt49_start(B(0), B(1), P(2));
+    case 14: return vrt49_well_made(B(0));
+    case 15: return vrt49_play(B(0), B(1), P(2));
+    case 16: return vrt49_play_run(B(0), B(1), s[0], B(2), P(3), P(4));
+    case 17: return vrt49_page_length(B(0), P(1));
+    case 18: return vrt49_save(B(0), B(1), P(2));
+    case 19: return vrt49_put_back(B(0), B(1), P(2));
+    case 20: return vrt49_reading(B(0), s[0], s[1], P(1), P(2), P(3), P(4));
+    case 21: return vrt49_readings(B(0), s[0], P(1), P(2), P(3), P(4), P(5));
+    case 22: return vrt49_held_words(B(0), s[0], s[1], B(1), P(2));
+    case 23: return vrt49_identity(B(0), s[0], P(1), P(2));
+    case 24: return vrt49_counts(B(0), s[0], s[1], P(1));
+    case 25: return vrt49_own_table(B(0), s[0], B(1), P(2));
     default: return vrt49_changed(B(0), s[0], B(1), s[1], P(2));
     }
 #undef B

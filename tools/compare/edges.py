@@ -1,8 +1,10 @@
-"""Cases at the edges of document 01's rules, and of C-11's, for each call: the samples
-of document 01 with the number it states, every choice of optional parts, every bit of a
-field with a rule, every bit of a table and a page, every pair of counts, every choice of
-the enables of a state word."""
+"""Cases at the edges of document 01's rules, and of those of C-11 and C-12, for each call:
+the samples of document 01 with the number it states, every choice of optional parts, every
+bit of a field with a rule, every item of small groups, groups of as many items as may be and
+of more, every bit of a table and a page, every pair of counts, every choice of the enables
+of a state word."""
 
+import itertools
 import random
 
 import calls
@@ -183,6 +185,37 @@ def formats():
         yield code << 24 | 0x7DF, 0
 
 
+def small_groups():
+    """Formats of real, Cartesian and polar samples in both orders, of vectors of 1 to 5
+    samples, with repeats of 1 to 5; half of them have tags."""
+    for kind in range(3):
+        for bit in range(2):
+            for vector in range(5):
+                for repeat in range(5):
+                    first = (0x000001C7, 0x801203CB)[(vector + repeat) % 2]
+                    yield first | kind << 29 | bit << 23, repeat << 16 | vector
+
+
+def large_groups():
+    """Formats with groups of 2,097,119 items and more, up to 2^33, in both orders; one has
+    2^32 + 4."""
+    for kind, vector, repeat in (
+        (0, 61, 34379), (1, 65535, 16), (0, 65535, 32), (2, 16, 65535), (0, 169, 12409),
+        (1, 911, 1151), (0, 65536, 32), (0, 32, 65536), (2, 65536, 16), (0, 65536, 65536),
+        (1, 65536, 32768), (2, 34346, 62525), (1, 65536, 65536),
+    ):
+        for bit in range(2):
+            yield kind << 29 | bit << 23 | 0x1C7, repeat - 1 << 16 | vector - 1
+
+
+def few_items(first, second):
+    """Numbers of items: none, some, and at most 100 around the group, vectors that are no whole
+    group among them."""
+    group = payload.group(first, second)
+    around = {group - 1, group, group + 1, group // payload.repeat_of(second), 2 * group}
+    return sorted({0, 1, 2, 3, 4, 33} | {n for n in around if n <= 100})
+
+
 def unpack(r):
     def ask(first, second, n, words, room):
         return calls.unpack_of(first, second, n, given(words), [noisy(r, room, code) for code in "QBH"])
@@ -191,9 +224,9 @@ def unpack(r):
     yield sure(ask(0x000002CB, 0, 3, [0xABCDEF00, 0x12300000], 3), 0)
     yield sure(ask(0x801203CB, 0, 1, [0xABC60000], 1), 0)
     yield sure(ask(0x80000000, 0, MOST_ITEMS + 1, [0] * 65536, 3), 17)
-    for first, second in formats():
-        for n in (0, 1, 2, 3, 33):
-            needed = 2 if payload.format_refused(first, second) else payload.words_for(first, n)
+    for first, second in [*formats(), *small_groups(), *large_groups()]:
+        for n in few_items(first, second):
+            needed = 2 if payload.format_refused(first) else payload.words_for(first, n)
             yield ask(first, second, n, making.words(r, needed), n)
             yield ask(first, second, n, making.words(r, needed + 1), n)
     # the most items, of one bit
@@ -211,9 +244,9 @@ def pack(r):
     yield sure(ask(0x801203CB, 0, [0xABC], [2], [2], 1), 14)
     yield sure(ask(0x801203CB, 0, [0xABC], [1], [4], 1), 14)
     yield sure(ask(0x801203CB, 0, [0x1ABC], [1], [2], 1), 14)
-    for first, second in formats():
-        for n in (0, 1, 2, 3, 33):
-            refused = payload.format_refused(first, second)
+    for first, second in [*formats(), *small_groups(), *large_groups()]:
+        for n in few_items(first, second):
+            refused = payload.format_refused(first)
             needed = 2 if refused else payload.words_for(first, n)
             items = [r.getrandbits(payload.item_size(first)) for _ in range(n)]
             events = [r.getrandbits(payload.event_size(first)) for _ in range(n)]
@@ -236,14 +269,101 @@ def pack(r):
     yield sure(ask(0x80000000, 0, items, bytes(MOST_ITEMS), [0] * MOST_ITEMS, 65535), 0)
 
 
+def many_items(first, second):
+    """Numbers of items at the edges of COUNT, and beyond what a word can say."""
+    group = payload.group(first, second)
+    most = MOST_ITEMS // group * group
+    return sorted({
+        0, 1, 31, 32, 33, MOST_ITEMS - 1, MOST_ITEMS, MOST_ITEMS + 1, most, most + group, group - 1,
+        group, group + 1, group // payload.repeat_of(second), 2**32, 2**32 + group, 2**64 - 1,
+    })
+
+
 def words_needed(r):
-    for first, second in [*formats(), (FORMAT, 0), (FORMAT, 2), (0xFFF, 0xFFFF)]:
-        unit = payload.unit(first, second)
-        for n in (0, 1, 31, 32, 33, MOST_ITEMS - 1, MOST_ITEMS, MOST_ITEMS + 1, MOST_ITEMS // unit * unit, 2**32, 2**64 - 1):
-            length = calls.length_place(r)
-            said, what = payload.words_needed(first, second, n)
-            lent = [first, second, n, length]
-            yield calls.refused(lent, what) if said == "refused" else calls.Case(lent, 0, {3: calls.put(length, [what])})
+    for first, second in [*formats(), *small_groups(), *large_groups(), (FORMAT, 0), (FORMAT, 2), (0xFFF, 0xFFFF)]:
+        for n in many_items(first, second):
+            yield calls.words_needed_of(r, first, second, n)
+    case = calls.words_needed_of(r, 0x200001C7, 0x000FFFFE, MOST_ITEMS)
+    assert case.after[3][0] == 524_280
+    yield sure(case, 0)
+    for first, second in large_groups():
+        yield sure(calls.words_needed_of(r, first, second, 0), 0)
+        # each is over the most, or no multiple of the group
+        for n in (1, 4, 65536, 2**20, 2**21, 2**32, 2**33):
+            yield sure(calls.words_needed_of(r, first, second, n), 17)
+
+
+# The figures of source document 003 that show an order: B.9-15 and B.9-16, with n and the
+# coordinates of the items in their order.
+FIGURES = (
+    (0x000001C7, 0x00030003, 32, [(k // 16, k // 4 % 4, 0, k % 4) for k in range(24)]),
+    (0x208001C7, 0x00030000, 16, [(k // 8, 0, k // 4 % 2, k % 4) for k in range(16)]),
+    (0x408001C7, 0x00030000, 16, [(k // 8, 0, k // 4 % 2, k % 4) for k in range(16)]),
+)
+
+
+def coordinates_of(r):
+    def ask(first, second, n, item):
+        return calls.coordinates_case(r, first, second, n, item % 2**64)
+
+    for first, second, n, places in FIGURES:
+        for item, place in enumerate(places):
+            case = ask(first, second, n, item)
+            assert tuple(case.after[4]) == place
+            yield sure(case, 0)
+    for first, second in small_groups():
+        n = 2 * payload.group(first, second)
+        yield from (sure(ask(first, second, n, item), 0) for item in range(n))
+        for item in (n, n + 1, ONES, 2**32, 2**32 + n - 1, 2**63, 2**64 - 1):
+            yield sure(ask(first, second, n, item), 14)
+        yield sure(ask(first, second, 0, 0), 14)
+        # a number of items that fits if it is cut to 32 bits; COUNT comes before VALUE
+        yield sure(ask(first, second, n + 2**32, 0), 17)
+        yield sure(ask(first, second, n + 2**32, 2**64 - 1), 17)
+    for first, second in [*formats(), *small_groups(), *large_groups()]:
+        for n in many_items(first, second):
+            for item in (0, n - 1, n):
+                yield ask(first, second, n, item)
+    # FORMAT comes before COUNT and VALUE
+    yield sure(ask(0x000011C7, 0x00030003, 31, 31), 16)
+
+
+def item_at(r):
+    def ask(first, second, n, *coordinates):
+        return calls.item_case(r, first, second, n, [number % 2**32 for number in coordinates])
+
+    for first, second, n, places in FIGURES:
+        for item, place in enumerate(places):
+            case = ask(first, second, n, *place)
+            assert case.after[4][0] == item
+            yield sure(case, 0)
+    for first, second in [*small_groups(), *large_groups()]:
+        group = payload.group(first, second)
+        n = min(2 * group, MOST_ITEMS // group * group)
+        yield from inside_and_outside(ask, first, second, n)
+        yield sure(ask(first, second, 0, 0, 0, 0, 0), 14)
+        yield sure(ask(first, second, n + 2**32, 0, 0, 0, 0), 17)
+    for first, second in small_groups():
+        n = 2 * payload.group(first, second)
+        for place in itertools.product(*map(range, payload.ends(first, second, n))):
+            yield sure(ask(first, second, n, *place), 0)
+    for first, second in [*formats(), *small_groups(), *large_groups()]:
+        for n in many_items(first, second):
+            yield ask(first, second, n, 0, 0, 0, 0)
+    # FORMAT comes before COUNT, COUNT before VALUE
+    yield sure(ask(0x000011C7, 0x00030003, 31, ONES, ONES, ONES, ONES), 16)
+    yield sure(ask(0x000001C7, 0x00030003, 31, ONES, ONES, ONES, ONES), 17)
+
+
+def inside_and_outside(ask, first, second, n):
+    """Each coordinate at the edges of its range, the others first or last; VALUE for all where
+    n is 0."""
+    ends = payload.ends(first, second, n)
+    for others in ([0] * 4, [max(0, end - 1) for end in ends]):
+        for place, end in enumerate(ends):
+            for number in (0, max(0, end - 1), end, end + 1, 1 << 31, ONES):
+                coordinates = others[:place] + [number] + others[place + 1 :]
+                yield sure(ask(first, second, n, *coordinates), 0 if n and number < end else 14)
 
 
 def signed(r):

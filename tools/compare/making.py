@@ -99,6 +99,7 @@ def format_first(r):
         link * 2**31
         + r.randrange(3) * 2**29
         + code * 2**24
+        + r.randrange(2) * 2**23
         + event * 2**20
         + channel * 2**16
         + (packing - 1) * 2**6
@@ -107,8 +108,14 @@ def format_first(r):
 
 
 def format_second(r):
-    vector = r.choice((0, 0, 0, 1, 2, r.randrange(8), r.randrange(200), r.getrandbits(16)))
-    return vector if r.randrange(16) else vector + r.choice((1 << 16, r.getrandbits(16) << 16))
+    """The second word of a format: repeat and vector are small, mostly, and many of them 1."""
+    repeat, vector = (r.choice((0, 0, 0, 1, 2, r.randrange(8))) for _ in range(2))
+    kind = r.randrange(8)
+    if kind in (0, 1):
+        vector = r.choice((r.randrange(200), r.getrandbits(16), 0xFFFF))
+    if kind in (1, 2):
+        repeat = r.choice((r.randrange(200), r.getrandbits(16), 0xFFFF))
+    return repeat << 16 | vector
 
 
 def payload_format(r):
@@ -149,7 +156,7 @@ def field(r, bit):
     if bit == 17:
         made = [made[0] & 0xFFFFFF, made[1] & 0xFFFF]
     if bit == 15:
-        made[0] = format_first(r) | r.randrange(2) << 23
+        made[0] = format_first(r)
     return made
 
 

@@ -1,15 +1,28 @@
-"""A reference packer and unpacker of samples.
+"""A reference packer and unpacker of samples, and the order of their items.
 
-It is written from document 01 and from nothing else, bit by bit: a packing
-field and a word are strings of the characters 0 and 1, the leftmost bit first.
-The rule of the format field is that of vrt49.py.  The sentences in quotation
-marks are document 01's own.
+It is written from document 01, from C-12 of document 02, which adds repeats, and
+from the sections of source document 003 that C-12 leads to, 6.1.6.3 and 6.1.6.5;
+from nothing else.  It packs bit by bit: a packing field and a word are strings of
+the characters 0 and 1, the leftmost bit first.  It lists the order of items by
+loops, and counts and divides where there are many.  The rule of the format field
+is that of vrt49.py.  The sentences in quotation marks are document 01's own, or
+those of C-12 or 003 where it is named.
+
+Items are numbered from 0 in the order of the payload.  The coordinates of an item
+are four numbers, each from 0:
+
+    time       the group, 003's Item Packing Structure
+    channel    the sample's place in its sample vector
+    component  0 is real, I or amplitude; 1 is Q or phase
+    repeat     the sample among those of its channel in the group, earliest first
 """
+
+from functools import lru_cache
 
 import vrt49
 from vrt49 import bits
 
-# "Numbers given back", those of packing and unpacking.
+# "Numbers given back", those of packing, unpacking and the order of items.
 ROOM = 13
 VALUE = 14
 FORMAT = 16
@@ -56,9 +69,14 @@ def complex_samples(first):
     return bits(first, 30, 29) != 0
 
 
+def component_count(first):
+    # "2 (complex) or 1 (real)"
+    return 2 if complex_samples(first) else 1
+
+
 def component_repeat(first):
     # "component repeat 23"
-    return bits(first, 23, 23)
+    return bits(first, 23, 23) == 1
 
 
 def event_size(first):
@@ -95,12 +113,10 @@ def vector_of(second):
     return bits(second, 15, 0) + 1
 
 
-def format_refused(first, second):
-    # "rule of field 15 broken"
-    if not vrt49.format_kept([first, second]):
-        return True
-    # "repeat not 1, bit 23 set"
-    if repeat_of(second) != 1 or component_repeat(first) == 1:
+def format_refused(first):
+    # "rule of field 15 broken", which is a rule of its first word.  C-12: "FORMAT no
+    # longer covers repeat or bit 23".
+    if not vrt49.format_kept([first]):
         return True
     # "a processing-efficient field of 33 to 63 bits"
     return not link_efficient(first) and 33 <= field_size(first) <= 63
@@ -109,15 +125,15 @@ def format_refused(first, second):
 # The number of items.
 
 
-def unit(first, second):
-    # "vector size times 2 (complex) or 1 (real)"
-    return vector_of(second) * (2 if complex_samples(first) else 1)
+def group(first, second):
+    # 003, Rule 6.1.6.5-1: "the number of Data Items in a Data Sample multiplied by the
+    # vector size multiplied by the Repeat Count"
+    return component_count(first) * vector_of(second) * repeat_of(second)
 
 
 def count_refused(first, second, n):
-    # "n is at most 2,097,120 and a multiple of vector size times 2 (complex) or
-    # 1 (real)."
-    return n > 2_097_120 or n % unit(first, second) != 0
+    # "n is at most 2,097,120"; C-12: "n becomes a multiple of the whole group."
+    return n > 2_097_120 or n % group(first, second) != 0
 
 
 def rounded_up(number, by):
@@ -140,7 +156,7 @@ def words_for(first, n):
 
 def words_needed(first, second, n):
     """('refused', number) or ('words', number of words)."""
-    if format_refused(first, second):
+    if format_refused(first):
         return ("refused", FORMAT)
     if count_refused(first, second, n):
         return ("refused", COUNT)
@@ -229,7 +245,7 @@ def fields_of(first, n, strings):
 def pack(first, second, items, events, channels, room):
     """('refused', number) or ('packed', words)."""
     # "Pack: FORMAT, COUNT, VALUE, ROOM."
-    if format_refused(first, second):
+    if format_refused(first):
         return ("refused", FORMAT)
     # "in packing, the three inputs have n entries each.  Otherwise COUNT."
     n = len(items)
@@ -255,7 +271,7 @@ def unpack(first, second, n, words, rooms):
     """('refused', number) or ('unpacked', (items, events, channels)), each of n
     numbers; rooms are the entries of the three buffers to be written."""
     # "Unpack: FORMAT, COUNT, ROOM."
-    if format_refused(first, second):
+    if format_refused(first):
         return ("refused", FORMAT)
     # "Unpacking is given n and exactly the words needed"; "Otherwise COUNT."
     if count_refused(first, second, n) or len(words) != words_for(first, n):
@@ -272,6 +288,114 @@ def unpack(first, second, n, words, rooms):
         events.append(event)
         channels.append(channel)
     return ("unpacked", (items, events, channels))
+
+
+# The order of the items.  C-12: "the numbering from an item to time, channel,
+# component and repeat and back".  The refusals of both calls are the team's own:
+# FORMAT, COUNT, and VALUE for an item or a coordinate that n items do not reach.
+
+# Up to so many items are listed.
+FEW = 4096
+
+
+def of_one_channel(first, second):
+    """Component and repeat of the items of one channel in one group, in order."""
+    found = []
+    if component_repeat(first):
+        # 003, Rule 6.1.6.3-6, and -7 likewise of amplitude and phase: "the number of
+        # "I" Data Items specified by the Repeat Count parameter shall be packed into
+        # sequential Item Packing Fields with earlier Data Items going into
+        # lower-numbered Item Packing Fields.  This shall be followed by the
+        # corresponding "Q" Data Items similarly arranged."
+        for component in range(component_count(first)):
+            for repeat in range(repeat_of(second)):
+                found.append((component, repeat))
+    else:
+        # 003, Rule 6.1.6.3-8: "the number of Data Samples specified for each Channel
+        # by the Repeat Count shall be packed into sequential Item Packing Fields with
+        # earlier Data Samples going into lower-numbered Item Packing Fields."
+        for repeat in range(repeat_of(second)):
+            # 003, Rule 6.1.6.3-3, and -4 likewise of amplitude and phase: "The "Q"
+            # component shall immediately follow the corresponding "I" component when
+            # Sample-Component repeating is not in use."
+            for component in range(component_count(first)):
+                found.append((component, repeat))
+    return found
+
+
+@lru_cache(16)
+def listed(first, second, n):
+    """The coordinates of n items, in the order of the items."""
+    found = []
+    # 003, Definition 6.1.6.5-1: "the entire data payload can be described as a
+    # sequence of identical Item Packing Structures."
+    for time in range(n // group(first, second)):
+        # 003, Definition 6.1.6.3-4: "some number of Data Samples for each Channel is
+        # packed sequentially prior to packing Data Samples from the next Channel."
+        # With bit 23 it is the same: by Definition 6.1.6.3-3 the Repeat Count is "The
+        # number of sequential components of the same type", of one channel therefore.
+        for channel in range(vector_of(second)):
+            for component, repeat in of_one_channel(first, second):
+                found.append((time, channel, component, repeat))
+    return tuple(found)
+
+
+def divided(first, second, item):
+    """The coordinates of an item, by dividing how many items come before it."""
+    time, inside = divmod(item, group(first, second))
+    channel, inside = divmod(inside, component_count(first) * repeat_of(second))
+    if component_repeat(first):
+        component, repeat = divmod(inside, repeat_of(second))
+    else:
+        repeat, component = divmod(inside, component_count(first))
+    return time, channel, component, repeat
+
+
+def items_before(first, second, time, channel, component, repeat):
+    """How many items come before the one at coordinates: those of earlier groups, of
+    lower channels in its group, and of its channel there."""
+    groups = time * group(first, second)
+    channels = channel * component_count(first) * repeat_of(second)
+    if component_repeat(first):
+        return groups + channels + component * repeat_of(second) + repeat
+    return groups + channels + repeat * component_count(first) + component
+
+
+def ends(first, second, n):
+    """What the coordinates of n items are below: time, channel, component, repeat."""
+    times = n // group(first, second)
+    return times, vector_of(second), component_count(first), repeat_of(second)
+
+
+def coordinates_of(first, second, n, item):
+    """('refused', number) or ('coordinates', (time, channel, component, repeat))."""
+    if format_refused(first):
+        return ("refused", FORMAT)
+    if count_refused(first, second, n):
+        return ("refused", COUNT)
+    if item >= n:
+        return ("refused", VALUE)
+    if n <= FEW:
+        return ("coordinates", listed(first, second, n)[item])
+    return ("coordinates", divided(first, second, item))
+
+
+def item_at(first, second, n, time, channel, component, repeat):
+    """('refused', number) or ('item', number)."""
+    if format_refused(first):
+        return ("refused", FORMAT)
+    if count_refused(first, second, n):
+        return ("refused", COUNT)
+    coordinates = (time, channel, component, repeat)
+    for coordinate, end in zip(coordinates, ends(first, second, n)):
+        if coordinate >= end:
+            return ("refused", VALUE)
+    if n <= FEW:
+        return ("item", listed(first, second, n).index(coordinates))
+    return ("item", items_before(first, second, *coordinates))
+
+
+# Signed values.
 
 
 def signed(width, item):

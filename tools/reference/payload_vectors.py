@@ -16,11 +16,13 @@ from payload import COUNT, FORMAT, ROOM, VALUE
 from read_vectors import ONES, Numbers, format_word
 from vrt49 import ITEM_CODES
 
-# The four kinds of case.
+# The six kinds of case.
 UNPACK = 1
 PACK = 2
 SIGNED = 3
 WORDS = 4
+COORDINATES = 5
+ITEM = 6
 
 DONE = 0
 MOST = 2_097_120
@@ -36,6 +38,8 @@ ORDERS = {
     PACK: (FORMAT, COUNT, VALUE, ROOM),
     SIGNED: (FORMAT, VALUE),
     WORDS: (FORMAT, COUNT),
+    COORDINATES: (FORMAT, COUNT, VALUE),
+    ITEM: (FORMAT, COUNT, VALUE),
 }
 
 cases = []
@@ -67,14 +71,34 @@ def words_case(answer, first, second, n, meant=None):
     cases.append((WORDS, (first, second, n), answer, meant))
 
 
-def form(link=0, code=0, f=16, item=16, event=0, channel=0, complexity=0):
+def coordinates_case(answer, first, second, n, item, meant=None):
+    cases.append((COORDINATES, (first, second, n, item), answer, meant))
+
+
+def item_case(answer, first, second, n, coordinates, meant=None):
+    cases.append((ITEM, (first, second, n, *coordinates), answer, meant))
+
+
+def form(
+    link=0, code=0, f=16, item=16, event=0, channel=0, complexity=0, component_repeat=0
+):
     """A first format word."""
-    return format_word(code, f, item, event, channel, complexity, rest=link << 31)
+    rest = link << 31 | component_repeat << 23
+    return format_word(code, f, item, event, channel, complexity, rest)
 
 
-def vectors(size):
-    """A second format word: repeat 1, and vectors of so many samples."""
-    return size - 1
+def second_word(vector=1, repeat=1):
+    """A second format word."""
+    return repeat - 1 << 16 | vector - 1
+
+
+def small_formats(most=5):
+    """Every vector size and repeat from 1 on: real, Cartesian and polar, in both orders."""
+    for vector in range(1, most + 1):
+        for repeat in range(1, most + 1):
+            for complexity in range(3):
+                for component_repeat in range(2):
+                    yield vector, repeat, complexity, component_repeat
 
 
 # The same samples packed, and unpacked again.
@@ -133,7 +157,7 @@ def exchange(numbers, first, second, n, step=0):
 
 
 class Steps:
-    """Gives each format its number of units: none, one or more."""
+    """Gives each format its number of groups: none, one or more."""
 
     def __init__(self, seed):
         self.numbers = Numbers(seed)
@@ -141,12 +165,12 @@ class Steps:
 
     def format(self, vector=1, **rest):
         first = form(**rest)
-        second = vectors(vector)
-        unit = vector * (2 if rest.get("complexity", 0) else 1)
-        units = (0, 1)[self.step % 8] if self.step % 8 < 2 else 2 + self.numbers.below(7)
-        exchange(self.numbers, first, second, units * unit, self.step)
+        second = second_word(vector)
+        group = payload.group(first, second)
+        groups = (0, 1)[self.step % 8] if self.step % 8 < 2 else 2 + self.numbers.below(7)
+        exchange(self.numbers, first, second, groups * group, self.step)
         # One that is not packed here.
-        many = self.numbers.below(MOST // unit + 1) * unit
+        many = self.numbers.below(MOST // group + 1) * group
         words_case(DONE, first, second, many)
         self.step += 1
 
@@ -223,6 +247,21 @@ def item_codes():
                 )
 
 
+def repeats():
+    """One group or two of every small format, with tags and without."""
+    numbers = Numbers(7)
+    sizes = ((8, 8, 0, 0), (12, 7, 2, 3), (6, 5, 0, 1), (5, 2, 3, 0), (1, 1, 0, 0))
+    for step, (vector, repeat, complexity, component_repeat) in enumerate(small_formats()):
+        f, item, event, channel = sizes[step % 5]
+        first = form(
+            step // 5 % 2, f=f, item=item, event=event, channel=channel,
+            complexity=complexity, component_repeat=component_repeat,
+        )
+        second = second_word(vector, repeat)
+        group = payload.group(first, second)
+        exchange(numbers, first, second, group if group > 16 else 2 * group, step)
+
+
 def long_runs():
     numbers = Numbers(5)
     for step, (n, rest) in enumerate((
@@ -246,7 +285,7 @@ def long_runs():
         (162, dict(link=0, f=10, item=6, event=2, channel=1)),
         (162, dict(link=1, f=47, item=20, event=7, channel=15)),
     )):
-        exchange(numbers, form(**rest), vectors(1), n, step)
+        exchange(numbers, form(**rest), second_word(), n, step)
     # The largest that a case may have.
     for link in (1, 0):
         unpack_case(DONE, form(link, f=1, item=1), 0, 4096, numbers.some(128), (4096,) * 3)
@@ -317,6 +356,12 @@ def known():
               [0x7FFF], meant=[0xABCDEF01, 0x233FFFFF])
     pack_case(DONE, form(1, f=64, item=64), 0, [0x01234567_89ABCDEF], [0], [0],
               meant=[0x01234567, 0x89ABCDEF])
+    # 003, figures B.9-15 and B.9-16: Data Item 1 is in the first packing field, and so on.
+    for first, second in ((0x000001C7, 0x00030003), (0x208001C7, 0x00030000)):
+        items, none = [*range(1, 17)], [0] * 16
+        words = [0x01020304, 0x05060708, 0x090A0B0C, 0x0D0E0F10]
+        pack_case(DONE, first, second, items, none, none, meant=words)
+        unpack_case(DONE, first, second, 16, words, meant=(items, none, none))
     # No items, no words.
     for first in (form(1), form(0), form(0, f=64), 0xA00003CF):
         pack_case(DONE, first, 0, [], [], [], room=0, meant=[])
@@ -330,12 +375,18 @@ def known():
 
 
 def format_case(answer, first, second=0):
-    """A format in each kind of case, with no items and with one unit."""
-    n = payload.unit(first, second)
+    """A format in each kind of case, with no items and with one group."""
+    n = payload.group(first, second)
+    of_none = VALUE if answer == DONE else answer
     words_case(answer, first, second, 0)
-    words_case(answer, first, second, n)
     unpack_case(answer, first, second, 0, [], (1, 1, 1))
     pack_case(answer, first, second, [], [], [], 1)
+    coordinates_case(of_none, first, second, 0, 0)
+    item_case(of_none, first, second, 0, (0, 0, 0, 0))
+    if n <= MOST:
+        words_case(answer, first, second, n)
+        coordinates_case(answer, first, second, n, 0)
+        item_case(answer, first, second, n, (0, 0, 0, 0))
     if n <= 64:
         needed = payload.words_for(first, n) if answer == DONE else 2 * n
         unpack_case(answer, first, second, n, [ONES] * needed)
@@ -349,17 +400,17 @@ def formats():
     for f in (32, 33, 48, 63, 64):
         format_case(DONE, form(1, f=f, item=12, event=2, channel=3))
         format_case(FORMAT if 33 <= f <= 63 else DONE, form(0, f=f, item=f))
-    # Bit 23, and a repeat other than 1.
+    # Bit 23 and the second word are free, and where FORMAT is given they change nothing.
     for link in (1, 0):
         for complexity in range(3):
-            first = form(link, complexity=complexity)
-            format_case(DONE, first)
-            format_case(FORMAT, first | 1 << 23)
-        for second in (0x00010000, 0x00020000, 0x00030003, 0x80000000, 0xFFFF0000, ONES):
-            format_case(FORMAT, form(link), second)
-        format_case(FORMAT, form(link) | 1 << 23, 0x00030000)
+            for component_repeat in range(2):
+                first = form(link, complexity=complexity, component_repeat=component_repeat)
+                for second in (0, 0x00010000, 0x00030003, 0x80000000, 0xFFFF0000, ONES):
+                    format_case(DONE, first, second)
+                format_case(FORMAT, first | 1 << 12, 0x00020001)
         for second in (1, 3, 0x7FFF, 0x8000, 0xFFFF):
             format_case(DONE, form(link), second)
+        format_case(FORMAT, form(link, complexity=3, component_repeat=1), ONES)
     # The rule of field 15.
     for code in range(32):
         named = code in ITEM_CODES
@@ -414,13 +465,13 @@ def most_items():
     words_case(COUNT, complexes, 0, MOST - 1)
     words_case(COUNT, complexes, 0, MOST + 2)
     # 2,097,120 is 65,535 times 32.
-    words_case(DONE, form(1), vectors(65535), MOST, 1_048_560)
-    words_case(DONE, complexes, vectors(65535), MOST, 1_048_560)
-    words_case(COUNT, form(1), vectors(65536), MOST)
-    words_case(DONE, form(1), vectors(65536), 31 * 65536)
-    words_case(COUNT, form(1), vectors(65536), 32 * 65536)
-    words_case(DONE, complexes, vectors(65536), 30 * 65536)
-    words_case(COUNT, complexes, vectors(65536), 31 * 65536)
+    words_case(DONE, form(1), second_word(65535), MOST, 1_048_560)
+    words_case(DONE, complexes, second_word(65535), MOST, 1_048_560)
+    words_case(COUNT, form(1), second_word(65536), MOST)
+    words_case(DONE, form(1), second_word(65536), 31 * 65536)
+    words_case(COUNT, form(1), second_word(65536), 32 * 65536)
+    words_case(DONE, complexes, second_word(65536), 30 * 65536)
+    words_case(COUNT, complexes, second_word(65536), 31 * 65536)
 
 
 def multiples():
@@ -428,10 +479,10 @@ def multiples():
     for complexity in range(3):
         for vector in (1, 2, 3, 5):
             first = form(complexity % 2, complexity=complexity)
-            second = vectors(vector)
-            unit = vector * (2 if complexity else 1)
-            for n in range(2 * unit + 2):
-                answer = COUNT if n % unit else DONE
+            second = second_word(vector)
+            group = payload.group(first, second)
+            for n in range(2 * group + 2):
+                answer = COUNT if n % group else DONE
                 words = numbers.some(payload.words_for(first, n))
                 words_case(answer, first, second, n)
                 unpack_case(answer, first, second, n, words)
@@ -442,6 +493,79 @@ def multiples():
     words_case(COUNT, form(), 0xFFFF, 65537)
     words_case(COUNT, form(complexity=2), 0xFFFF, 65536)
     words_case(DONE, form(complexity=2), 0xFFFF, 131072, 65536)
+
+
+def parts_of_groups():
+    """Multiples of a part of the group, such as the vector size, and of the group."""
+    numbers = Numbers(13)
+    for vector, repeat, complexity, component_repeat in (
+        (2, 3, 0, 0), (3, 2, 1, 0), (2, 2, 2, 1), (1, 4, 1, 1), (4, 1, 2, 0), (5, 3, 0, 1),
+    ):
+        first = form(repeat % 2, complexity=complexity, component_repeat=component_repeat)
+        second = second_word(vector, repeat)
+        group, parts = payload.group(first, second), payload.component_count(first)
+        for n in sorted({
+            vector, repeat, vector * parts, repeat * parts, vector * repeat, group - 1, group,
+            group + 1, group + vector * parts, group + repeat * parts, 2 * group,
+        }):
+            answer = COUNT if n % group else DONE
+            words = numbers.some(payload.words_for(first, n))
+            words_case(answer, first, second, n)
+            unpack_case(answer, first, second, n, words)
+            pack_case(answer, first, second, *samples(numbers, first, n))
+            coordinates_case(answer, first, second, n, n - 1)
+            if n >= group:
+                item_case(answer, first, second, n, (0, 0, 0, 0))
+
+
+def most_in_a_group():
+    """Groups of just the most items, and of one item less."""
+    for vector, repeat, complexity in (
+        (65535, 16, 1), (65535, 32, 0), (16, 65535, 2), (32, 65535, 0), (61680, 17, 2),
+    ):
+        for component_repeat in range(2):
+            first = form(
+                f=8, item=8, complexity=complexity, component_repeat=component_repeat
+            )
+            second = second_word(vector, repeat)
+            words_case(DONE, first, second, 0, 0)
+            words_case(DONE, first, second, MOST, 524_280)
+            unpack_case(COUNT, first, second, MOST, [], (0, 0, 0))
+            for n in (1, MOST // 64, MOST - 1, MOST + 1, 2 * MOST):
+                refused_count(first, second, n)
+    first, second = form(1, f=8, item=8), second_word(61, 34379)
+    words_case(DONE, first, second, MOST - 1, 524_280)
+    refused_count(first, second, MOST)
+
+
+def too_large_groups():
+    """Groups of more than the most items: only no items are taken."""
+    for vector, repeat, complexity in (
+        (169, 12409, 0), (911, 1151, 1), (65536, 32, 0), (32, 65536, 0), (65536, 16, 2),
+        (65536, 65536, 0), (65536, 32768, 2), (65536, 65536, 1), (34346, 62525, 1),
+    ):
+        for component_repeat in range(2):
+            first = form(1, complexity=complexity, component_repeat=component_repeat)
+            second = second_word(vector, repeat)
+            words_case(DONE, first, second, 0, 0)
+            unpack_case(DONE, first, second, 0, [], (0, 0, 0), ([], [], []))
+            pack_case(DONE, first, second, [], [], [], 0, [])
+            for item in (0, 1, ONES):
+                coordinates_case(VALUE, first, second, 0, item)
+                item_case(VALUE, first, second, 0, (item, 0, 0, 0))
+            # 34,346 times 62,525 times 2 is 2^32 + 4.
+            for n in (1, 2, 4, 8, 65536, MOST, MOST + 1, 1 << 20, 1 << 21, 1 << 31, ONES):
+                refused_count(first, second, n)
+
+
+def refused_count(first, second, n):
+    """A number of items that COUNT refuses, in each kind of case; packed if they are few."""
+    words_case(COUNT, first, second, n)
+    unpack_case(COUNT, first, second, n, [], (0, 0, 0))
+    if n <= 8:
+        pack_case(COUNT, first, second, [0] * n, [0] * n, [0] * n)
+    coordinates_case(COUNT, first, second, n, 0)
+    item_case(COUNT, first, second, n, (0, 0, 0, 0))
 
 
 def word_counts():
@@ -563,17 +687,31 @@ def rooms():
 # The order of the refusals.
 
 
+def right_format(step):
+    """12-bit items with tags, in groups of 2 or 4."""
+    first = form(
+        step % 2, f=16, item=12, event=1, channel=2,
+        complexity=1 + step // 2 % 2, component_repeat=step // 4 % 2,
+    )
+    return first, second_word(*((1, 1), (1, 2), (2, 1))[step % 3])
+
+
 def wrong_format(step):
-    """Format words with one fault, and 12-bit items with tags otherwise."""
-    first = form(step % 2, f=16, item=12, event=1, channel=2, complexity=1)
+    """The same with one fault: a reserved bit, item code 7, item code 14 with other than 32
+    bits, real/complex 3, a processing-efficient field of 40 bits, a field too small."""
+    first, second = right_format(step)
     return (
-        (first | 1 << 23, 0),
-        (first, 0x00010000),
-        (first | 1 << 12, 0),
-        (first | 7 << 24, 0),
-        (form(0, f=40, item=12, event=1, channel=2, complexity=1), 0),
-        (form(1, f=14, item=12, event=1, channel=2, complexity=1), 0),
-    )[step % 6]
+        first | 1 << 12,
+        first | 7 << 24,
+        first | 14 << 24,
+        first | 3 << 29,
+        first & ~(1 << 31 | 63 << 6) | 39 << 6,
+        first & ~(63 << 6) | 13 << 6,
+    )[step % 6], second
+
+
+def format_for(faults, step):
+    return (wrong_format if FORMAT in faults else right_format)(step)
 
 
 def sets_of(order):
@@ -582,12 +720,8 @@ def sets_of(order):
 
 
 def packing_faults(faults, step):
-    first = form(step % 2, f=16, item=12, event=1, channel=2, complexity=1)
-    second = 0
-    n = 4
-    if FORMAT in faults:
-        first, second = wrong_format(step)
-    lengths = [n, n, n]
+    first, second = format_for(faults, step)
+    lengths = [4, 4, 4]
     if COUNT in faults:
         lengths = ([4, 3, 4], [4, 4, 3], [3, 3, 3], [4, 4, 5], [5, 5, 5])[step % 5]
     items, events, channels = ([1] * length for length in lengths)
@@ -600,12 +734,9 @@ def packing_faults(faults, step):
 
 
 def unpacking_faults(faults, step):
-    first = form(step % 2, f=16, item=12, event=1, channel=2, complexity=2)
-    second = 0
+    first, second = format_for(faults, step)
     n = 4
     words = [0xABC6ABC5] * 2
-    if FORMAT in faults:
-        first, second = wrong_format(step)
     if COUNT in faults:
         if step % 4 == 0:
             n = 3
@@ -621,16 +752,33 @@ def unpacking_faults(faults, step):
     unpack_case(faults[0], first, second, n, words, lengths)
 
 
+def coordinates_faults(faults, step):
+    first, second = format_for(faults, step)
+    n = (5, 7, 9, MOST + 4)[step % 4] if COUNT in faults else 8
+    item = (n, n + 1, ONES)[step % 3] if VALUE in faults else n - 1
+    coordinates_case(faults[0], first, second, n, item)
+
+
+def item_faults(faults, step):
+    first, second = format_for(faults, step)
+    n = (5, 7, 9, MOST + 4)[step % 4] if COUNT in faults else 8
+    coordinates = [0, 0, 0, 0]
+    if VALUE in faults:
+        place = step // 3 % 4
+        coordinates[place] = ONES if step % 3 == 0 else payload.ends(first, second, n)[place]
+    item_case(faults[0], first, second, n, coordinates)
+
+
 def order():
     for step in range(12):
-        for faults in sets_of(ORDERS[PACK]):
-            packing_faults(faults, step)
-            if len(faults) == 2:
-                both_faults[PACK].add(tuple(faults))
-        for faults in sets_of(ORDERS[UNPACK]):
-            unpacking_faults(faults, step)
-            if len(faults) == 2:
-                both_faults[UNPACK].add(tuple(faults))
+        for op, with_faults in (
+            (PACK, packing_faults), (UNPACK, unpacking_faults),
+            (COORDINATES, coordinates_faults), (ITEM, item_faults),
+        ):
+            for faults in sets_of(ORDERS[op]):
+                with_faults(faults, step)
+                if len(faults) == 2:
+                    both_faults[op].add(tuple(faults))
         first, second = wrong_format(step)
         words_case(FORMAT, first, second, 3)
         words_case(FORMAT, first, second, MOST + 2)
@@ -638,6 +786,108 @@ def order():
     for item in (1, 2, 1 << 63, 2**64 - 1):
         signed_case(FORMAT, 0, item)
         both_faults[SIGNED].add((FORMAT, VALUE))
+
+
+# The order of the items.
+
+
+def there_and_back(first, second, n, item, meant=None):
+    """The coordinates of an item, which are these if that is known, and the item at them."""
+    answer, coordinates = payload.coordinates_of(first, second, n, item)
+    if answer != "coordinates":
+        sys.exit(f"format {first:08X} {second:08X}: item {item} of {n} is built to be there")
+    coordinates_case(DONE, first, second, n, item, meant)
+    item_case(DONE, first, second, n, coordinates, item)
+
+
+def figures():
+    """Source document 003, figures B.9-13, B.9-15 and B.9-16, row by row."""
+    for first in (0x000001C7, 0x100001C7):
+        # Components 1 to 4 of each sample.
+        for item in range(16):
+            there_and_back(first, 0x00000003, 16, item, (item // 4, item % 4, 0, 0))
+        # Four samples of a component in each row, of which the last begin with sample 5.
+        rows = ((1, 1), (2, 1), (3, 1), (4, 1), (1, 5), (2, 5))
+        for row, (component, sample) in enumerate(rows):
+            for k in range(4):
+                meant = (sample // 4, component - 1, 0, k)
+                there_and_back(first, 0x00030003, 32, 4 * row + k, meant)
+    for first in (0x208001C7, 0x408001C7):
+        # Real of samples 1 to 4, imaginary of them, then those of samples 5 to 8.
+        for row, (sample, component) in enumerate(((1, 0), (1, 1), (5, 0), (5, 1))):
+            for k in range(4):
+                meant = (sample // 4, 0, component, k)
+                there_and_back(first, 0x00030000, 16, 4 * row + k, meant)
+
+
+def small_groups():
+    """Two groups with all items where vector size and repeat are at most 3, and the ends of
+    the groups and some between of three groups of every small format."""
+    numbers = Numbers(14)
+    for vector, repeat, complexity, component_repeat in small_formats():
+        first = form(
+            repeat % 2, f=8, item=8, complexity=complexity, component_repeat=component_repeat
+        )
+        second = second_word(vector, repeat)
+        group = payload.group(first, second)
+        if vector <= 3 and repeat <= 3:
+            for item in range(2 * group):
+                there_and_back(first, second, 2 * group, item)
+        n = 3 * group
+        for item in sorted({0, group - 1, group, n - 1, numbers.below(n), numbers.below(n)}):
+            there_and_back(first, second, n, item)
+
+
+def large_groups():
+    """As many groups as may be, of many channels, of many repeats and of both."""
+    numbers = Numbers(15)
+    for vector, repeat in (
+        (65535, 16), (16, 65535), (65536, 1), (1, 65536), (65536, 15), (15, 65536), (1000, 1000),
+        (257, 255), (2, 65536), (65536, 2), (1, 1), (3, 1), (1, 3), (1024, 512), (4095, 256),
+    ):
+        for complexity in range(3):
+            for component_repeat in range(2):
+                first = form(complexity=complexity, component_repeat=component_repeat)
+                second = second_word(vector, repeat)
+                group = payload.group(first, second)
+                n = MOST // group * group
+                for item in sorted({0, group // 2, n - group, n - 1, numbers.below(n)}):
+                    there_and_back(first, second, n, item)
+
+
+# VALUE of an item and of coordinates.
+
+
+def places_outside():
+    for vector, repeat, complexity, groups in (
+        (1, 1, 0, 1), (1, 1, 1, 5), (4, 4, 0, 2), (3, 2, 1, 2), (2, 5, 2, 3), (1, 4, 1, 2),
+        (5, 1, 2, 1), (65535, 16, 1, 1), (65536, 4, 0, 7), (16, 65536, 0, 1), (8, 4, 2, 32767),
+    ):
+        for component_repeat in range(2):
+            first = form(1, complexity=complexity, component_repeat=component_repeat)
+            second = second_word(vector, repeat)
+            n = groups * payload.group(first, second)
+            coordinates_case(DONE, first, second, n, n - 1)
+            for item in (n, n + 1, 1 << 31, ONES):
+                coordinates_case(VALUE, first, second, n, item)
+            coordinates_outside(first, second, n)
+
+
+def coordinates_outside(first, second, n):
+    """Each coordinate just inside, just outside and far outside, the others first or last."""
+    ends = payload.ends(first, second, n)
+    for others in ([0] * 4, [end - 1 for end in ends]):
+        for place, end in enumerate(ends):
+            for number in (end - 1, end, end + 1, 1 << 31, ONES):
+                coordinates = list(others)
+                coordinates[place] = number
+                item_case(DONE if number < end else VALUE, first, second, n, coordinates)
+    # Times whose items would be the first and the last if they were kept modulo 2^32.
+    group = payload.group(first, second)
+    if group > 1 and (1 << 32) % group == 0:
+        around = (1 << 32) // group
+        item_case(VALUE, first, second, n, (around, 0, 0, 0))
+        item_case(VALUE, first, second, n, (around + ends[0] - 1, *(end - 1 for end in ends[1:])))
 
 
 # Signed values
@@ -731,8 +981,29 @@ def of_words(k, arguments):
     return list(arguments), number, what, [f"{k} {answer} {what}"]
 
 
-ASK = {UNPACK: of_unpack, PACK: of_pack, SIGNED: of_signed, WORDS: of_words}
-NAMES = {UNPACK: "unpack", PACK: "pack", SIGNED: "signed", WORDS: "words"}
+def of_coordinates(k, arguments):
+    answer, what = payload.coordinates_of(*arguments)
+    if answer == "refused":
+        return list(arguments), what, what, [f"{k} refused {what}"]
+    names = ("time", "channel", "component", "repeat")
+    line = " ".join(f"{name} {number}" for name, number in zip(names, what))
+    return list(arguments), DONE, what, [f"{k} {line}"]
+
+
+def of_item(k, arguments):
+    answer, what = payload.item_at(*arguments)
+    number = what if answer == "refused" else DONE
+    return list(arguments), number, what, [f"{k} {answer} {what}"]
+
+
+ASK = {
+    UNPACK: of_unpack, PACK: of_pack, SIGNED: of_signed, WORDS: of_words,
+    COORDINATES: of_coordinates, ITEM: of_item,
+}
+NAMES = {
+    UNPACK: "unpack", PACK: "pack", SIGNED: "signed", WORDS: "words",
+    COORDINATES: "coordinates", ITEM: "item",
+}
 
 
 def build():
@@ -741,23 +1012,39 @@ def build():
     field_sizes()
     tag_sizes()
     item_codes()
+    repeats()
     long_runs()
     any_words()
     formats()
     most_items()
     multiples()
+    parts_of_groups()
+    most_in_a_group()
+    too_large_groups()
     word_counts()
     unlike_inputs()
     item_values()
     tag_values()
     rooms()
     order()
+    figures()
+    small_groups()
+    large_groups()
+    places_outside()
     signed_values()
 
 
 def fail(condition, message):
     if condition:
         sys.exit(message)
+
+
+def asked(op, answer):
+    """The two words of the format, and n, of each case of a kind with an answer."""
+    for kind, arguments, number, _ in cases:
+        if kind == op and number == answer:
+            first, second, n = arguments[:3]
+            yield first, second, len(n) if op == PACK else n
 
 
 def check_formats(op):
@@ -778,16 +1065,17 @@ def check_formats(op):
         ):
             missing = sorted(set(wanted) - found)
             fail(missing, f"{name}, link-efficient {link}: no {what} {missing}")
-    units = {"none": 0, "one": 0, "many": 0, "vectors": 0}
-    for kind, arguments, answer, _ in cases:
-        if kind == op and answer == DONE:
-            first, second = arguments[:2]
-            n = arguments[2] if op == UNPACK else len(arguments[2])
-            unit = payload.unit(first, second)
-            units["none" if n == 0 else "one" if n == unit else "many"] += 1
-            units["vectors"] += n > 0 and payload.vector_of(second) > 1
-    for what, n in units.items():
-        fail(n < 30, f"{name}, units {what}: {n} cases, fewer than 30")
+    groups = {"none": 0, "one": 0, "many": 0, "vectors": 0, "repeats": 0, "tagged repeats": 0}
+    for first, second, n in asked(op, DONE):
+        group = payload.group(first, second)
+        groups["none" if n == 0 else "one" if n == group else "many"] += 1
+        groups["vectors"] += n > 0 and payload.vector_of(second) > 1
+        repeated = n > 0 and payload.repeat_of(second) > 1
+        groups["repeats"] += repeated
+        tags = payload.event_size(first) + payload.channel_size(first)
+        groups["tagged repeats"] += repeated and tags > 0
+    for what, n in groups.items():
+        fail(n < 30, f"{name}, groups {what}: {n} cases, fewer than 30")
 
 
 def check_edges():
@@ -829,7 +1117,7 @@ def check_edges():
                 found.add((op, answer, "width", width, item - 2**width))
         elif op == WORDS:
             first, second, n = arguments
-            if payload.unit(first, second) == 1:
+            if payload.group(first, second) == 1:
                 found.add((op, answer, "n", n))
         if op != SIGNED and arguments[1] == 0:
             first = arguments[0]
@@ -844,7 +1132,7 @@ def check_edges():
     wanted += [(WORDS, DONE, "n", MOST), (WORDS, COUNT, "n", MOST + 1)]
     for place in range(3):
         wanted += [(PACK, COUNT, "unlike", place, more) for more in (-1, 1)]
-    for op in (UNPACK, PACK, WORDS):
+    for op in (UNPACK, PACK, WORDS, COORDINATES, ITEM):
         wanted += [(op, FORMAT, "link", False, "f", f) for f in range(33, 64)]
         wanted += [(op, DONE, "link", False, "f", f) for f in (32, 64)]
     wanted += [(SIGNED, DONE, "width", width) for width in range(1, 65)]
@@ -852,6 +1140,85 @@ def check_edges():
     wanted += [(SIGNED, FORMAT, "width", width) for width in (0, 65)]
     for edge in wanted:
         fail(edge not in found, f"no case at the edge {edge}")
+
+
+def small_format(first, second):
+    """A format as small_formats gives it."""
+    vector, repeat = payload.vector_of(second), payload.repeat_of(second)
+    return vector, repeat, first >> 29 & 3, first >> 23 & 1
+
+
+def check_small_formats(op):
+    """Every small format has a case with items that is not refused."""
+    seen = {small_format(first, second) for first, second, n in asked(op, DONE) if n > 0}
+    missing = sorted(set(small_formats()) - seen)
+    fail(missing, f"{NAMES[op]}: no vector, repeat, real/complex and bit 23 {missing}")
+
+
+def check_groups(op):
+    """Groups of more than the most items with none and with some, and parts of groups."""
+    of_none = VALUE if op in (COORDINATES, ITEM) else DONE
+    none = {(payload.group(first, second), n) for first, second, n in asked(op, of_none)}
+    some = {payload.group(first, second) for first, second, n in asked(op, COUNT) if n > 0}
+    for group in (MOST + 1, MOST + 2, 1 << 21, 1 << 32, (1 << 32) + 4, 1 << 33):
+        fail((group, 0) not in none, f"{NAMES[op]}: no group of {group} with no items")
+        fail(group not in some, f"{NAMES[op]}: no group of {group} with items")
+    parts = [
+        n for first, second, n in asked(op, COUNT)
+        if n <= MOST and n % (payload.group(first, second) // payload.repeat_of(second)) == 0
+        and n % payload.group(first, second) != 0
+    ]
+    fail(not parts, f"{NAMES[op]}: no whole number of vectors that is not one of groups")
+
+
+def check_most(op):
+    """The most items are there as one group."""
+    groups = [payload.group(first, second) for first, second, n in asked(op, DONE) if n == MOST]
+    fail(MOST not in groups, f"{NAMES[op]}: no group of {MOST}")
+
+
+def check_whole(op):
+    """All the items of two groups are there where vector size and repeat are at most 3."""
+    seen = {}
+    for kind, arguments, answer, _ in cases:
+        if kind == op and answer == DONE:
+            seen.setdefault(arguments[:3], set()).add(arguments[3:])
+    whole = {
+        small_format(first, second) for (first, second, n), places in seen.items()
+        if n == len(places) == 2 * payload.group(first, second)
+    }
+    missing = sorted(set(small_formats(3)) - whole)
+    fail(missing, f"{NAMES[op]}: not all items of {missing}")
+
+
+def check_bit_23(op):
+    """There are cases in which the other order answers otherwise."""
+    ask = payload.coordinates_of if op == COORDINATES else payload.item_at
+    n = sum(
+        ask(*arguments) != ask(arguments[0] ^ 1 << 23, *arguments[1:])
+        for kind, arguments, answer, _ in cases if kind == op and answer == DONE
+    )
+    fail(n < 300, f"{NAMES[op]}: {n} cases in which bit 23 counts, fewer than 300")
+
+
+def check_outside():
+    """Items and coordinates are just inside and just outside, the other coordinates inside."""
+    found = set()
+    for op, arguments, answer, _ in cases:
+        if op in (COORDINATES, ITEM):
+            first, second, n, *places = arguments
+            ends = payload.ends(first, second, n) if op == ITEM else (n,)
+            outside = [i for i, end in enumerate(ends) if places[i] >= end]
+            for i, end in enumerate(ends):
+                if outside in ([], [i]):
+                    found.add((op, answer, i, places[i] - end))
+                    found.add((op, answer, i, "ones" if places[i] == ONES else "other"))
+            found.add((op, answer, "n", n))
+    wanted = [(COORDINATES, 0), *((ITEM, i) for i in range(4))]
+    for op, i in wanted:
+        for edge in ((op, DONE, i, -1), (op, VALUE, i, 0), (op, VALUE, i, "ones")):
+            fail(edge not in found, f"no case at the edge {edge}")
+        fail((op, VALUE, "n", 0) not in found, f"{NAMES[op]}: no case of no items")
 
 
 def check(tally):
@@ -865,9 +1232,18 @@ def check(tally):
                 pair not in both_faults[op],
                 f"{NAMES[op]}: no case has the faults {pair[0]} and {pair[1]}",
             )
-    check_formats(UNPACK)
-    check_formats(PACK)
+    for op in (UNPACK, PACK):
+        check_formats(op)
     check_edges()
+    for op in (UNPACK, PACK, WORDS, COORDINATES, ITEM):
+        check_small_formats(op)
+        check_groups(op)
+    for op in (WORDS, COORDINATES, ITEM):
+        check_most(op)
+    for op in (COORDINATES, ITEM):
+        check_whole(op)
+        check_bit_23(op)
+    check_outside()
 
 
 def main():
