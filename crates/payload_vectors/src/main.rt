@@ -13,12 +13,15 @@ use output::blank_items;
 use output::blank_words;
 use output::print_accepted;
 use output::print_channels;
+use output::print_coordinates;
 use output::print_events;
 use output::print_items;
 use output::print_refused;
 use output::print_signed;
 use output::print_words;
 use payload_format::Shown;
+use payload_order::Coordinates;
+use payload_order::Located;
 use words::Length;
 
 // Op 1: first, second, n, the room of each buffer, m, then m words.
@@ -103,6 +106,41 @@ fn needed_case(k: u64) {
     }
 }
 
+// Op 5: first, second, n, item.
+fn coordinates_case(k: u64) {
+    let first = lines::inner::word();
+    let second = lines::inner::word();
+    let n = lines::inner::word() as usize;
+    let item = lines::inner::word() as usize;
+    let r = payload_order::coordinates_of(first, second, n, item);
+    match r {
+        Located::At(at) => print_coordinates(k, at),
+        Located::Refused(e) => print_refused(k, e),
+    }
+}
+
+// Op 6: first, second, n, time, channel, component, repeat.
+fn item_case(k: u64) {
+    let first = lines::inner::word();
+    let second = lines::inner::word();
+    let n = lines::inner::word() as usize;
+    let time = lines::inner::word();
+    let channel = lines::inner::word();
+    let component = lines::inner::word();
+    let repeat = lines::inner::word();
+    let at = Coordinates {
+        time: time,
+        channel: channel,
+        component: component,
+        repeat: repeat,
+    };
+    let r = payload_order::item_at(first, second, n, at);
+    match r {
+        Length::Accepted(i) => print_accepted(k, b" item ", i as u64),
+        Length::Refused(e) => print_refused(k, e),
+    }
+}
+
 // One case by its op; an op that is none of these has no line.
 fn run_case(op: u32, k: u64) {
     if op == 1 {
@@ -113,6 +151,10 @@ fn run_case(op: u32, k: u64) {
         signed_case(k);
     } else if op == 4 {
         needed_case(k);
+    } else if op == 5 {
+        coordinates_case(k);
+    } else if op == 6 {
+        item_case(k);
     }
 }
 

@@ -1,5 +1,6 @@
 // Buffers as they are before a call, and lines on standard output.
 ghost use Rattle.words.specs.Kit.{_≡_, _≤_, length};
+use payload_order::Coordinates;
 
 // The pattern that a buffer of items is filled with beforehand.
 pub fn blank_items() -> [u64; 4096]
@@ -47,6 +48,20 @@ pub fn print_signed(k: u64, v: i64) {
     lines::inner::number(k);
     lines::inner::text(b" value ");
     lines::inner::signed(v);
+    lines::inner::text(b"\n");
+}
+
+// The case's number and the coordinates of its item, as a line.
+pub fn print_coordinates(k: u64, at: Coordinates) {
+    lines::inner::number(k);
+    lines::inner::text(b" time ");
+    lines::inner::number(at.time as u64);
+    lines::inner::text(b" channel ");
+    lines::inner::number(at.channel as u64);
+    lines::inner::text(b" component ");
+    lines::inner::number(at.component as u64);
+    lines::inner::text(b" repeat ");
+    lines::inner::number(at.repeat as u64);
     lines::inner::text(b"\n");
 }
 
