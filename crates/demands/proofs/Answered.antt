@@ -19,6 +19,9 @@ use Rattle.packet_trailer.specs.declared.TrailerWord.the-variants as trailer
 use Rattle.packet_trailer.specs.Trailer.{trailerPaper}
 use Rattle.payload_format.specs.declared.signs.Shown.the-variants as shown
 use Rattle.payload_format.specs.Answers.{shownPaper}
+use Rattle.payload_order.specs.declared.Coordinates.{Coordinates}
+use Rattle.payload_order.specs.declared.Located.the-variants as located
+use Rattle.payload_order.specs.Numbering.{locatedPaper}
 use Rattle.play.specs.declared.Heard.{Heard}
 use Rattle.play.specs.declared.Played.the-variants as played
 use Rattle.play.specs.declared.run.Reached.{Reached}
@@ -58,6 +61,10 @@ says-parsed (accepted p) = (parsed.Accepted p, refl)
 says-trailer : (o : Outcome ℕ) → Says trailerPaper o
 says-trailer (refused n) = (trailer.Refused n, refl)
 says-trailer (accepted w) = (trailer.Accepted w, refl)
+
+says-located : (o : Outcome Coordinates) → Says locatedPaper o
+says-located (refused n) = (located.Refused n, refl)
+says-located (accepted at) = (located.At at, refl)
 
 says-shown : (o : Outcome ℤ) → Says shownPaper o
 says-shown (refused n) = (shown.Refused n, refl)
@@ -133,6 +140,8 @@ some-outcome =
     and (λ h. says-measured _)
     and lent-says _ _ _ says-measured
     and lent-says _ _ _ says-measured
+    and (λ h. says-located _)
+    and (λ h. says-measured _)
     and (λ h. says-shown _)
     and lent-says _ _ _ says-measured
     and (λ h. says-plain _)

@@ -5,6 +5,7 @@ use Rattle.packet.specs.Read.{readBy}
 use Rattle.packet_trailer.specs.Trailer.{trailerWordOf}
 use Rattle.packet_write.specs.Write.{writeOf}
 use Rattle.payload_format.specs.Count.{neededOf}
+use Rattle.payload_order.specs.Numbering.{coordinatesOf, itemOf}
 use Rattle.payload_pack.specs.Pack.{packOf}
 use Rattle.payload_format.specs.Signs.{signedOf}
 use Rattle.payload_unpack.specs.Unpack.{unpackOf}
@@ -23,7 +24,7 @@ use Rattle.panel_streams.specs.Changed.{changedOf}
 use Rattle.demands.specs.Refusals.{InOrder}
 
 pub in-order : InOrder
-unfolding readBy writeOf startOf playOf saveOf putBackOf readingOf packOf unpackOf signedOf contextOf neededOf trailerWordOf runOf lengthOf readingsOf
+unfolding readBy writeOf startOf playOf saveOf putBackOf readingOf packOf unpackOf signedOf coordinatesOf itemOf contextOf neededOf trailerWordOf runOf lengthOf readingsOf
     heldWordsOf identityOf typeCountsOf ownTableOf changedOf
 in-order = record {
   read = λ ws. record { order = refl; first = refl };
@@ -36,6 +37,8 @@ in-order = record {
   pack = λ first second items events channels out. record { order = refl; first = refl };
   unpack = λ first second n ws b. record { order = refl; first = refl };
   signed = λ w x. record { order = refl; first = refl };
+  coordinatesOf = λ first second n item. record { order = refl; first = refl };
+  itemAt = λ first second n at. record { order = refl; first = refl };
   checkBody = λ body. record { order = refl; first = refl };
   wordsNeeded = λ first second n. record { order = refl; first = refl };
   trailerWord = λ enables indicators e associated. record { order = refl; first = refl };

@@ -7,6 +7,7 @@ use Rattle.fields.proofs.Uniqueness.{field-count-once, check-body-once, find-on
 use Rattle.packet_trailer.proofs.Uniqueness.{trailer-parts-once, trailer-word-once}
 use Rattle.packet.proofs.Uniqueness.{read-once}
 use Rattle.payload_format.proofs.Uniqueness.{signed-once}
+use Rattle.payload_order.proofs.Uniqueness.{coordinates-once}
 use Rattle.play.proofs.Uniqueness.{play-once, play-run-once}
 use Rattle.panel.proofs.Uniqueness.{reading-once, readings-once}
 use Rattle.panel_streams.proofs.Uniqueness.{identity-once, counts-once, changed-once}
@@ -28,6 +29,8 @@ one-outcome =
     and (λ h r s. measured-once)
     and (λ h r s after after′. lent-once)
     and (λ h r s after after′. lent-once)
+    and (λ h. coordinates-once (h .0) (h .1) (h .2) (h .3))
+    and (λ h r s. measured-once)
     and (λ h. signed-once (h .0) (h .1))
     and (λ h r s after after′. lent-once)
     and (λ t r s p q. p ∙ sym q)

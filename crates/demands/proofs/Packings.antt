@@ -178,7 +178,7 @@ module _ (first second : ℕ) (items events channels out : List ℕ) (p : PackPa
   clean = record {
     unused = λ k l.
         ap (unusedIn (packingOf first)) (field-packed first second items events channels out p k l)
-        ∙ unused-made (packingOf first) (legal first second (p .format)) _ _ _ (p .events-fit .each k l) (p .channels-fit .each k l);
+        ∙ unused-made (packingOf first) (legal first (p .format)) _ _ _ (p .events-fit .each k l) (p .channels-fit .each k l);
     uncarried = λ j.
         ⊎-elim
         (λ (q : wordsFor first (length items) ≤ j). rw (past j q) (zero-mod (2 ^ (32 - carriedBits first))))

@@ -97,7 +97,7 @@ module _ (first second : ℕ) (items events channels out : List ℕ) (p : PackPa
   -- and its parts
   module _ (k : ℕ) (l : k < n) where
     lawful : Legal P
-    lawful = legal first second (p .format)
+    lawful = legal first (p .format)
 
     pub item-packed : itemIn P (fieldIn P words k) ≡ getD items k 0
     unfolding packingOf
@@ -177,7 +177,7 @@ module _ (first second n : ℕ) (ws items events channels out : List ℕ) (f : f
   unfolding packingOf
   repacks =
       let item-fits : (k : ℕ) → k < n → getD items k 0 < 2 ^ itemSize first =
-      λ k q. rw (h .item k q) (item-small (packingOf first) (legal first second f) ws k) in
+      λ k q. rw (h .item k q) (item-small (packingOf first) (legal first f) ws k) in
       let event-fits : (k : ℕ) → k < n → getD events k 0 < 2 ^ eventSize first = λ k q. rw (h .event k q) (mod-lt _ (pow-pos (eventSize first))) in
       let channel-fits : (k : ℕ) → k < n → getD channels k 0 < 2 ^ channelSize first = λ k q. rw (h .channel k q) (mod-lt _ (pow-pos (channelSize first))) in
       record {
@@ -196,7 +196,7 @@ module _ (first second n : ℕ) (ws items events channels out : List ℕ) (f : f
       let g : ℕ → ℕ = fieldsOf (packingOf first) items events channels in
       let same : (k : ℕ) → k < n → g k ≡ fieldIn (packingOf first) ws k =
       λ k l. rw (h .item k l, h .event k l, h .channel k l)
-      (made-back (packingOf first) (legal first second f) (fieldIn (packingOf first) ws k) (z .unused k l)) in
+      (made-back (packingOf first) (legal first f) (fieldIn (packingOf first) ws k) (z .unused k l)) in
       let past : (k : ℕ) → n ≤ k → g k ≡ 0 =
       λ k l. fields-blank (packingOf first) k items events channels (omega (arith, h .many .0)) (omega (arith, h .many .1)) (omega (arith, h .many .2)) in
       let back : (j : ℕ) → j < length ws → wordOf (carriedBits first) (packingSize first) g j ≡ getD ws j 0 =

@@ -15,8 +15,8 @@ use Rattle.packet.specs.Read.{timeOver, classBad, readBy}
 use Rattle.bitstream.specs.Stream.{bit, span}
 use Rattle.bitstream.specs.Carried.{streamBits, packingField, wordOf, needed}
 use Rattle.bitstream.specs.Filled.{listOf, filled}
-use Rattle.payload_format.specs.Format.{wideProcessing, formatBad, carriedBits, packingOf}
-use Rattle.payload_format.specs.Count.{unitOf, countBad, wordsFor}
+use Rattle.payload_format.specs.Format.{componentCount, wideProcessing, formatBad, carriedBits, packingOf}
+use Rattle.payload_format.specs.Count.{groupOf, countBad, wordsFor}
 use Rattle.payload_pack.specs.Pack.{fitting, valueBad, packOf}
 use Rattle.payload_unpack.specs.Unpack.{unpackOf}
 use Rattle.words.specs.Signed.{twosComplement}
@@ -33,7 +33,7 @@ unfolding bench classBad part bitsOf above all fieldSize asciiWords listWords wo
     asciiRule listsRule ruleOf spanOf obeyed bodyWords lowBitsSet otherLength ruleBroken trailed tsmOf reservedOf streamed hasSeconds hasFraction classAt
     secondsAt fractionAt bodyAt requiredOf bodyLength wordIf classHigh classLow fractionOf partsOf bodyOf packetOf timeOver readBy bit span streamBits
     packingField
-    wordOf needed listOf filled wideProcessing formatBad carriedBits packingOf unitOf countBad wordsFor fitting valueBad packOf unpackOf twosComplement signedOf
+    wordOf needed listOf filled componentCount wideProcessing formatBad carriedBits packingOf groupOf countBad wordsFor fitting valueBad packOf unpackOf twosComplement signedOf
     missedOf unitsOf lowerHalf share over isFrequency shownOf trailingZeros
 samples =
     refl and refl and refl and refl and refl and refl and refl and refl and refl and refl and refl and refl and refl and refl and refl and refl and refl and

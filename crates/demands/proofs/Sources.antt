@@ -21,6 +21,10 @@ use Rattle.payload_unpack.proofs.unpack.Statement as unpack
 use Rattle.payload_unpack.proofs.unpack.Met as unpack-met
 use Rattle.payload_pack.proofs.pack.Statement as pack
 use Rattle.payload_pack.proofs.pack.Met as pack-met
+use Rattle.payload_order.proofs.coordinates_of.Statement as coordinates_of
+use Rattle.payload_order.proofs.coordinates_of.Met as coordinates_of-met
+use Rattle.payload_order.proofs.item_at.Statement as item_at
+use Rattle.payload_order.proofs.item_at.Met as item_at-met
 use Rattle.payload_format.proofs.signed.Statement as signed
 use Rattle.payload_format.proofs.signed.Met as signed-met
 use Rattle.table.proofs.start.Statement as start
@@ -65,6 +69,8 @@ sources = record {
   wordsNeeded = (λ κs a. tt, λ κs a z ws. refl);
   unpack = (λ κs a. tt, λ κs a z ws. refl);
   pack = (λ κs a. tt, λ κs a z ws. refl);
+  coordinatesOf = (λ κs a. tt, λ κs a z ws. refl);
+  itemAt = (λ κs a. tt, λ κs a z ws. refl);
   signed = (λ κs a. tt, λ κs a z ws. refl);
   start = (λ κs a. tt, λ κs a z ws. refl);
   wellMade = (λ κs a. tt, λ κs a z ws. refl);
@@ -113,6 +119,12 @@ unpack-kept = unpack-met.met
 
 pub pack-kept : {M : Type 1} → pack.statement M
 pack-kept = pack-met.met
+
+pub coordinates-of-kept : {M : Type 1} → coordinates_of.statement M
+coordinates-of-kept = coordinates_of-met.met
+
+pub item-at-kept : {M : Type 1} → item_at.statement M
+item-at-kept = item_at-met.met
 
 pub signed-kept : {M : Type 1} → signed.statement M
 signed-kept = signed-met.met

@@ -21,6 +21,10 @@ use Rattle.vrt49.proofs.vrt49_pack.Statement as pack
 use Rattle.vrt49.proofs.vrt49_pack.Met as pack-met
 use Rattle.vrt49.proofs.vrt49_words_needed.Statement as words_needed
 use Rattle.vrt49.proofs.vrt49_words_needed.Met as words_needed-met
+use Rattle.vrt49.proofs.vrt49_coordinates_of.Statement as coordinates_of
+use Rattle.vrt49.proofs.vrt49_coordinates_of.Met as coordinates_of-met
+use Rattle.vrt49.proofs.vrt49_item_at.Statement as item_at
+use Rattle.vrt49.proofs.vrt49_item_at.Met as item_at-met
 use Rattle.vrt49.proofs.vrt49_signed.Statement as signed
 use Rattle.vrt49.proofs.vrt49_signed.Met as signed-met
 use Rattle.vrt49.proofs.vrt49_start.Statement as start
@@ -65,6 +69,8 @@ sources-for-c = record {
   unpack = (λ κs a. tt, λ κs a z ws. refl);
   pack = (λ κs a. tt, λ κs a z ws. refl);
   wordsNeeded = (λ κs a. tt, λ κs a z ws. refl);
+  coordinatesOf = (λ κs a. tt, λ κs a z ws. refl);
+  itemAt = (λ κs a. tt, λ κs a z ws. refl);
   signed = (λ κs a. tt, λ κs a z ws. refl);
   start = (λ κs a. tt, λ κs a z ws. refl);
   wellMade = (λ κs a. tt, λ κs a z ws. refl);
@@ -113,6 +119,12 @@ for-c-pack-kept = pack-met.met
 
 pub for-c-words-needed-kept : {M : Type 1} → words_needed.statement M
 for-c-words-needed-kept = words_needed-met.met
+
+pub for-c-coordinates-of-kept : {M : Type 1} → coordinates_of.statement M
+for-c-coordinates-of-kept = coordinates_of-met.met
+
+pub for-c-item-at-kept : {M : Type 1} → item_at.statement M
+for-c-item-at-kept = item_at-met.met
 
 pub for-c-signed-kept : {M : Type 1} → signed.statement M
 for-c-signed-kept = signed-met.met

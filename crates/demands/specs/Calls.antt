@@ -12,6 +12,8 @@ use Rattle.packet_trailer.specs.Trailer.{trailerOf, trailerWordOf, trailerPaper
 use Rattle.packet_write.specs.Write.{writeOf}
 use Rattle.payload_format.specs.Answers.{shownPaper}
 use Rattle.payload_format.specs.Count.{neededOf}
+use Rattle.payload_order.specs.declared.Coordinates.{Coordinates}
+use Rattle.payload_order.specs.Numbering.{coordinatesOf, locatedPaper, itemOf}
 use Rattle.payload_pack.specs.Pack.{packOf}
 use Rattle.payload_format.specs.Signs.{signedOf}
 use Rattle.payload_unpack.specs.Unpack.{Buffers, unpackOf}
@@ -92,6 +94,13 @@ unpackCall = lends measured (λ (h : ℕ × ℕ × ℕ × List ℕ × Buffers). 
 abbrev pub packCall : Call
 packCall = lends measured (λ (h : ℕ × ℕ × List ℕ × List ℕ × List ℕ × List ℕ). packOf (h .0) (h .1) (h .2) (h .3) (h .4) (h .5)) (λ h. h .5)
 
+-- payload_order::coordinates_of, item_at
+abbrev pub coordinatesOfCall : Call
+coordinatesOfCall = answers locatedPaper (λ (h : ℕ × ℕ × ℕ × ℕ). coordinatesOf (h .0) (h .1) (h .2) (h .3))
+
+abbrev pub itemAtCall : Call
+itemAtCall = answers measured (λ (h : ℕ × ℕ × ℕ × Coordinates). itemOf (h .0) (h .1) (h .2) (h .3))
+
 abbrev pub signedCall : Call
 signedCall = answers shownPaper (λ (h : ℕ × ℕ). signedOf (h .0) (h .1))
 
@@ -146,7 +155,7 @@ unfoldable pub calls : List {1} Call
 calls =
     fieldCountCall ∷ checkBodyCall ∷ findCall
     ∷ readCall ∷ writeCall ∷ trailerPartsCall ∷ trailerWordCall
-    ∷ wordsNeededCall ∷ unpackCall ∷ packCall ∷ signedCall
+    ∷ wordsNeededCall ∷ unpackCall ∷ packCall ∷ coordinatesOfCall ∷ itemAtCall ∷ signedCall
     ∷ startCall ∷ wellMadeCall ∷ playCall ∷ playRunCall
     ∷ pageLengthCall ∷ saveCall ∷ putBackCall ∷ readingCall ∷ readingsCall ∷ heldWordsCall
     ∷ identityCall ∷ countsCall ∷ ownTableCall ∷ changedCall ∷ []

@@ -13,6 +13,8 @@ use Rattle.packet.specs.Read.{readOf}
 use Rattle.packet_trailer.specs.Trailer.{trailerOf, trailerWordOf}
 use Rattle.packet_write.specs.Write.{headerWord, sizeFor, plainParts, writeOf}
 use Rattle.payload_unpack.specs.Unpack.{Buffers, unpackOf}
+use Rattle.payload_order.specs.declared.Coordinates.{Coordinates}
+use Rattle.payload_order.specs.Numbering.{coordinatesOf, itemOf}
 use Rattle.payload_pack.specs.Pack.{packOf}
 use Rattle.table.specs.Layout.{layoutWords, recordAt}
 use Rattle.table.specs.Identifiers.{listed, listGood}
@@ -25,6 +27,8 @@ use Rattle.demands.specs.WellMade.{Judged}
 use Rattle.demands.specs.ForC.{ForC}
 use Rattle.demands.specs.Clean.{Clean}
 use Rattle.demands.specs.Packings.{PackedAs}
+use Rattle.demands.specs.Numbered.{Numbered, figures}
+use Rattle.demands.specs.Samples.{Hold}
 use Rattle.demands.specs.ShownAs.{ShownAs}
 use Rattle.demands.specs.Trace.{traceOf, own, fieldCarried, answersAfter}
 use Rattle.demands.specs.Program.{Program, Accepts, AreWords, playAll, saidAll}
@@ -103,6 +107,12 @@ pub record Demand2 (P : Program) : Type 0 where
       PackedAs first (length items) items events channels ws × Clean first (length items) ws
   pub unpacks-as : (first second n : ℕ) (ws : List ℕ) → AreWords ws → (b : Buffers) (d : Done ℕ Buffers) → P .unpack first second n ws b ≡ accepted d
       → PackedAs first n (take n (d .leaves .items)) (take n (d .leaves .events)) (take n (d .leaves .channels)) ws
+  -- document 02, C-12: the items of a payload by time, channel, component and repeat, and back, one-to-one and onto, in both orders
+  pub coordinates : (first second n item : ℕ) → P .coordinates first second n item ≡ coordinatesOf first second n item
+  pub items : (first second n : ℕ) (at : Coordinates) → P .item first second n at ≡ itemOf first second n at
+  pub numbered : Numbered P
+  -- and these orders are those of the figures of VITA 49.0
+  pub as-figures : Hold figures
   -- readings for the panel: what each shows of the words of its field
   pub readings : (table : List ℕ) (stream bit : ℕ) → P .reading table stream bit ≡ readingOf table stream bit
   pub shown-as : (ws : List ℕ) → ShownAs ws

@@ -36,6 +36,8 @@ pub mod FieldFound
 pub mod Clean
 -- packed samples as document 01 says them
 pub mod Packings
+-- the items of a payload by time, channel, component and repeat
+pub mod Numbered
 -- what a reading shows, in document 01's words
 pub mod ShownAs
 -- every public call, with its promise

@@ -9,6 +9,8 @@ use Rattle.packet.specs.Read.{readOf}
 use Rattle.packet_write.specs.Write.{writeOf}
 use Rattle.packet_trailer.specs.declared.Trailer.{Trailer}
 use Rattle.packet_trailer.specs.Trailer.{trailerOf, trailerWordOf}
+use Rattle.payload_order.specs.declared.Coordinates.{Coordinates}
+use Rattle.payload_order.specs.Numbering.{coordinatesOf, itemOf}
 use Rattle.payload_unpack.specs.Unpack.{Buffers, unpackOf}
 use Rattle.payload_pack.specs.Pack.{packOf}
 use Rattle.table.specs.Start.{startOf}
@@ -37,6 +39,8 @@ pub record Program : Type 0 where
   pub trailerWord : (enables indicators e associated : ℕ) → Outcome ℕ
   pub pack : (first second : ℕ) (items events channels out : List ℕ) → Outcome (Done ℕ (List ℕ))
   pub unpack : (first second n : ℕ) → List ℕ → Buffers → Outcome (Done ℕ Buffers)
+  pub coordinates : (first second n item : ℕ) → Outcome Coordinates
+  pub item : (first second n : ℕ) → Coordinates → Outcome ℕ
   pub start : (ids table : List ℕ) → Outcome (Done ℕ (List ℕ))
   pub wellMade : (table : List ℕ) → Bool
   pub play : (table words : List ℕ) → Outcome (Done Heard (List ℕ))
@@ -62,6 +66,8 @@ ours = record {
   trailerWord = trailerWordOf;
   pack = packOf;
   unpack = unpackOf;
+  coordinates = coordinatesOf;
+  item = itemOf;
   start = startOf;
   wellMade = wellMade;
   play = playOf;

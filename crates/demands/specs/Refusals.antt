@@ -14,6 +14,8 @@ use Rattle.packet_trailer.specs.Trailer.{trailerList, trailerWordOf}
 use Rattle.packet_write.specs.Write.{writeList, writtenDone, writeOf}
 use Rattle.payload_format.specs.Count.{wordsFor, neededList, neededOf}
 use Rattle.payload_format.specs.Format.{packingOf}
+use Rattle.payload_order.specs.declared.Coordinates.{Coordinates}
+use Rattle.payload_order.specs.Numbering.{coordinatesUnder, itemUnder, coordinatesList, coordinatesOf, itemList, itemOf}
 use Rattle.payload_pack.specs.Pack.{packed, packList, packOf}
 use Rattle.words.specs.Signed.{twosComplement}
 use Rattle.payload_format.specs.Signs.{signedList, signedOf}
@@ -72,6 +74,11 @@ pub record InOrder : Type 0 where
       (unpackList first second n (length ws) (length (b .items)) (length (b .events)) (length (b .channels)))
       (record { says = n; leaves = unpacked (packingOf first) n ws b })
   pub signed : (w x : ℕ) → Ordered (signedOf w x) (FORMAT ∷ VALUE ∷ []) (signedList w x) (twosComplement w x)
+  -- the numbering of items (document 02, C-12): FORMAT and COUNT as in packing, then VALUE
+  pub coordinatesOf : (first second n item : ℕ)
+      → Ordered (coordinatesOf first second n item) (FORMAT ∷ COUNT ∷ VALUE ∷ []) (coordinatesList first second n item) (coordinatesUnder first second item)
+  pub itemAt : (first second n : ℕ) (at : Coordinates)
+      → Ordered (itemOf first second n at) (FORMAT ∷ COUNT ∷ VALUE ∷ []) (itemList first second n at) (itemUnder first second at)
   -- those of a type 4 body alone, the words needed, a trailer word, a run, a page's length, all readings and held words: each as the call that it belongs to
   pub checkBody : (body : List ℕ) → Ordered (contextOf body) (INDICATOR ∷ LAYOUT ∷ FIELD ∷ []) (contextList body) tt
   pub wordsNeeded : (first second n : ℕ) → Ordered (neededOf first second n) (FORMAT ∷ COUNT ∷ []) (neededList first second n) (wordsFor first n)

@@ -28,6 +28,10 @@ use Rattle.payload_unpack.proofs.unpack.Kinds as unpack-kinds
 use Rattle.payload_unpack.proofs.unpack.Reads as unpack
 use Rattle.payload_pack.proofs.pack.Kinds as pack-kinds
 use Rattle.payload_pack.proofs.pack.Reads as pack
+use Rattle.payload_order.proofs.coordinates_of.Kinds as coordinates_of-kinds
+use Rattle.payload_order.proofs.coordinates_of.Reads as coordinates_of
+use Rattle.payload_order.proofs.item_at.Kinds as item_at-kinds
+use Rattle.payload_order.proofs.item_at.Reads as item_at
 use Rattle.payload_format.proofs.signed.Kinds as signed-kinds
 use Rattle.payload_format.proofs.signed.Reads as signed
 use Rattle.table.proofs.start.Kinds as start-kinds
@@ -60,7 +64,7 @@ use Rattle.panel_streams.proofs.changed.Kinds as changed-kinds
 use Rattle.panel_streams.proofs.changed.Reads as changed
 use Rattle.demands.specs.Calls.{Call, answers, lends}
 use Rattle.demands.specs.Calls.{fieldCountCall, checkBodyCall, findCall, readCall, writeCall, trailerPartsCall, trailerWordCall}
-use Rattle.demands.specs.Calls.{wordsNeededCall, unpackCall, packCall, signedCall, startCall, wellMadeCall, playCall}
+use Rattle.demands.specs.Calls.{wordsNeededCall, unpackCall, packCall, coordinatesOfCall, itemAtCall, signedCall, startCall, wellMadeCall, playCall}
 use Rattle.demands.specs.Calls.{playRunCall, pageLengthCall, saveCall, putBackCall, readingCall, readingsCall, heldWordsCall}
 use Rattle.demands.specs.Calls.{identityCall, countsCall, ownTableCall, changedCall}
 
@@ -130,6 +134,12 @@ pub record Sources : Type 1 where
   pub pack : Source packCall pack-kinds.ps pack-kinds.r pack.Asked pack.Learnt
       (λ κs a. (a .0, a .1 .0, a .1 .1 .0 .now, a .1 .1 .1 .0 .now, a .1 .1 .1 .1 .0 .now, a .1 .1 .1 .1 .1 .0 .now))
       (λ κs z. z) (λ κs a ws. ws .1 .1 .1 .1 .1 .0)
+  -- payload_order::coordinates_of
+  pub coordinatesOf : Source coordinatesOfCall coordinates_of-kinds.ps coordinates_of-kinds.r coordinates_of.Asked coordinates_of.Learnt
+      (λ κs a. (a .0, a .1 .0, a .1 .1 .0, a .1 .1 .1 .0)) (λ κs z. z) (λ κs a ws. tt)
+  -- payload_order::item_at
+  pub itemAt : Source itemAtCall item_at-kinds.ps item_at-kinds.r item_at.Asked item_at.Learnt
+      (λ κs a. (a .0, a .1 .0, a .1 .1 .0, a .1 .1 .1 .0)) (λ κs z. z) (λ κs a ws. tt)
   -- payload_format::signed
   pub signed : Source signedCall signed-kinds.ps signed-kinds.r signed.Asked signed.Learnt
       (λ κs a. (a .0, a .1 .0)) (λ κs z. z) (λ κs a ws. tt)

@@ -7,7 +7,7 @@ use Rattle.payload_unpack.specs.Unpack.{buffers}
 use Rattle.vrt49.specs.Answers.{Tells}
 use Rattle.vrt49.specs.Calls.{CallForC, answers, tells}
 use Rattle.vrt49.specs.Calls.{forRead, forWrite, forTrailerParts, forTrailerWord, forFieldCount, forCheckBody, forFind}
-use Rattle.vrt49.specs.Calls.{forUnpack, forPack, forWordsNeeded, forSigned, forStart, forWellMade, forPlay}
+use Rattle.vrt49.specs.Calls.{forUnpack, forPack, forWordsNeeded, forCoordinatesOf, forItemAt, forSigned, forStart, forWellMade, forPlay}
 use Rattle.vrt49.specs.Calls.{forPlayRun, forPageLength, forSave, forPutBack, forReading, forReadings, forHeldWords}
 use Rattle.vrt49.specs.Calls.{forIdentity, forCounts, forOwnTable, forChanged}
 use Rattle.vrt49.proofs.vrt49_read.Kinds as read-kinds
@@ -30,6 +30,10 @@ use Rattle.vrt49.proofs.vrt49_pack.Kinds as pack-kinds
 use Rattle.vrt49.proofs.vrt49_pack.Reads as pack
 use Rattle.vrt49.proofs.vrt49_words_needed.Kinds as words_needed-kinds
 use Rattle.vrt49.proofs.vrt49_words_needed.Reads as words_needed
+use Rattle.vrt49.proofs.vrt49_coordinates_of.Kinds as coordinates_of-kinds
+use Rattle.vrt49.proofs.vrt49_coordinates_of.Reads as coordinates_of
+use Rattle.vrt49.proofs.vrt49_item_at.Kinds as item_at-kinds
+use Rattle.vrt49.proofs.vrt49_item_at.Reads as item_at
 use Rattle.vrt49.proofs.vrt49_signed.Kinds as signed-kinds
 use Rattle.vrt49.proofs.vrt49_signed.Reads as signed
 use Rattle.vrt49.proofs.vrt49_start.Kinds as start-kinds
@@ -108,6 +112,10 @@ pub record SourcesForC : Type 1 where
       (λ κs z. z) (λ κs a ws. (ws .1 .1 .1 .1 .1 .0, ws .1 .1 .1 .1 .1 .1 .0))
   pub wordsNeeded : SourceForC forWordsNeeded words_needed-kinds.ps words_needed-kinds.r words_needed.Asked words_needed.Learnt
       (λ κs a. (a .0, a .1 .0, a .1 .1 .0, a .1 .1 .1 .0 .now)) (λ κs z. z) (λ κs a ws. ws .1 .1 .1 .0)
+  pub coordinatesOf : SourceForC forCoordinatesOf coordinates_of-kinds.ps coordinates_of-kinds.r coordinates_of.Asked coordinates_of.Learnt
+      (λ κs a. (a .0, a .1 .0, a .1 .1 .0, a .1 .1 .1 .0, a .1 .1 .1 .1 .0 .now)) (λ κs z. z) (λ κs a ws. ws .1 .1 .1 .1 .0)
+  pub itemAt : SourceForC forItemAt item_at-kinds.ps item_at-kinds.r item_at.Asked item_at.Learnt
+      (λ κs a. (a .0, a .1 .0, a .1 .1 .0, a .1 .1 .1 .0 .now, a .1 .1 .1 .1 .0 .now)) (λ κs z. z) (λ κs a ws. ws .1 .1 .1 .1 .0)
   pub signed : SourceForC forSigned signed-kinds.ps signed-kinds.r signed.Asked signed.Learnt
       (λ κs a. (a .0, a .1 .0, a .1 .1 .0 .now)) (λ κs z. z) (λ κs a ws. ws .1 .1 .0)
   pub start : SourceForC forStart start-kinds.ps start-kinds.r start.Asked start.Learnt

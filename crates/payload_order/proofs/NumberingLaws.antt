@@ -1,5 +1,5 @@
 -- The answers of the two calls, by what `items_check` found of the format and n; what is let through is small enough for the sums of the code.
-use Rattle.words.proofs.Kit.{_≡_, sym, _∙_, ap, Bool, true, false, [], _∷_, ℕ, _/_, _^_, _≤_, _<_, arith, eqb, leb, le-leb, lt-leb}
+use Rattle.words.proofs.Kit.{_≡_, refl, sym, _∙_, ap, Bool, true, false, [], _∷_, ℕ, _/_, _^_, _≤_, _<_, arith, eqb, leb, le-leb, lt-leb}
 use native.Mathlib.Nat.{div-le-self}
 use borrow.Author.Tests.{leb-false}
 use Rattle.words.specs.declared.Check.{Check}
@@ -28,7 +28,15 @@ components-most first = go (eqb (realComplex first) 0)
     go true = omega arith
     go false = omega arith
 
--- coordinates that are not outside are inside
+pub components-some : (first : ℕ) → 0 < componentCount first
+unfolding componentCount
+components-some first = go (eqb (realComplex first) 0)
+  where
+    go : (t : Bool) → 0 < pick t 1 2
+    go true = omega arith
+    go false = omega arith
+
+-- coordinates that are not outside are inside, and the other way
 pub in-box : (first second n : ℕ) (at : Coordinates) → outside first second n at ≡ false
     → Inside (n / groupOf first second) (vectorSize second) (repeatSize second) (componentCount first) at
 unfolding outside
@@ -42,6 +50,12 @@ in-box first second n at e =
       component = leb-false _ (at .component) (component .0);
       repeat = leb-false _ (at .repeat) (component .1);
     }
+
+pub not-outside : (first second n : ℕ) (at : Coordinates)
+    → Inside (n / groupOf first second) (vectorSize second) (repeatSize second) (componentCount first) at → outside first second n at ≡ false
+unfolding outside
+not-outside first second n at p =
+    rw (lt-leb _ (at .time) (p .time), lt-leb _ (at .channel) (p .channel), lt-leb _ (at .component) (p .component), lt-leb _ (at .repeat) (p .repeat)) refl
 
 -- ---- the answers
 module _ (first second n : ℕ) (asked : Check) (e : checked asked ≡ itemsCheck first second n) where
