@@ -6,30 +6,30 @@ use Rattle.payload_format.specs.Count.{groupOf}
 use Rattle.payload_format.proofs.inner.group.Statement.{statement}
 use Rattle.payload_format.proofs.inner.group.Tie as tie
 
-module _ (second v r : ℕ) (a : v ≡ vectorSize second) (b : r ≡ repeatSize second) where
+-- the samples of a group, and its items
+module _ (x y v r : ℕ) (a : v ≡ vectorSize x) (b : r ≡ repeatSize y) where
   vector-most : v ≤ 2 ^ 16
   vector-most = omega arith
 
   repeat-most : r ≤ 2 ^ 16
   repeat-most = omega arith
 
-  samples-most : v * r < 2 ^ 64
-  samples-most = omega (arith, mul-le-mul vector-most repeat-most)
+  samples-fit : v * r < 2 ^ 64
+  samples-fit = omega (arith, mul-le-mul vector-most repeat-most)
 
-  module _ (first c : ℕ) (e : c ≡ componentCount first) (some : 0 < c) where
-    group-most : c ≤ 2 → v * r * c < 2 ^ 64
-    group-most few = omega (arith, mul-le-mul (mul-le-mul vector-most repeat-most) few)
+  items-fit : (c : ℕ) → c ≤ 2 → v * r * c < 2 ^ 64
+  items-fit c few = omega (arith, mul-le-mul (mul-le-mul vector-most repeat-most) few)
 
-    group-made : v * r * c ≡ groupOf first second
-    unfolding groupOf
-    group-made = rw (a, b, e)
+  group-some : (c : ℕ) → 0 < c → 0 < v * r * c
+  group-some c some = mul-pos (mul-pos (omega arith) (omega arith)) some
 
-    group-some : 0 < v * r * c
-    group-some = mul-pos (mul-pos (omega arith) (omega arith)) some
+group-made : (first second v r c : ℕ) → v ≡ vectorSize second → r ≡ repeatSize second → c ≡ componentCount first → v * r * c ≡ groupOf first second
+unfolding groupOf
+group-made first second v r c a b e = rw (a, b, e)
 
 pub group-spec : {M : Type 1} → statement M
 group-spec =
     tie.close
     (tie.spec
-    (λ c κs. search needs) (λ c. search needs) (λ c κs. search needs) (λ c. search needs) (λ c. search samples-most) (λ c κs. search needs)
-    (λ c. search needs) (λ c. search group-most) (λ c. search (group-made, group-some)))
+    (λ c κs. search needs) (λ c. search needs) (λ c κs. search needs) (λ c. search needs) (λ c. search samples-fit) (λ c κs. search needs)
+    (λ c. search needs) (λ c. search items-fit) (λ c. search (group-made, group-some)))
