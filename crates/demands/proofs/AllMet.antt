@@ -17,7 +17,7 @@ use Rattle.demands.proofs.Again.{written-again}
 use Rattle.demands.proofs.Back.{written-back}
 use Rattle.demands.proofs.RoundTrip.{pack-then-unpack, unpack-then-pack}
 use Rattle.demands.proofs.Packings.{packed-as, unpacked-as}
-use Rattle.demands.proofs.Numbered.{numbered, as-figures}
+use Rattle.demands.proofs.ItemsNumbered.{numbered, as-figures}
 use Rattle.demands.proofs.ShownAs.{shown-as}
 use Rattle.demands.proofs.RightLaws.{start-accepts, right-start, right-on, answers-on, past-on}
 use Rattle.demands.proofs.Resumed.{saves, resumes, no-room, days}

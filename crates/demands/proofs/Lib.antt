@@ -19,7 +19,7 @@ pub mod RoundTrip
 -- what the definition of packing says of each packing, in document 01's words
 pub mod Packings
 -- the items of a payload, by time, channel, component and repeat
-pub mod Numbered
+pub mod ItemsNumbered
 -- the rules of a trace, when a packet more is heard
 pub mod RuleLaws
 -- playing on a table of a list, as the trace tells it

@@ -27,7 +27,7 @@ use Rattle.demands.specs.WellMade.{Judged}
 use Rattle.demands.specs.ForC.{ForC}
 use Rattle.demands.specs.Clean.{Clean}
 use Rattle.demands.specs.Packings.{PackedAs}
-use Rattle.demands.specs.Numbered.{Numbered, figures}
+use Rattle.demands.specs.ItemsNumbered.{ItemsNumbered, figures}
 use Rattle.demands.specs.Samples.{Hold}
 use Rattle.demands.specs.ShownAs.{ShownAs}
 use Rattle.demands.specs.Trace.{traceOf, own, fieldCarried, answersAfter}
@@ -110,7 +110,7 @@ pub record Demand2 (P : Program) : Type 0 where
   -- document 02, C-12: the items of a payload by time, channel, component and repeat, and back, one-to-one and onto, in both orders
   pub coordinates : (first second n item : ℕ) → P .coordinates first second n item ≡ coordinatesOf first second n item
   pub items : (first second n : ℕ) (at : Coordinates) → P .item first second n at ≡ itemOf first second n at
-  pub numbered : Numbered P
+  pub numbered : ItemsNumbered P
   -- and these orders are those of the figures of VITA 49.0
   pub as-figures : Hold figures
   -- readings for the panel: what each shows of the words of its field

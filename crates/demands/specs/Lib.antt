@@ -37,7 +37,7 @@ pub mod Clean
 -- packed samples as document 01 says them
 pub mod Packings
 -- the items of a payload by time, channel, component and repeat
-pub mod Numbered
+pub mod ItemsNumbered
 -- what a reading shows, in document 01's words
 pub mod ShownAs
 -- every public call, with its promise

@@ -1,33 +1,33 @@
--- Items and coordinates, over both orders and any sizes. The idea: an item is a number of two digits three times over, group and channel, run and place in it,
--- and in a run component and repeat, or repeat and component; so each law of two digits (`digits-lt`, `digits-div`, `digits-mod`) is cited three times.
+-- Items and coordinates, over both orders and any sizes. The idea: an item is a number of two digits three times over, group and channel, stretch and place in it,
+-- and in a stretch component and repeat, or repeat and component; so each law of two digits (`digits-lt`, `digits-div`, `digits-mod`) is cited three times.
 use Rattle.words.proofs.Kit.{_≡_, refl, sym, ap, ap₂, _∙_, subst, Bool, true, false, ⊎-elim, ℕ, _+_, _*_, _/_, _%_, _≤_, _<_, arith}
 use native.Mathlib.Nat.{mul-comm, mul-assoc, mul-pos, mod-lt, div-add-mod', div-lt-iff-lt-mul, mul-le-mul-right, mul-lt-mul-of-pos-right, lt-of-lt-of-le}
 use lib.Arith.{digits-lt, digits-div, digits-mod, lt-one}
 use Rattle.words.specs.Tests.{pick}
 use Rattle.words.proofs.Cases.{le-or-lt}
 use Rattle.payload_order.specs.declared.Coordinates.{Coordinates}
-use Rattle.payload_order.specs.Order.{withinRun, itemNumber, itemCoordinates, Inside, instant}
+use Rattle.payload_order.specs.Order.{withinStretch, itemNumber, itemCoordinates, Inside, instant}
 
--- ---- in a run
+-- ---- in a stretch
 module _ (r c : ℕ) where
   module _ (component repeat : ℕ) (k : component < c) (l : repeat < r) where
-    pub within-below : (apart : Bool) → withinRun apart r c component repeat < r * c
+    pub within-below : (apart : Bool) → withinStretch apart r c component repeat < r * c
     within-below true = subst (λ (x : ℕ). component * r + repeat < x) (mul-comm c r) (digits-lt k l)
     within-below false = digits-lt l k
 
     component-back : (apart : Bool) →
-        let w = withinRun apart r c component repeat in
+        let w = withinStretch apart r c component repeat in
         pick apart (w / r) (w % c) ≡ component
     component-back true = digits-div component l
     component-back false = digits-mod repeat k
 
     repeat-back : (apart : Bool) →
-        let w = withinRun apart r c component repeat in
+        let w = withinStretch apart r c component repeat in
         pick apart (w % r) (w / c) ≡ repeat
     repeat-back true = digits-mod component l
     repeat-back false = digits-div repeat k
 
-  within-again : (apart : Bool) (w : ℕ) → withinRun apart r c (pick apart (w / r) (w % c)) (pick apart (w % r) (w / c)) ≡ w
+  within-again : (apart : Bool) (w : ℕ) → withinStretch apart r c (pick apart (w / r) (w % c)) (pick apart (w % r) (w / c)) ≡ w
   within-again true w = div-add-mod' w r
   within-again false w = div-add-mod' w c
 
@@ -45,24 +45,24 @@ module _ (apart : Bool) (v r c : ℕ) where
   abbrev item : Coordinates → ℕ
   item = itemNumber apart v r c
 
-  abbrev run : Coordinates → ℕ
-  run at = at .time * v + at .channel
+  abbrev stretch : Coordinates → ℕ
+  stretch at = at .time * v + at .channel
 
   abbrev within : Coordinates → ℕ
-  within at = withinRun apart r c (at .component) (at .repeat)
+  within at = withinStretch apart r c (at .component) (at .repeat)
 
   -- the items of t groups
   groups-items : (t : ℕ) → t * v * (r * c) ≡ t * (v * r * c)
   groups-items t = mul-assoc t v (r * c) ∙ ap (λ (x : ℕ). t * x) (sym (mul-assoc v r c))
 
   module _ {groups : ℕ} (at : Coordinates) (inside : Inside groups v r c at) where
-    run-back : item at / (r * c) ≡ run at
+    stretch-back : item at / (r * c) ≡ stretch at
     unfolding itemNumber
-    run-back = digits-div (run at) (within-below r c (at .component) (at .repeat) (inside .component) (inside .repeat) apart)
+    stretch-back = digits-div (stretch at) (within-below r c (at .component) (at .repeat) (inside .component) (inside .repeat) apart)
 
     within-back : item at % (r * c) ≡ within at
     unfolding itemNumber
-    within-back = digits-mod (run at) (within-below r c (at .component) (at .repeat) (inside .component) (inside .repeat) apart)
+    within-back = digits-mod (stretch at) (within-below r c (at .component) (at .repeat) (inside .component) (inside .repeat) apart)
 
     -- one-to-one: the coordinates of the item of coordinates are these
     pub item-coordinates : itemCoordinates apart v r c (item at) ≡ at
@@ -71,7 +71,7 @@ module _ (apart : Bool) (v r c : ℕ) where
         let k = inside .component in
         let l = inside .repeat in
         rw (
-          run-back,
+          stretch-back,
           within-back,
           digits-div (at .time) (inside .channel),
           digits-mod (at .time) (inside .channel),
@@ -91,7 +91,7 @@ module _ (apart : Bool) (v r c : ℕ) where
     below-item t some-v some-r some-c h =
         let j : item at < t * v * (r * c) = subst (λ (x : ℕ). item at < x) (sym (groups-items t)) h in
         let k : item at / (r * c) < t * v = div-lt-iff-lt-mul (mul-pos some-r some-c) .1 j in
-        let l : run at / v < t = div-lt-iff-lt-mul some-v .1 (rw (← run-back) k) in
+        let l : stretch at / v < t = div-lt-iff-lt-mul some-v .1 (rw (← stretch-back) k) in
         rw (digits-div (at .time) (inside .channel)) at l
 
   -- onto: the item of the coordinates of an item is this one
@@ -130,11 +130,11 @@ module _ (v r c : ℕ) {groups : ℕ} (at : Coordinates) (inside : Inside groups
 
 -- ---- one channel and component in time
 module _ (apart : Bool) (v r c : ℕ) where
-  -- in a run, a later sample stands behind
-  within-rises : (component i j : ℕ) → 0 < c → i < j → withinRun apart r c component i < withinRun apart r c component j
+  -- in a stretch, a later sample stands behind
+  within-rises : (component i j : ℕ) → 0 < c → i < j → withinStretch apart r c component i < withinStretch apart r c component j
   within-rises component i j some h = by-order apart
     where
-      by-order : (apart : Bool) → withinRun apart r c component i < withinRun apart r c component j
+      by-order : (apart : Bool) → withinStretch apart r c component i < withinStretch apart r c component j
       by-order true = omega arith
       by-order false = omega (arith, mul-lt-mul-of-pos-right h some)
 

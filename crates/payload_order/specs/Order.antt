@@ -5,25 +5,25 @@ use Rattle.words.specs.Kit.{ℕ, _+_, _*_, _/_, _%_, _<_, Bool}
 use Rattle.words.specs.Tests.{pick}
 use Rattle.payload_order.specs.declared.Coordinates.{Coordinates}
 
--- A run is what one channel has in a group: r samples of c components, so r * c items. Bit 23 zero, R. 6.1.6.3-8: "the number of Data Samples specified for each
+-- A stretch is what one channel has in a group: r samples of c components, so r * c items. Bit 23 zero, R. 6.1.6.3-8: "the number of Data Samples specified for each
 -- Channel by the Repeat Count" follow each other, and R. 6.1.6.3-3, -4: a sample's second component follows its first at once. Bit 23 one, R. 6.1.6.3-6, -7: "the
 -- number of "I" Data Items specified by the Repeat Count", "followed by the corresponding "Q" Data Items similarly arranged".
-abbrev pub withinRun : Bool → (r c component repeat : ℕ) → ℕ
-withinRun apart r c component repeat = pick apart (component * r + repeat) (repeat * c + component)
+abbrev pub withinStretch : Bool → (r c component repeat : ℕ) → ℕ
+withinStretch apart r c component repeat = pick apart (component * r + repeat) (repeat * c + component)
 
--- The item of coordinates. D. 6.1.6.3-4: a channel's run stands before that of "the next Channel"; D. 6.1.6.5-1: "the entire data payload can be described as a
+-- The item of coordinates. D. 6.1.6.3-4: a channel's stretch stands before that of "the next Channel"; D. 6.1.6.5-1: "the entire data payload can be described as a
 -- sequence of identical" groups.
 unfoldable pub itemNumber : Bool → (v r c : ℕ) → Coordinates → ℕ
-itemNumber apart v r c at = (at .time * v + at .channel) * (r * c) + withinRun apart r c (at .component) (at .repeat)
+itemNumber apart v r c at = (at .time * v + at .channel) * (r * c) + withinStretch apart r c (at .component) (at .repeat)
 
--- The coordinates of an item, from the same sums: which run it stands in, and where in it.
+-- The coordinates of an item, from the same sums: which stretch it stands in, and where in it.
 unfoldable pub itemCoordinates : Bool → (v r c : ℕ) → ℕ → Coordinates
 itemCoordinates apart v r c item =
-    let run = item / (r * c) in
+    let stretch = item / (r * c) in
     let within = item % (r * c) in
     record {
-      time = run / v;
-      channel = run % v;
+      time = stretch / v;
+      channel = stretch % v;
       component = pick apart (within / r) (within % c);
       repeat = pick apart (within % r) (within / c);
     }
@@ -35,6 +35,6 @@ pub record Inside (groups v r c : ℕ) (at : Coordinates) : Type 0 where
   pub component : at .component < c
   pub repeat : at .repeat < r
 
--- A sample's place in time among those of its channel, from 0: "several samples of one channel" make a group (C-12).
+-- The instant of a sample: how many samples of its channel come before it in the payload. Each group before has r of them.
 abbrev pub instant : ℕ → Coordinates → ℕ
 instant r at = at .time * r + at .repeat

@@ -34,7 +34,7 @@ pub fn coordinates_of(first: u32, second: u32, n: usize, item: usize) -> Located
     if n <= item {
         return Located::Refused(words::VALUE);
     }
-    Located::At(order::coordinates_in(first, second, item as u32))
+    Located::At(order::coordinates_under(first, second, item as u32))
 }
 
 // The item among n that has these coordinates; FORMAT and COUNT as in packing, then VALUE for a coordinate outside its range.
@@ -48,5 +48,5 @@ pub fn item_at(first: u32, second: u32, n: usize, at: Coordinates) -> Length
     if order::is_outside(first, second, n, at) {
         return Length::Refused(words::VALUE);
     }
-    Length::Accepted(order::item_number(first, second, at))
+    Length::Accepted(order::item_under(first, second, at))
 }

@@ -16,7 +16,7 @@ use Rattle.payload_order.proofs.OrderLaws.{item-coordinates, item-below, coordi
 use Rattle.payload_order.proofs.NumberingLaws.{components-some, in-box, not-outside}
 use Rattle.demands.specs.Program.{ours}
 use Rattle.demands.specs.Samples.{Hold}
-use Rattle.demands.specs.Numbered.{OneToOneOnto, LegalItems, InBox, Numbered, boxes, figures}
+use Rattle.demands.specs.ItemsNumbered.{OneToOneOnto, LegalItems, InBox, ItemsNumbered, cells, figures}
 use Rattle.vrt49.proofs.CallLaws.{_and_}
 
 -- ---- over the sizes
@@ -98,7 +98,7 @@ module _ (first other second n : ℕ) (at : Coordinates) (format : formatBad fir
         rw (← format, ← same-count, ← same-box)
         (first-same (itemList first second n at) _ _ (λ passed. ap accepted (same-item once (in-box first second n at (passed .1 .1 .0)))))
 
-pub numbered : Numbered ours
+pub numbered : ItemsNumbered ours
 numbered = record {
   over-sizes = over-sizes;
   from-item = λ first second n item legal h.
@@ -127,5 +127,5 @@ numbered = record {
 }
 
 pub as-figures : Hold figures
-unfolding figures boxes coordinatesOf formatBad wideProcessing formatOk codeKnown codeFits countBad groupOf componentCount itemCoordinates
+unfolding figures cells coordinatesOf formatBad wideProcessing formatOk codeKnown codeFits countBad groupOf componentCount itemCoordinates
 as-figures = refl and refl and tt

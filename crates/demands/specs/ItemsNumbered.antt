@@ -33,7 +33,7 @@ pub record LegalItems (first second n : ℕ) : Type 0 where
 abbrev pub InBox : (first second n : ℕ) → Coordinates → Type 0
 InBox first second n at = Inside (n / groupOf first second) (vectorSize second) (repeatSize second) (componentCount first) at
 
-pub record Numbered (P : Program) : Type 0 where
+pub record ItemsNumbered (P : Program) : Type 0 where
   -- one proof over the sizes and both orders
   pub over-sizes : (apart : Bool) (v r c groups : ℕ) → 0 < v → 0 < r → 0 < c → OneToOneOnto apart v r c groups
   -- each of n items has coordinates in the box, and they lead back to it
@@ -54,34 +54,34 @@ pub record Numbered (P : Program) : Type 0 where
 
 -- ---- the order itself, which a numbering that is one-to-one and onto leaves open: the figures of source document 003
 
--- what a figure writes in an item's box: the component of the sample vector and the sample, both from 1, and 0 for "Real/Ampl", 1 for "Imag/Phase"
-abbrev pub boxed : ℕ → Outcome Coordinates → List ℕ
-boxed r (refused n) = []
-boxed r (accepted at) = (at .channel + 1) ∷ (instant r at + 1) ∷ at .component ∷ []
+-- what a figure writes in the cell of an item: the component of the sample vector and the sample, both from 1, and 0 for "Real/Ampl", 1 for "Imag/Phase"
+abbrev pub cellOf : ℕ → Outcome Coordinates → List ℕ
+cellOf r (refused n) = []
+cellOf r (accepted at) = (at .channel + 1) ∷ (instant r at + 1) ∷ at .component ∷ []
 
--- the boxes of k items from an item on, of n
-unfoldable pub boxes : (first second n from k : ℕ) → List (List ℕ)
-boxes first second n from zero = []
-boxes first second n from (suc k) = boxed (repeatSize second) (coordinatesOf first second n from) ∷ boxes first second n (suc from) k
+-- the cells of k items from an item on, of n
+unfoldable pub cells : (first second n from k : ℕ) → List (List ℕ)
+cells first second n from zero = []
+cells first second n from (suc k) = cellOf (repeatSize second) (coordinatesOf first second n from) ∷ cells first second n (suc from) k
 
--- a box
-abbrev pub box : ℕ → ℕ → ℕ → List ℕ
-box component sample part = component ∷ sample ∷ part ∷ []
+-- a cell
+abbrev pub cell : ℕ → ℕ → ℕ → List ℕ
+cell component sample part = component ∷ sample ∷ part ∷ []
 
 unfoldable pub figures : List {1} Sample
 figures =
     -- Figure B.9-15, "Channel Repeating": formats 000001C7 00030003; "Data Item 1 (Component 1, Sample 1)", ..
-    row (boxes 0x000001C7 0x00030003 32 0 24)
-    (box 1 1 0 ∷ box 1 2 0 ∷ box 1 3 0 ∷ box 1 4 0
-    ∷ box 2 1 0 ∷ box 2 2 0 ∷ box 2 3 0 ∷ box 2 4 0
-    ∷ box 3 1 0 ∷ box 3 2 0 ∷ box 3 3 0 ∷ box 3 4 0
-    ∷ box 4 1 0 ∷ box 4 2 0 ∷ box 4 3 0 ∷ box 4 4 0
-    ∷ box 1 5 0 ∷ box 1 6 0 ∷ box 1 7 0 ∷ box 1 8 0
-    ∷ box 2 5 0 ∷ box 2 6 0 ∷ box 2 7 0 ∷ box 2 8 0 ∷ [])
+    row (cells 0x000001C7 0x00030003 32 0 24)
+    (cell 1 1 0 ∷ cell 1 2 0 ∷ cell 1 3 0 ∷ cell 1 4 0
+    ∷ cell 2 1 0 ∷ cell 2 2 0 ∷ cell 2 3 0 ∷ cell 2 4 0
+    ∷ cell 3 1 0 ∷ cell 3 2 0 ∷ cell 3 3 0 ∷ cell 3 4 0
+    ∷ cell 4 1 0 ∷ cell 4 2 0 ∷ cell 4 3 0 ∷ cell 4 4 0
+    ∷ cell 1 5 0 ∷ cell 1 6 0 ∷ cell 1 7 0 ∷ cell 1 8 0
+    ∷ cell 2 5 0 ∷ cell 2 6 0 ∷ cell 2 7 0 ∷ cell 2 8 0 ∷ [])
     -- Figure B.9-16, "Sample Component Repeating for Complex Data Formats": 208001C7 00030000; "Data Item 1 (Sample 1 Real/Ampl)", ..
-    ∷ row (boxes 0x208001C7 0x00030000 16 0 16)
-    (box 1 1 0 ∷ box 1 2 0 ∷ box 1 3 0 ∷ box 1 4 0
-    ∷ box 1 1 1 ∷ box 1 2 1 ∷ box 1 3 1 ∷ box 1 4 1
-    ∷ box 1 5 0 ∷ box 1 6 0 ∷ box 1 7 0 ∷ box 1 8 0
-    ∷ box 1 5 1 ∷ box 1 6 1 ∷ box 1 7 1 ∷ box 1 8 1 ∷ [])
+    ∷ row (cells 0x208001C7 0x00030000 16 0 16)
+    (cell 1 1 0 ∷ cell 1 2 0 ∷ cell 1 3 0 ∷ cell 1 4 0
+    ∷ cell 1 1 1 ∷ cell 1 2 1 ∷ cell 1 3 1 ∷ cell 1 4 1
+    ∷ cell 1 5 0 ∷ cell 1 6 0 ∷ cell 1 7 0 ∷ cell 1 8 0
+    ∷ cell 1 5 1 ∷ cell 1 6 1 ∷ cell 1 7 1 ∷ cell 1 8 1 ∷ [])
     ∷ []

@@ -1,9 +1,9 @@
--- `within_run` meets its promise: each return is the definition, and the products stay small.
+-- `within_stretch` meets its promise: each return is the definition, and the products stay small.
 use Rattle.words.proofs.Kit.{_≡_, refl, ℕ, _+_, _*_, _^_, _≤_, _<_, Bool, true, false, arith}
 use native.Mathlib.Nat.{mul-le-mul}
-use Rattle.payload_order.specs.Order.{withinRun}
-use Rattle.payload_order.proofs.order.within_run.Statement.{statement}
-use Rattle.payload_order.proofs.order.within_run.Tie as tie
+use Rattle.payload_order.specs.Order.{withinStretch}
+use Rattle.payload_order.proofs.order.within_stretch.Statement.{statement}
+use Rattle.payload_order.proofs.order.within_stretch.Tie as tie
 
 -- the components before, and the samples before
 module _ (r component repeat : ℕ) (a : r ≤ 65536) (b : component < 2) where
@@ -39,14 +39,14 @@ module _ (c component repeat : ℕ) (a : c ≤ 2) (b : repeat < 65536) where
     beside-most = omega (arith, samples-before)
 
 module _ (apart : Bool) (r c component repeat : ℕ) where
-  apart-is : apart ≡ true → component * r + repeat ≡ withinRun apart r c component repeat
+  apart-is : apart ≡ true → component * r + repeat ≡ withinStretch apart r c component repeat
   apart-is e = rw e
 
-  beside-is : apart ≡ false → repeat * c + component ≡ withinRun apart r c component repeat
+  beside-is : apart ≡ false → repeat * c + component ≡ withinStretch apart r c component repeat
   beside-is e = rw e
 
-pub within-run-spec : {M : Type 1} → statement M
-within-run-spec =
+pub within-stretch-spec : {M : Type 1} → statement M
+within-stretch-spec =
     tie.close
     (tie.spec
     (λ c. search apart-fits) (λ c. search apart-sum) (λ c. search (apart-is, apart-most)) (λ c. search beside-fits)
