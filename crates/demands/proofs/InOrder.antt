@@ -24,8 +24,8 @@ use Rattle.panel_streams.specs.Changed.{changedOf}
 use Rattle.demands.specs.Refusals.{InOrder}
 
 pub in-order : InOrder
-unfolding readBy writeOf startOf playOf saveOf putBackOf readingOf packOf unpackOf signedOf coordinatesOf itemOf contextOf neededOf trailerWordOf runOf lengthOf readingsOf
-    heldWordsOf identityOf typeCountsOf ownTableOf changedOf
+unfolding readBy writeOf startOf playOf saveOf putBackOf readingOf packOf unpackOf signedOf coordinatesOf itemOf contextOf neededOf trailerWordOf runOf lengthOf
+    readingsOf heldWordsOf identityOf typeCountsOf ownTableOf changedOf
 in-order = record {
   read = λ ws. record { order = refl; first = refl };
   write = λ p body out at. record { order = refl; first = refl };

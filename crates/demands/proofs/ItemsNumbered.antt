@@ -1,5 +1,5 @@
--- The items of a payload are numbered one-to-one and onto. The idea: the laws of `OrderLaws` hold over any sizes; the calls add that n items are whole groups, so
--- that an item below n has a time below the number of groups, and the other way.
+-- The items of a payload are numbered one-to-one and onto. The idea: the laws of `OrderLaws` hold over any sizes; the calls add that n items are whole groups,
+-- so that an item below n has a time below the number of groups, and the other way.
 use Rattle.words.proofs.Kit.{_≡_, refl, sym, ap, _∙_, subst, Bool, true, false, ⊎-elim, ℕ, _*_, _/_, _<_, arith, leb, lt-leb}
 use mathlib.Core.Logic.{_⊎_}
 use Rattle.words.specs.Outcome.{Outcome, accepted}

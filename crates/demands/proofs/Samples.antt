@@ -33,8 +33,8 @@ unfolding bench classBad part bitsOf above all fieldSize asciiWords listWords wo
     asciiRule listsRule ruleOf spanOf obeyed bodyWords lowBitsSet otherLength ruleBroken trailed tsmOf reservedOf streamed hasSeconds hasFraction classAt
     secondsAt fractionAt bodyAt requiredOf bodyLength wordIf classHigh classLow fractionOf partsOf bodyOf packetOf timeOver readBy bit span streamBits
     packingField
-    wordOf needed listOf filled componentCount wideProcessing formatBad carriedBits packingOf groupOf countBad wordsFor fitting valueBad packOf unpackOf twosComplement signedOf
-    missedOf unitsOf lowerHalf share over isFrequency shownOf trailingZeros
+    wordOf needed listOf filled componentCount wideProcessing formatBad carriedBits packingOf groupOf countBad wordsFor fitting valueBad packOf unpackOf
+    twosComplement signedOf missedOf unitsOf lowerHalf share over isFrequency shownOf trailingZeros
 samples =
     refl and refl and refl and refl and refl and refl and refl and refl and refl and refl and refl and refl and refl and refl and refl and refl and refl and
     refl and refl and refl and refl and tt

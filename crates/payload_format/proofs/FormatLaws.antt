@@ -1,6 +1,6 @@
 -- What is known of a format that FORMAT does not refuse, and of a number of items that COUNT does not refuse.
-use Rattle.words.proofs.Kit.{_≡_, refl, sym, ap, _∙_, Bool, true, false, not, [], _∷_, ℕ, _+_, _*_, _/_, _%_, _≤_, _<_, arith, ltb, leb, eqb, ltb-false, eqb-true}
-use Rattle.words.proofs.Kit.{not-false}
+use Rattle.words.proofs.Kit.{_≡_, refl, sym, ap, _∙_, Bool, true, false, not, [], _∷_, ℕ, _+_, _*_, _/_, _%_, _≤_, _<_, arith, ltb, leb, eqb}
+use Rattle.words.proofs.Kit.{ltb-false, eqb-true, not-false}
 use native.Mathlib.Nat.{div-mul-le-self, le-div-iff-mul-le, mul-le-mul-right, div-add-mod', zero-mod, mod-eq-of-lt}
 use borrow.Author.Tests.{leb-true}
 use Rattle.words.specs.Tests.{pick, either}

@@ -65,7 +65,8 @@ module _ (first second n : ℕ) (asked : Check) (e : checked asked ≡ itemsChec
       ≡ after (checked asked) (pick t (refused VALUE) answer)
   unfolding itemsCheck
   asked-first t answer =
-      sym (after-first (neededList first second n) tt (pick t (refused VALUE) answer)) ∙ ap (λ (o : Outcome Unit). after o (pick t (refused VALUE) answer)) (sym e)
+      let rest = pick t (refused VALUE) answer in
+      sym (after-first (neededList first second n) tt rest) ∙ ap (λ (o : Outcome Unit). after o rest) (sym e)
 
   -- ---- from an item
   module _ (item : ℕ) where

@@ -5,14 +5,14 @@ use Rattle.words.specs.Kit.{ℕ, _+_, _*_, _/_, _%_, _<_, Bool}
 use Rattle.words.specs.Tests.{pick}
 use Rattle.payload_order.specs.declared.Coordinates.{Coordinates}
 
--- A stretch is what one channel has in a group: r samples of c components, so r * c items. Bit 23 zero, R. 6.1.6.3-8: "the number of Data Samples specified for each
--- Channel by the Repeat Count" follow each other, and R. 6.1.6.3-3, -4: a sample's second component follows its first at once. Bit 23 one, R. 6.1.6.3-6, -7: "the
--- number of "I" Data Items specified by the Repeat Count", "followed by the corresponding "Q" Data Items similarly arranged".
+-- A stretch is what one channel has in a group: r samples of c components, so r * c items. Bit 23 zero, R. 6.1.6.3-8: "the number of Data Samples specified
+-- for each Channel by the Repeat Count" follow each other, and R. 6.1.6.3-3, -4: a sample's second component follows its first at once. Bit 23 one,
+-- R. 6.1.6.3-6, -7: "the number of "I" Data Items specified by the Repeat Count", "followed by the corresponding "Q" Data Items similarly arranged".
 abbrev pub withinStretch : Bool → (r c component repeat : ℕ) → ℕ
 withinStretch apart r c component repeat = pick apart (component * r + repeat) (repeat * c + component)
 
--- The item of coordinates. D. 6.1.6.3-4: a channel's stretch stands before that of "the next Channel"; D. 6.1.6.5-1: "the entire data payload can be described as a
--- sequence of identical" groups.
+-- The item of coordinates. Def. 6.1.6.3-4: a channel's stretch stands before that of "the next Channel"; Def. 6.1.6.5-1: "the entire data payload can be
+-- described as a sequence of identical" groups.
 unfoldable pub itemNumber : Bool → (v r c : ℕ) → Coordinates → ℕ
 itemNumber apart v r c at = (at .time * v + at .channel) * (r * c) + withinStretch apart r c (at .component) (at .repeat)
 

@@ -65,8 +65,8 @@ abbrev pub _and_ : {A B : Type 0} → A → B → A × B
 a and b = (a, b)
 
 listed : EachForC Listed callsForC
-unfolding readBy writeWordsOf trailerWordOf contextOf unpackOf packOf neededOf coordinatesOf itemOf signedOf startOf playOf runOf lengthOf saveOf putBackOf readingOf readingsOf
-    heldWordsOf identityOf typeCountsOf ownTableOf changedOf
+unfolding readBy writeWordsOf trailerWordOf contextOf unpackOf packOf neededOf coordinatesOf itemOf signedOf startOf playOf runOf lengthOf saveOf putBackOf
+    readingOf readingsOf heldWordsOf identityOf typeCountsOf ownTableOf changedOf
 listed =
     (λ h. ((_, refl), refl, search needs))
     and (λ h. ((_, refl), refl, search needs))
