@@ -1,8 +1,8 @@
 -- The items of a payload are numbered one-to-one and onto. The idea: the laws of `OrderLaws` hold over any sizes; the calls add that n items are whole groups,
 -- so that an item below n has a time below the number of groups, and the other way.
-use Rattle.words.proofs.Kit.{_≡_, refl, sym, ap, _∙_, subst, Bool, true, false, ⊎-elim, ℕ, _*_, _/_, _<_, arith, leb, lt-leb}
+use Rattle.words.proofs.Kit.{_≡_, refl, sym, ap, _∙_, Bool, true, false, ⊎-elim, ℕ, _*_, _/_, _<_, arith, lt-leb}
 use mathlib.Core.Logic.{_⊎_}
-use Rattle.words.specs.Outcome.{Outcome, accepted}
+use Rattle.words.specs.Outcome.{accepted}
 use Rattle.words.proofs.Cases.{accepted-same}
 use Rattle.words.proofs.RefusalLaws.{first-passed, first-same, none-given}
 use Rattle.fields.specs.Format.{codeKnown, codeFits, formatOk}
@@ -10,7 +10,7 @@ use Rattle.payload_format.specs.Format.{componentRepeat, vectorSize, repeatSize
 use Rattle.payload_format.specs.Count.{groupOf, countBad}
 use Rattle.payload_format.proofs.FormatLaws.{count-groups, count-none, group-large}
 use Rattle.payload_order.specs.declared.Coordinates.{Coordinates}
-use Rattle.payload_order.specs.Order.{itemNumber, itemCoordinates, instant}
+use Rattle.payload_order.specs.Order.{itemNumber, itemCoordinates}
 use Rattle.payload_order.specs.Numbering.{coordinatesUnder, itemUnder, coordinatesList, coordinatesOf, outside, itemList, itemOf}
 use Rattle.payload_order.proofs.OrderLaws.{item-coordinates, item-below, coordinates-item, coordinates-inside, item-rises, same-once, same-real}
 use Rattle.payload_order.proofs.NumberingLaws.{components-some, in-box, not-outside}

@@ -4,7 +4,7 @@ use native.Mathlib.Nat.{div-le-self}
 use borrow.Author.Tests.{leb-false}
 use Rattle.words.specs.declared.Check.{Check}
 use Rattle.words.specs.declared.Check.the-variants as found
-use Rattle.words.specs.Tests.{pick, either}
+use Rattle.words.specs.Tests.{pick}
 use Rattle.words.specs.Outcome.{Outcome, refused, accepted, after, checked}
 use Rattle.words.specs.Refusals.{firstGiven}
 use Rattle.words.specs.Numbers.{FORMAT, COUNT, VALUE}

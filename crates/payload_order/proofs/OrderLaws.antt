@@ -1,8 +1,9 @@
 -- Items and coordinates, over both orders and any sizes. The idea: an item is a number of two digits three times over: group and channel, stretch and what is
--- before it there, and in a stretch component and repeat, or repeat and component. So the laws of two digits (`digits-lt`, `digits-div`, `digits-mod`) carry all.
-use Rattle.words.proofs.Kit.{_≡_, refl, sym, ap, ap₂, _∙_, subst, Bool, true, false, ⊎-elim, ℕ, _+_, _*_, _/_, _%_, _≤_, _<_, arith}
+-- before it there, and in a stretch component and repeat, or repeat and component. So the laws of two digits (`digits-lt`, `digits-div`, `digits-mod`) carry
+-- all of it.
+use Rattle.words.proofs.Kit.{_≡_, sym, ap, _∙_, subst, Bool, true, false, ⊎-elim, ℕ, _+_, _*_, _/_, _%_, _≤_, _<_, arith}
 use native.Mathlib.Nat.{mul-comm, mul-assoc, mul-pos, mod-lt, div-add-mod', div-lt-iff-lt-mul, mul-le-mul-right, mul-lt-mul-of-pos-right, lt-of-lt-of-le}
-use lib.Arith.{digits-lt, digits-div, digits-mod, lt-one}
+use lib.Arith.{digits-lt, digits-div, digits-mod}
 use Rattle.words.specs.Tests.{pick}
 use Rattle.words.proofs.Cases.{le-or-lt}
 use Rattle.payload_order.specs.declared.Coordinates.{Coordinates}

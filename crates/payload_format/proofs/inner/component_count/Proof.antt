@@ -1,5 +1,5 @@
 -- `component_count` meets its promise: each return is a line of the definition.
-use Rattle.words.proofs.Kit.{arith, eq-eqb, ne-eqb, needs}
+use Rattle.words.proofs.Kit.{eq-eqb, ne-eqb, needs}
 use Rattle.payload_format.specs.Format.{componentCount}
 use Rattle.payload_format.proofs.inner.component_count.Statement.{statement}
 use Rattle.payload_format.proofs.inner.component_count.Tie as tie

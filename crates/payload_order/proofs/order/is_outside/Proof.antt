@@ -1,5 +1,5 @@
 -- `is_outside` meets its promise: each return is a line of the definition.
-use Rattle.words.proofs.Kit.{_≡_, ℕ, _/_, _≤_, _<_, Bool, true, leb, le-leb, lt-leb, needs}
+use Rattle.words.proofs.Kit.{_≡_, ℕ, _/_, _≤_, _<_, true, leb, le-leb, lt-leb, needs}
 use Rattle.payload_format.specs.Format.{vectorSize, repeatSize, componentCount}
 use Rattle.payload_format.specs.Count.{groupOf}
 use Rattle.payload_order.specs.declared.Coordinates.{Coordinates}

@@ -1,5 +1,5 @@
 -- `within_stretch` meets its promise: each return is the definition, and the products stay small.
-use Rattle.words.proofs.Kit.{_≡_, refl, ℕ, _+_, _*_, _^_, _≤_, _<_, Bool, true, false, arith}
+use Rattle.words.proofs.Kit.{_≡_, ℕ, _+_, _*_, _^_, _≤_, _<_, Bool, true, false, arith}
 use native.Mathlib.Nat.{mul-le-mul}
 use Rattle.payload_order.specs.Order.{withinStretch}
 use Rattle.payload_order.proofs.order.within_stretch.Statement.{statement}
