@@ -11,12 +11,12 @@ use Rattle.payload_format.specs.Count.{groupOf, countBad}
 use Rattle.payload_format.proofs.FormatLaws.{count-groups, count-none, group-large}
 use Rattle.payload_order.specs.declared.Coordinates.{Coordinates}
 use Rattle.payload_order.specs.Order.{itemNumber, itemCoordinates}
-use Rattle.payload_order.specs.Numbering.{coordinatesUnder, itemUnder, coordinatesList, coordinatesOf, outside, itemList, itemOf}
-use Rattle.payload_order.proofs.OrderLaws.{item-coordinates, item-below, coordinates-item, coordinates-inside, item-rises, same-once, same-real}
-use Rattle.payload_order.proofs.NumberingLaws.{components-some, in-box, not-outside}
+use Rattle.payload_order.specs.Numbering.{coordinatesUnder, itemUnder, coordinatesList, coordinatesOf, outside, InBox, itemList, itemOf}
+use Rattle.payload_order.proofs.OrderLaws.{item-coordinates, item-below, below-item, coordinates-item, coordinates-inside, item-rises, same-once, same-real}
+use Rattle.payload_order.proofs.NumberingLaws.{components-few, in-box, not-outside}
 use Rattle.demands.specs.Program.{ours}
 use Rattle.demands.specs.Samples.{Hold}
-use Rattle.demands.specs.ItemsNumbered.{OneToOneOnto, LegalItems, InBox, ItemsNumbered, cells, figures}
+use Rattle.demands.specs.ItemsNumbered.{OneToOneOnto, LegalItems, ItemsNumbered, cells, figures}
 use Rattle.vrt49.proofs.CallLaws.{_and_}
 
 -- ---- over the sizes
@@ -27,12 +27,13 @@ over-sizes apart v r c groups some-v some-r some-c =
       item-back = coordinates-item apart v r c;
       below = λ at inside. item-below apart v r c at inside groups (inside .time);
       back = item-coordinates apart v r c;
+      first-groups = λ at inside t. (item-below apart v r c at inside t, below-item apart v r c at inside t some-v some-r some-c);
     }
 
 -- ---- of the calls
 module _ (first second n : ℕ) (legal : LegalItems first second n) where
   abbrev numbering : OneToOneOnto (componentRepeat first) (vectorSize second) (repeatSize second) (componentCount first) (n / groupOf first second)
-  numbering = over-sizes _ _ _ _ _ (omega arith) (omega arith) (components-some first)
+  numbering = over-sizes _ _ _ _ _ (omega arith) (omega arith) (components-few first .0)
 
   -- n items are those of whole groups
   whole : n / groupOf first second * (vectorSize second * repeatSize second * componentCount first) ≡ n

@@ -4,11 +4,11 @@
 use Rattle.words.specs.Kit.{_≡_, ℕ, zero, suc, _+_, _*_, _/_, _<_, Bool, false, List, [], _∷_}
 use mathlib.Core.Logic.{_⊎_}
 use Rattle.words.specs.Outcome.{Outcome, refused, accepted}
-use Rattle.payload_format.specs.Format.{vectorSize, repeatSize, componentCount, formatBad}
+use Rattle.payload_format.specs.Format.{repeatSize, componentCount, formatBad}
 use Rattle.payload_format.specs.Count.{groupOf, countBad}
 use Rattle.payload_order.specs.declared.Coordinates.{Coordinates}
 use Rattle.payload_order.specs.Order.{itemNumber, itemCoordinates, Inside, instant}
-use Rattle.payload_order.specs.Numbering.{coordinatesOf}
+use Rattle.payload_order.specs.Numbering.{coordinatesOf, InBox}
 use Rattle.demands.specs.Program.{Program}
 use Rattle.demands.specs.Samples.{Sample, row}
 
@@ -21,6 +21,9 @@ pub record OneToOneOnto (apart : Bool) (v r c groups : ℕ) : Type 0 where
   -- all coordinates in the box have an item, and it leads back to them
   pub below : (at : Coordinates) → Inside groups v r c at → itemNumber apart v r c at < groups * (v * r * c)
   pub back : (at : Coordinates) → Inside groups v r c at → itemCoordinates apart v r c (itemNumber apart v r c at) ≡ at
+  -- groups follow each other: the first t have the first items, and no others
+  pub first-groups : (at : Coordinates) → Inside groups v r c at → (t : ℕ)
+      → (at .time < t → itemNumber apart v r c at < t * (v * r * c)) × (itemNumber apart v r c at < t * (v * r * c) → at .time < t)
 
 -- ---- the two calls
 
@@ -28,10 +31,6 @@ pub record OneToOneOnto (apart : Bool) (v r c groups : ℕ) : Type 0 where
 pub record LegalItems (first second n : ℕ) : Type 0 where
   pub format : formatBad first ≡ false
   pub count : countBad first second n ≡ false
-
--- the coordinates that n items have
-abbrev pub InBox : (first second n : ℕ) → Coordinates → Type 0
-InBox first second n at = Inside (n / groupOf first second) (vectorSize second) (repeatSize second) (componentCount first) at
 
 pub record ItemsNumbered (P : Program) : Type 0 where
   -- one proof over the sizes and both orders

@@ -15,30 +15,21 @@ use Rattle.payload_format.specs.Count.{groupOf, countBad, neededList}
 use Rattle.payload_format.specs.inner.Checked.{itemsCheck}
 use Rattle.payload_format.proofs.FormatLaws.{items-few}
 use Rattle.payload_order.specs.declared.Coordinates.{Coordinates}
-use Rattle.payload_order.specs.Order.{Inside}
-use Rattle.payload_order.specs.Numbering.{coordinatesUnder, itemUnder, coordinatesOf, outside, itemOf}
+use Rattle.payload_order.specs.Numbering.{coordinatesUnder, itemUnder, coordinatesOf, InBox, outside, itemOf}
 
 -- ---- the box
 
-components-most : (first : ℕ) → componentCount first ≤ 2
+-- a sample has one component or two
+pub components-few : (first : ℕ) → (0 < componentCount first) × (componentCount first ≤ 2)
 unfolding componentCount
-components-most first = go (eqb (realComplex first) 0)
+components-few first = by-kind (eqb (realComplex first) 0)
   where
-    go : (t : Bool) → pick t 1 2 ≤ 2
-    go true = omega arith
-    go false = omega arith
-
-pub components-some : (first : ℕ) → 0 < componentCount first
-unfolding componentCount
-components-some first = go (eqb (realComplex first) 0)
-  where
-    go : (t : Bool) → 0 < pick t 1 2
-    go true = omega arith
-    go false = omega arith
+    by-kind : (t : Bool) → (0 < pick t 1 2) × (pick t 1 2 ≤ 2)
+    by-kind true = (omega arith, omega arith)
+    by-kind false = (omega arith, omega arith)
 
 -- coordinates that are not outside are inside, and the other way
-pub in-box : (first second n : ℕ) (at : Coordinates) → outside first second n at ≡ false
-    → Inside (n / groupOf first second) (vectorSize second) (repeatSize second) (componentCount first) at
+pub in-box : (first second n : ℕ) (at : Coordinates) → outside first second n at ≡ false → InBox first second n at
 unfolding outside
 in-box first second n at e =
     let time = either-passed (leb (n / groupOf first second) (at .time)) _ e in
@@ -51,8 +42,7 @@ in-box first second n at e =
       repeat = leb-false _ (at .repeat) (component .1);
     }
 
-pub not-outside : (first second n : ℕ) (at : Coordinates)
-    → Inside (n / groupOf first second) (vectorSize second) (repeatSize second) (componentCount first) at → outside first second n at ≡ false
+pub not-outside : (first second n : ℕ) (at : Coordinates) → InBox first second n at → outside first second n at ≡ false
 unfolding outside
 not-outside first second n at p =
     rw (lt-leb _ (at .time) (p .time), lt-leb _ (at .channel) (p .channel), lt-leb _ (at .component) (p .component), lt-leb _ (at .repeat) (p .repeat)) refl
@@ -98,7 +88,7 @@ module _ (first second n : ℕ) (asked : Check) (e : checked asked ≡ itemsChec
       none-there h = rw (asked-first (outside first second n at), fine, ← o, h)
 
       module _ (h : out ≡ false) where
-        box : Inside (n / groupOf first second) (vectorSize second) (repeatSize second) (componentCount first) at
+        box : InBox first second n at
         box = in-box first second n at (sym o ∙ h)
 
         pub time-small : at .time < 2097120
@@ -108,7 +98,7 @@ module _ (first second n : ℕ) (asked : Check) (e : checked asked ≡ itemsChec
         channel-small = omega (arith, box .channel)
 
         pub component-small : at .component < 2
-        component-small = omega (arith, box .component, components-most first)
+        component-small = omega (arith, box .component, components-few first .1)
 
         pub repeat-small : at .repeat < 65536
         repeat-small = omega (arith, box .repeat)

@@ -9,7 +9,7 @@ use Rattle.payload_format.specs.Count.{groupOf, countBad}
 use Rattle.payload_order.specs.declared.Coordinates.{Coordinates}
 use Rattle.payload_order.specs.declared.Located.{Located}
 use Rattle.payload_order.specs.declared.Located.the-variants as located
-use Rattle.payload_order.specs.Order.{itemNumber, itemCoordinates}
+use Rattle.payload_order.specs.Order.{itemNumber, itemCoordinates, Inside}
 
 -- ---- the numbering under a format
 
@@ -35,6 +35,10 @@ locatedPaper (located.At at) = accepted at
 locatedPaper (located.Refused n) = refused n
 
 -- ---- and back
+
+-- the coordinates that n items have
+abbrev pub InBox : (first second n : ℕ) → Coordinates → Type 0
+InBox first second n at = Inside (n / groupOf first second) (vectorSize second) (repeatSize second) (componentCount first) at
 
 -- a coordinate is outside its range: the groups of n items, the vector size, the components, the repeat
 unfoldable pub outside : (first second n : ℕ) → Coordinates → Bool
