@@ -31,6 +31,7 @@ test:
 lib: python
 	@tools/check_header
 	@mkdir -p target && rm -f target/lib.log
+	@echo 'proving the calls for C, some minutes the first time ..'
 	@rt staticlib vrt49 >target/lib.log 2>&1 || { tail -n 20 target/lib.log; exit 1; }
 	@echo 'proved and built: target/staticlib/libvrt49.a; its header: include/vrt49.h'
 
@@ -66,7 +67,9 @@ speed:
 	@bench/measure.sh
 
 # the bytes of stack that each call of the library takes
-stack: lib
+stack:
+	@command -v x86_64-linux-gnu-objdump >/dev/null || command -v objdump >/dev/null || { echo 'objdump is missing; on Debian, as root: apt-get update && apt-get install binutils-x86-64-linux-gnu' >&2; exit 1; }
+	@$(MAKE) -s lib
 	@tools/stack
 
 # what the proofs weigh, whether they keep to their rules, and whether the lists of calls have every public function
