@@ -23,11 +23,11 @@ use Rattle.vrt49.proofs.CallLaws.{_and_}
 over-sizes : (apart : Bool) (v r c groups : ℕ) → 0 < v → 0 < r → 0 < c → OneToOneOnto apart v r c groups
 over-sizes apart v r c groups some-v some-r some-c =
     record {
-      inside = coordinates-inside apart v r c some-v some-r some-c groups;
-      item-back = coordinates-item apart v r c;
-      below = λ at inside. item-below apart v r c at inside groups (inside .time);
-      back = item-coordinates apart v r c;
-      first-groups = λ at inside t. (item-below apart v r c at inside t, below-item apart v r c at inside t some-v some-r some-c);
+      inside = coordinates-inside v r c apart some-v some-r some-c groups;
+      item-back = coordinates-item v r c apart;
+      below = λ at inside. item-below v r c at inside apart groups (inside .time);
+      back = λ at inside. item-coordinates v r c at inside apart;
+      first-groups = λ at inside t. (item-below v r c at inside apart t, below-item v r c at inside apart t);
     }
 
 -- ---- of the calls
@@ -121,7 +121,7 @@ numbered = record {
   rises = λ first second n a b i j e f channel component h.
       let x = item-said first second n a i e in
       let y = item-said first second n b j f in
-      rw (← (x .1), ← (y .1)) (item-rises _ _ _ _ a b (x .0) (y .0) channel component h);
+      rw (← (x .1), ← (y .1)) (item-rises _ _ _ a b (x .0) (y .0) channel component h (componentRepeat first));
   same-orders = same-orders;
   large = group-large;
   none = count-none;

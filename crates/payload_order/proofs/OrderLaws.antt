@@ -1,163 +1,150 @@
--- Items and coordinates, over both orders and any sizes. The idea: an item is a number of two digits three times over: group and channel, stretch and what is
--- before it there, and in a stretch component and repeat, or repeat and component. So the laws of two digits (`digits-lt`, `digits-div`, `digits-mod`) carry
--- all of it.
+-- Items and coordinates, over both orders and any sizes. The idea: an item is a number of four digits, of which time is the first and channel the second; the
+-- two orders differ in which of component and repeat is the last. So all is proved of four digits to any bases (`Digits`), and each order is an instance.
 use Rattle.words.proofs.Kit.{_≡_, sym, ap, _∙_, subst, Bool, true, false, ⊎-elim, ℕ, _+_, _*_, _/_, _%_, _≤_, _<_, arith}
-use native.Mathlib.Nat.{mul-comm, mul-assoc, mul-pos, mod-lt, div-add-mod', div-lt-iff-lt-mul, mul-le-mul-right, mul-lt-mul-of-pos-right, lt-of-lt-of-le}
+use native.Mathlib.Nat.{mul-assoc, mul-right-comm, mod-lt, div-add-mod', div-lt-iff-lt-mul, mul-le-mul-right, mul-lt-mul-of-pos-right, lt-of-lt-of-le}
 use lib.Arith.{digits-lt, digits-div, digits-mod}
-use Rattle.words.specs.Tests.{pick}
 use Rattle.words.proofs.Cases.{le-or-lt}
 use Rattle.payload_order.specs.declared.Coordinates.{Coordinates}
-use Rattle.payload_order.specs.Order.{withinStretch, itemNumber, itemCoordinates, Inside, instant}
+use Rattle.payload_order.specs.Order.{itemNumber, itemCoordinates, Inside, instant}
 
--- ---- in a stretch
-module _ (r c : ℕ) where
-  module _ (component repeat : ℕ) (k : component < c) (l : repeat < r) where
-    pub within-below : (apart : Bool) → withinStretch apart r c component repeat < r * c
-    within-below true = subst (λ (x : ℕ). component * r + repeat < x) (mul-comm c r) (digits-lt k l)
-    within-below false = digits-lt l k
+-- ---- a number by four digits t, h, i, j, of which the last three are below v, a, b
+module _ (v a b : ℕ) where
+  abbrev joined : (t h i j : ℕ) → ℕ
+  joined t h i j = ((t * v + h) * a + i) * b + j
 
-    component-back : (apart : Bool) →
-        let w = withinStretch apart r c component repeat in
-        pick apart (w / r) (w % c) ≡ component
-    component-back true = digits-div component l
-    component-back false = digits-mod repeat k
+  -- the numbers below t of the first digit
+  below-first : (t : ℕ) → t * v * a * b ≡ t * (v * a * b)
+  below-first t = ap (λ (x : ℕ). x * b) (mul-assoc t v a) ∙ mul-assoc t (v * a) b
 
-    repeat-back : (apart : Bool) →
-        let w = withinStretch apart r c component repeat in
-        pick apart (w % r) (w / c) ≡ repeat
-    repeat-back true = digits-mod component l
-    repeat-back false = digits-div repeat k
+  -- its digits come out again
+  record Digits (n t h i j : ℕ) : Type 0 where
+    first : n / b / a / v ≡ t
+    second : n / b / a % v ≡ h
+    third : n / b % a ≡ i
+    last : n % b ≡ j
 
-  within-again : (apart : Bool) (w : ℕ) → withinStretch apart r c (pick apart (w / r) (w % c)) (pick apart (w % r) (w / c)) ≡ w
-  within-again true w = div-add-mod' w r
-  within-again false w = div-add-mod' w c
-
-  module _ (w : ℕ) (inside : w < r * c) where
-    component-below : (apart : Bool) → 0 < r → 0 < c → pick apart (w / r) (w % c) < c
-    component-below true a b = div-lt-iff-lt-mul a .1 (subst (λ (x : ℕ). w < x) (mul-comm r c) inside)
-    component-below false a b = mod-lt w b
-
-    repeat-below : (apart : Bool) → 0 < r → 0 < c → pick apart (w % r) (w / c) < r
-    repeat-below true a b = mod-lt w a
-    repeat-below false a b = div-lt-iff-lt-mul b .1 inside
-
--- ---- in a payload
-module _ (apart : Bool) (v r c : ℕ) where
-  abbrev item : Coordinates → ℕ
-  item = itemNumber apart v r c
-
-  abbrev stretch : Coordinates → ℕ
-  stretch at = at .time * v + at .channel
-
-  abbrev within : Coordinates → ℕ
-  within at = withinStretch apart r c (at .component) (at .repeat)
-
-  -- the items of t groups
-  groups-items : (t : ℕ) → t * v * (r * c) ≡ t * (v * r * c)
-  groups-items t = mul-assoc t v (r * c) ∙ ap (λ (x : ℕ). t * x) (sym (mul-assoc v r c))
-
-  module _ {groups : ℕ} (at : Coordinates) (inside : Inside groups v r c at) where
-    stretch-back : item at / (r * c) ≡ stretch at
-    unfolding itemNumber
-    stretch-back = digits-div (stretch at) (within-below r c (at .component) (at .repeat) (inside .component) (inside .repeat) apart)
-
-    within-back : item at % (r * c) ≡ within at
-    unfolding itemNumber
-    within-back = digits-mod (stretch at) (within-below r c (at .component) (at .repeat) (inside .component) (inside .repeat) apart)
-
-    -- one-to-one: the coordinates of the item of coordinates are these
-    pub item-coordinates : itemCoordinates apart v r c (item at) ≡ at
-    unfolding itemCoordinates
-    item-coordinates =
-        let k = inside .component in
-        let l = inside .repeat in
-        rw (
-          stretch-back,
-          within-back,
-          digits-div (at .time) (inside .channel),
-          digits-mod (at .time) (inside .channel),
-          component-back r c (at .component) (at .repeat) k l apart,
-          repeat-back r c (at .component) (at .repeat) k l apart,
-        )
-
-    -- the first groups have the first items
-    pub item-below : (t : ℕ) → at .time < t → item at < t * (v * r * c)
-    unfolding itemNumber
-    item-below t h =
-        let w = within-below r c (at .component) (at .repeat) (inside .component) (inside .repeat) apart in
-        subst (λ (x : ℕ). item at < x) (groups-items t) (digits-lt (digits-lt h (inside .channel)) w)
-
-    -- and no others
-    pub below-item : (t : ℕ) → 0 < v → 0 < r → 0 < c → item at < t * (v * r * c) → at .time < t
-    below-item t some-v some-r some-c h =
-        let j : item at < t * v * (r * c) = subst (λ (x : ℕ). item at < x) (sym (groups-items t)) h in
-        let k : item at / (r * c) < t * v = div-lt-iff-lt-mul (mul-pos some-r some-c) .1 j in
-        let l : stretch at / v < t = div-lt-iff-lt-mul some-v .1 (rw (← stretch-back) k) in
-        rw (digits-div (at .time) (inside .channel)) at l
-
-  -- onto: the item of the coordinates of an item is this one
-  pub coordinates-item : (i : ℕ) → item (itemCoordinates apart v r c i) ≡ i
-  unfolding itemNumber itemCoordinates
-  coordinates-item i = rw (div-add-mod' (i / (r * c)) v, within-again r c apart (i % (r * c))) (div-add-mod' i (r * c))
-
-  -- and these coordinates are in the box
-  module _ (some-v : 0 < v) (some-r : 0 < r) (some-c : 0 < c) where
-    pub coordinates-inside : (groups i : ℕ) → i < groups * (v * r * c) → Inside groups v r c (itemCoordinates apart v r c i)
-    unfolding itemCoordinates
-    coordinates-inside groups i h =
-        let w = mod-lt i (mul-pos some-r some-c) in
-        let j : i < groups * v * (r * c) = subst (λ (x : ℕ). i < x) (sym (groups-items groups)) h in
+  module _ (t h i j : ℕ) (x : h < v) (y : i < a) (z : j < b) where
+    digits : Digits (joined t h i j) t h i j
+    digits =
+        let rest : joined t h i j / b ≡ (t * v + h) * a + i = digits-div ((t * v + h) * a + i) z in
+        let front : joined t h i j / b / a ≡ t * v + h = ap (λ (n : ℕ). n / a) rest ∙ digits-div (t * v + h) y in
         record {
-          time = div-lt-iff-lt-mul some-v .1 (div-lt-iff-lt-mul (mul-pos some-r some-c) .1 j);
-          channel = mod-lt (i / (r * c)) some-v;
-          component = component-below r c (i % (r * c)) w apart some-r some-c;
-          repeat = repeat-below r c (i % (r * c)) w apart some-r some-c;
+          first = ap (λ (n : ℕ). n / v) front ∙ digits-div t x;
+          second = ap (λ (n : ℕ). n % v) front ∙ digits-mod t x;
+          third = ap (λ (n : ℕ). n % a) rest ∙ digits-mod (t * v + h) y;
+          last = digits-mod ((t * v + h) * a + i) z;
         }
 
--- ---- both orders
-module _ (v r c : ℕ) {groups : ℕ} (at : Coordinates) (inside : Inside groups v r c at) where
-  -- where nothing is repeated, and where samples have one component, they are the same
-  pub same-once : r ≡ 1 → itemNumber true v r c at ≡ itemNumber false v r c at
-  unfolding itemNumber
-  same-once e =
-      let z : at .repeat ≡ 0 = omega (arith, inside .repeat) in
-      rw (e, z) (omega arith)
+    joined-below : (s : ℕ) → t < s → joined t h i j < s * (v * a * b)
+    joined-below s l = subst (λ (n : ℕ). joined t h i j < n) (below-first s) (digits-lt (digits-lt (digits-lt l x) y) z)
 
-  pub same-real : c ≡ 1 → itemNumber true v r c at ≡ itemNumber false v r c at
-  unfolding itemNumber
-  same-real e =
-      let z : at .component ≡ 0 = omega (arith, inside .component) in
-      rw (e, z) (omega arith)
+    joined-above : t * (v * a * b) ≤ joined t h i j
+    joined-above =
+        let l : t * v ≤ t * v + h = omega arith in
+        let m : t * v * a ≤ (t * v + h) * a + i = omega (arith, mul-le-mul-right a l) in
+        omega (arith, mul-le-mul-right b m, below-first t)
 
--- ---- one channel and component in time
-module _ (apart : Bool) (v r c : ℕ) where
-  -- in a stretch, a later sample stands behind
-  within-rises : (component i j : ℕ) → 0 < c → i < j → withinStretch apart r c component i < withinStretch apart r c component j
-  within-rises component i j some h = by-order apart
-    where
-      by-order : (apart : Bool) → withinStretch apart r c component i < withinStretch apart r c component j
-      by-order true = omega arith
-      by-order false = omega (arith, mul-lt-mul-of-pos-right h some)
+  joined-again : (n : ℕ) → joined (n / b / a / v) (n / b / a % v) (n / b % a) (n % b) ≡ n
+  joined-again n = rw (div-add-mod' (n / b / a) v, div-add-mod' (n / b) a) (div-add-mod' n b)
 
-  module _ {groups others : ℕ} (a b : Coordinates) (in-a : Inside groups v r c a) (in-b : Inside others v r c b) where
-    -- the items of the groups before come first
-    groups-before : b .time * (v * r * c) ≤ itemNumber apart v r c b
+  first-below : (n s : ℕ) → 0 < v → 0 < a → 0 < b → n < s * (v * a * b) → n / b / a / v < s
+  first-below n s some-v some-a some-b l =
+      let m : n < s * v * a * b = subst (λ (x : ℕ). n < x) (sym (below-first s)) l in
+      div-lt-iff-lt-mul some-v .1 (div-lt-iff-lt-mul some-a .1 (div-lt-iff-lt-mul some-b .1 m))
+
+-- ---- both orders: the last two digits are component and repeat, to the bases c and r, or repeat and component
+module _ (v r c : ℕ) where
+  -- a group has as many items
+  group-same : (t : ℕ) → t * (v * c * r) ≡ t * (v * r * c)
+  group-same t = ap (λ (x : ℕ). t * x) (mul-right-comm v c r)
+
+  module _ {groups : ℕ} (at : Coordinates) (inside : Inside groups v r c at) where
+    digits-apart : Digits v c r (itemNumber true v r c at) (at .time) (at .channel) (at .component) (at .repeat)
     unfolding itemNumber
-    groups-before =
-        let l : b .time * v ≤ b .time * v + b .channel = omega arith in
-        omega (arith, mul-le-mul-right (r * c) l, groups-items apart v r c (b .time))
+    digits-apart = digits v c r (at .time) (at .channel) (at .component) (at .repeat) (inside .channel) (inside .component) (inside .repeat)
 
-    module _ (channel : a .channel ≡ b .channel) (component : a .component ≡ b .component) (h : instant r a < instant r b) where
-      earlier : a .time < b .time → itemNumber apart v r c a < itemNumber apart v r c b
-      earlier l = lt-of-lt-of-le (item-below apart v r c a in-a (b .time) l) groups-before
+    digits-beside : Digits v r c (itemNumber false v r c at) (at .time) (at .channel) (at .repeat) (at .component)
+    unfolding itemNumber
+    digits-beside = digits v r c (at .time) (at .channel) (at .repeat) (at .component) (inside .channel) (inside .repeat) (inside .component)
 
-      same-group : a .time ≡ b .time → itemNumber apart v r c a < itemNumber apart v r c b
-      unfolding itemNumber
-      same-group e =
-          let l : a .repeat < b .repeat = let k = rw e at h in omega arith in
-          let w = within-rises (a .component) (a .repeat) (b .repeat) (omega (arith, in-a .component)) l in
-          rw (e, channel, ← component) (omega (arith, w))
+    -- one-to-one: the coordinates of the item of coordinates are these
+    pub item-coordinates : (apart : Bool) → itemCoordinates apart v r c (itemNumber apart v r c at) ≡ at
+    unfolding itemCoordinates
+    item-coordinates true = let d = digits-apart in rw (d .first, d .second, d .third, d .last)
+    item-coordinates false = let d = digits-beside in rw (d .first, d .second, d .third, d .last)
 
+    -- the first groups have the first items
+    pub item-below : (apart : Bool) (t : ℕ) → at .time < t → itemNumber apart v r c at < t * (v * r * c)
+    unfolding itemNumber
+    item-below true t l = rw (← group-same t) (joined-below v c r _ _ _ _ (inside .channel) (inside .component) (inside .repeat) t l)
+    item-below false t l = joined-below v r c _ _ _ _ (inside .channel) (inside .repeat) (inside .component) t l
+
+    groups-before : (apart : Bool) → at .time * (v * r * c) ≤ itemNumber apart v r c at
+    unfolding itemNumber
+    groups-before true = rw (← group-same (at .time)) (joined-above v c r _ _ _ _ (inside .channel) (inside .component) (inside .repeat))
+    groups-before false = joined-above v r c _ _ _ _ (inside .channel) (inside .repeat) (inside .component)
+
+    -- and no others
+    pub below-item : (apart : Bool) (t : ℕ) → itemNumber apart v r c at < t * (v * r * c) → at .time < t
+    below-item apart t l =
+        ⊎-elim
+        (λ (h : t ≤ at .time). absurd (omega (arith, mul-le-mul-right (v * r * c) h, groups-before apart)))
+        (λ (h : at .time < t). h)
+        (le-or-lt t (at .time))
+
+  -- onto: the item of the coordinates of an item is this one
+  pub coordinates-item : (apart : Bool) (i : ℕ) → itemNumber apart v r c (itemCoordinates apart v r c i) ≡ i
+  unfolding itemNumber itemCoordinates
+  coordinates-item true i = joined-again v c r i
+  coordinates-item false i = joined-again v r c i
+
+  -- and these coordinates are in the box
+  pub coordinates-inside : (apart : Bool) → 0 < v → 0 < r → 0 < c → (groups i : ℕ) → i < groups * (v * r * c)
+      → Inside groups v r c (itemCoordinates apart v r c i)
+  unfolding itemCoordinates
+  coordinates-inside true some-v some-r some-c groups i h =
+      record {
+        time = first-below v c r i groups some-v some-c some-r (rw (group-same groups) h);
+        channel = mod-lt (i / r / c) some-v;
+        component = mod-lt (i / r) some-c;
+        repeat = mod-lt i some-r;
+      }
+  coordinates-inside false some-v some-r some-c groups i h =
+      record {
+        time = first-below v r c i groups some-v some-r some-c h;
+        channel = mod-lt (i / c / r) some-v;
+        component = mod-lt i some-c;
+        repeat = mod-lt (i / c) some-r;
+      }
+
+  -- ---- one order
+  module _ {groups : ℕ} (at : Coordinates) (inside : Inside groups v r c at) where
+    -- where nothing is repeated, and where samples have one component, they are the same
+    pub same-once : r ≡ 1 → itemNumber true v r c at ≡ itemNumber false v r c at
+    unfolding itemNumber
+    same-once e =
+        let z : at .repeat ≡ 0 = omega (arith, inside .repeat) in
+        rw (e, z) (omega arith)
+
+    pub same-real : c ≡ 1 → itemNumber true v r c at ≡ itemNumber false v r c at
+    unfolding itemNumber
+    same-real e =
+        let z : at .component ≡ 0 = omega (arith, inside .component) in
+        rw (e, z) (omega arith)
+
+  -- ---- one channel and component in time
+  module _ {groups others : ℕ} (a b : Coordinates) (in-a : Inside groups v r c a) (in-b : Inside others v r c b) (channel : a .channel ≡ b .channel)
+      (component : a .component ≡ b .component) where
+    -- in a group, a later sample stands behind
+    same-group : (apart : Bool) → a .time ≡ b .time → a .repeat < b .repeat → itemNumber apart v r c a < itemNumber apart v r c b
+    unfolding itemNumber
+    same-group true e l = rw (e, channel, component) (omega arith)
+    same-group false e l =
+        let m : (b .time * v + b .channel) * r + a .repeat < (b .time * v + b .channel) * r + b .repeat = omega arith in
+        let some : 0 < c = omega (arith, in-b .component) in
+        rw (e, channel, component) (omega (arith, mul-lt-mul-of-pos-right m some))
+
+    module _ (h : instant r a < instant r b) where
       not-later : a .time ≤ b .time
       not-later =
           ⊎-elim
@@ -165,9 +152,12 @@ module _ (apart : Bool) (v r c : ℕ) where
           (λ (l : b .time < a .time). absurd (omega (arith, digits-lt l (in-b .repeat))))
           (le-or-lt (a .time) (b .time))
 
-      pub item-rises : itemNumber apart v r c a < itemNumber apart v r c b
-      item-rises =
+      pub item-rises : (apart : Bool) → itemNumber apart v r c a < itemNumber apart v r c b
+      item-rises apart =
           ⊎-elim
-          (λ (l : b .time ≤ a .time). same-group (omega (arith, not-later)))
-          earlier
+          (λ (l : b .time ≤ a .time).
+          let e : a .time ≡ b .time = omega (arith, not-later) in
+          let k = rw e at h in
+          same-group apart e (omega arith))
+          (λ (l : a .time < b .time). lt-of-lt-of-le (item-below a in-a apart (b .time) l) (groups-before b in-b apart))
           (le-or-lt (b .time) (a .time))

@@ -5,28 +5,22 @@ use Rattle.words.specs.Kit.{ℕ, _+_, _*_, _/_, _%_, _<_, Bool}
 use Rattle.words.specs.Tests.{pick}
 use Rattle.payload_order.specs.declared.Coordinates.{Coordinates}
 
--- A stretch is what one channel has in a group: r samples of c components, so r * c items. Bit 23 zero, R. 6.1.6.3-8: "the number of Data Samples specified
--- for each Channel by the Repeat Count" follow each other, and R. 6.1.6.3-3, -4: a sample's second component follows its first at once. Bit 23 one,
+-- The item of coordinates. Groups follow each other, Def. 6.1.6.5-1: "the entire data payload can be described as a sequence of identical" structures; in a
+-- group the channels, Def. 6.1.6.3-4: r samples of each stand before those "from the next Channel". Bit 23 zero, R. 6.1.6.3-8: "the number of Data Samples
+-- specified for each Channel by the Repeat Count" follow each other, and R. 6.1.6.3-3, -4: a sample's second component follows its first at once. Bit 23 one,
 -- R. 6.1.6.3-6, -7: "the number of "I" Data Items specified by the Repeat Count", "followed by the corresponding "Q" Data Items similarly arranged".
-abbrev pub withinStretch : Bool → (r c component repeat : ℕ) → ℕ
-withinStretch apart r c component repeat = pick apart (component * r + repeat) (repeat * c + component)
-
--- The item of coordinates. Def. 6.1.6.3-4: a channel's stretch stands before that of "the next Channel"; Def. 6.1.6.5-1: "the entire data payload can be
--- described as a sequence of identical" groups.
 unfoldable pub itemNumber : Bool → (v r c : ℕ) → Coordinates → ℕ
-itemNumber apart v r c at = (at .time * v + at .channel) * (r * c) + withinStretch apart r c (at .component) (at .repeat)
+itemNumber apart v r c at =
+    pick apart
+    (((at .time * v + at .channel) * c + at .component) * r + at .repeat)
+    (((at .time * v + at .channel) * r + at .repeat) * c + at .component)
 
--- The coordinates of an item, from the same sums: which stretch it stands in, and where in it.
+-- The coordinates of an item: the quotients and remainders of these sums.
 unfoldable pub itemCoordinates : Bool → (v r c : ℕ) → ℕ → Coordinates
 itemCoordinates apart v r c item =
-    let stretch = item / (r * c) in
-    let within = item % (r * c) in
-    record {
-      time = stretch / v;
-      channel = stretch % v;
-      component = pick apart (within / r) (within % c);
-      repeat = pick apart (within % r) (within / c);
-    }
+    pick apart
+    (record { time = item / r / c / v; channel = item / r / c % v; component = item / r % c; repeat = item % r })
+    (record { time = item / c / r / v; channel = item / c / r % v; component = item % c; repeat = item / c % r })
 
 -- the box of coordinates that a payload of so many groups has
 pub record Inside (groups v r c : ℕ) (at : Coordinates) : Type 0 where
