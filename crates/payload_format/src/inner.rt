@@ -117,12 +117,16 @@ pub fn group(first: u32, second: u32) -> usize
     samples * component_count(first) as usize
 }
 
-// Whether a number of items is refused.
+// Whether a number of items is refused. A format that repeats nothing, as most do, has a test of its own: its group is small, and the compiler divides in 32
+// bits, by which unpacking such a format costs what it did before there were repeats (docs/SPEED.md).
 fn count_bad(first: u32, second: u32, n: usize) -> bool
     ensures { λ r. ⌜ r ≡ countBad first second n ⌝ }
 {
     if 2_097_120 < n {
         return true;
+    }
+    if repeat_size(second) == 1 {
+        return n % (vector_size(second) as usize * component_count(first) as usize) != 0;
     }
     n % group(first, second) != 0
 }
