@@ -117,18 +117,20 @@ pub fn group(first: u32, second: u32) -> usize
     samples * component_count(first) as usize
 }
 
-// Whether a number of items is refused. A format that repeats nothing, as most do, has a test of its own: its group is small, and the compiler divides in 32
-// bits, by which unpacking such a format costs what it did before there were repeats (docs/SPEED.md).
+// Whether a number of items is refused. A format that repeats nothing, as most do, has a division of its own: its group is small, and the compiler divides in
+// 32 bits.
 fn count_bad(first: u32, second: u32, n: usize) -> bool
     ensures { λ r. ⌜ r ≡ countBad first second n ⌝ }
 {
     if 2_097_120 < n {
         return true;
     }
-    if repeat_size(second) == 1 {
-        return n % (vector_size(second) as usize * component_count(first) as usize) != 0;
+    let vector = vector_size(second) as usize * component_count(first) as usize;
+    let repeats = repeat_size(second) as usize;
+    if repeats == 1 {
+        return n % vector != 0;
     }
-    n % group(first, second) != 0
+    n % (vector * repeats) != 0
 }
 
 // The words that n fields of f bits take, where c bits of each word carry them. The division is in 32 bits, which compiles to fewer instructions.
@@ -149,7 +151,7 @@ pub fn words_for(first: u32, n: usize) -> usize
     words_of(p.carry, p.field, n)
 }
 
-// FORMAT, then COUNT of n items: what `words_needed`, packing and unpacking ask first.
+// FORMAT, then COUNT of n items: what `words_needed`, packing, unpacking and the numbering of items ask first.
 pub fn items_check(first: u32, second: u32, n: usize) -> Check
     ensures { λ r. ⌜ checked r ≡ itemsCheck first second n ⌝ }
 {
