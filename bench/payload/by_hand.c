@@ -30,17 +30,17 @@ static u32 carry(u32 a) {
     return (a >> 31) || f == 64 ? 32 : 32 / f * f;
 }
 static size_t needed(u32 c, u32 f, size_t n) { return (f * n + c - 1) / c; }
-long c_unpack(u32 a, u32 b, size_t n, const u32 *w, size_t m, u64 *it, size_t li, u8 *ev, size_t le, u16 *ch,
+u32 c_unpack(u32 a, u32 b, size_t n, const u32 *w, size_t m, u64 *it, size_t li, u8 *ev, size_t le, u16 *ch,
               size_t lc) {
     if (format_bad(a))
-        return -16;
+        return 16;
     if (count_bad(a, b, n))
-        return -17;
+        return 17;
     u32 c = carry(a), f = (a >> 6 & 63) + 1, wi = (a & 63) + 1, we = a >> 20 & 7, wc = a >> 16 & 15;
     if (m != needed(c, f, n))
-        return -17;
+        return 17;
     if (li < n || le < n || lc < n)
-        return -13;
+        return 13;
     u64 acc = 0;
     u32 have = 0;
     u32 up = f - wi;
@@ -92,23 +92,23 @@ long c_unpack(u32 a, u32 b, size_t n, const u32 *w, size_t m, u64 *it, size_t li
             ch[k] = v & cm;
         }
     }
-    return n;
+    return 0;
 }
-long c_pack(u32 a, u32 b, const u64 *it, size_t n, const u8 *ev, size_t le, const u16 *ch, size_t lc,
-            u32 *out, size_t lo) {
+u32 c_pack(u32 a, u32 b, const u64 *it, size_t n, const u8 *ev, size_t le, const u16 *ch, size_t lc,
+            u32 *out, size_t lo, size_t *length) {
     if (format_bad(a))
-        return -16;
+        return 16;
     if (count_bad(a, b, n) || le != n || lc != n)
-        return -17;
+        return 17;
     u32 c = carry(a), f = (a >> 6 & 63) + 1, wi = (a & 63) + 1, we = a >> 20 & 7, wc = a >> 16 & 15;
     u64 im = wi == 64 ? ~(u64)0 : ((u64)1 << wi) - 1;
     u32 em = 1u << we, cm = 1u << wc;
     for (size_t k = 0; k < n; k++)
         if (it[k] > im || ev[k] >= em || ch[k] >= cm)
-            return -14;
+            return 14;
     size_t need = needed(c, f, n);
     if (lo < need)
-        return -13;
+        return 13;
     u64 acc = 0;
     u32 have = 0;
     u32 up = f - wi, dn = 32 - c;
@@ -153,5 +153,6 @@ long c_pack(u32 a, u32 b, const u64 *it, size_t n, const u8 *ev, size_t le, cons
     }
     if (have)
         *o = (u32)(acc << (32 - have));
-    return need;
+    *length = need;
+    return 0;
 }

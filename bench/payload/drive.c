@@ -1,4 +1,4 @@
-// Makes packed words, and items with their tags, of one payload format; unpacks or packs once, or does neither; and prints the answer with a sum of the buffers.
+// Makes packed words, and items with their tags, of one payload format; unpacks or packs once, or does neither; and prints the number that the call answers, the length that it tells, and a sum of the buffers.
 //     drive MODE LINK FIELD ITEM EVENT CHANNEL N    MODE: 1 unpack, 0 its set-up alone; 2 pack, 3 its set-up alone
 // LINK is 1 where the format is link-efficient; FIELD, ITEM, EVENT and CHANNEL are the bits of a packing field, of an item and of its tags; N is the number of items.
 #include <stdint.h>
@@ -9,8 +9,8 @@ typedef uint64_t u64;
 typedef uint32_t u32;
 typedef uint16_t u16;
 typedef uint8_t u8;
-long UNPACK(u32, u32, size_t, const u32 *, size_t, u64 *, size_t, u8 *, size_t, u16 *, size_t);
-long PACK(u32, u32, const u64 *, size_t, const u8 *, size_t, const u16 *, size_t, u32 *, size_t);
+u32 UNPACK(u32, u32, size_t, const u32 *, size_t, u64 *, size_t, u8 *, size_t, u16 *, size_t);
+u32 PACK(u32, u32, const u64 *, size_t, const u8 *, size_t, const u16 *, size_t, u32 *, size_t, size_t *);
 static u32 next(u32 x) { return x * 1664525 + 1013904223; }
 // The words that n items take.
 static size_t words_of(u32 link, u32 field, size_t n) {
@@ -57,11 +57,12 @@ int main(int argc, char **argv) {
         make_items(x, item, event, channel, items, events, channels, n);
     else // they are written either way
         memset(items, 0, (n + 1) * sizeof *items);
-    long answer = 0;
+    u32 number = 0;
+    size_t length = 0;
     if (mode == 1)
-        answer = UNPACK(first, 0, n, words, m, items, n, events, n, channels, n);
+        number = UNPACK(first, 0, n, words, m, items, n, events, n, channels, n);
     if (mode == 2)
-        answer = PACK(first, 0, items, n, events, n, channels, n, words, m);
-    printf("%ld %016lx\n", answer, (unsigned long)sum(items, events, channels, n, words, m));
+        number = PACK(first, 0, items, n, events, n, channels, n, words, m, &length);
+    printf("%u %zu %016lx\n", number, length, (unsigned long)sum(items, events, channels, n, words, m));
     return 0;
 }

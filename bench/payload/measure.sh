@@ -1,28 +1,21 @@
 #!/bin/sh
-# Instructions executed for each item, the proved calls against C by hand, in one run, with the results compared: unpacking for four numbers of items,
+# Instructions executed for each item, the calls of libvrt49.a against C by hand, in one run, with the results compared: unpacking for four numbers of items,
 # against tighter C too (by_hand_tighter.c), and packing for 100,000 items.
-# Run it at the project's root: bench/payload/measure.sh. It needs x86_64-linux-gnu-gcc (or CC set) and Debian's qemu-user.
-# The calls are exported by a crate that is made in a temporary folder from calls.txt.
+# Run it at the project's root: bench/payload/measure.sh, after `make lib`. It needs x86_64-linux-gnu-gcc (or CC set) and Debian's qemu-user.
 set -eu
 here=$(cd "$(dirname "$0")" && pwd)
 CC=${CC:-x86_64-linux-gnu-gcc}
+LIB=${LIB:-target/staticlib/libvrt49.a}
 INSNCOUNT=${INSNCOUNT:-tools/insncount}
 case $INSNCOUNT in /*) ;; *) INSNCOUNT=$PWD/$INSNCOUNT ;; esac
 work=${WORK:-$(mktemp -d)}
 [ -n "${WORK:-}" ] || trap 'rm -rf "$work"' EXIT
 trap 'exit 1' HUP INT TERM
-mkdir -p "$work/crates/payload_c/src"
-for c in words fields bitstream payload_format payload_pack payload_unpack; do rm -rf "$work/crates/$c"; cp -R "crates/$c" "$work/crates/"; rm -rf "$work/crates/$c/must-fail"; done
-cp "$here/calls.txt" "$work/crates/payload_c/src/lib.rt"
-printf 'words:\nfields: words\nbitstream: words\npayload_format: words fields bitstream\npayload_pack: words fields bitstream payload_format\npayload_unpack: words fields bitstream payload_format\npayload_c: words fields bitstream payload_format payload_pack payload_unpack\n' >"$work/crates.txt"
-mkdir -p "$work/target" # what is proved already is not proved again
-for part in rlib stamp; do [ ! -d "target/$part" ] || cp -R "target/$part" "$work/target/"; done
-(cd "$work" && rt staticlib payload_c >"$work/log" 2>&1) || { tail -5 "$work/log"; exit 1; }
 for side in by_hand by_hand_tighter; do
     $CC -O2 -c "$here/$side.c" -o "$work/$side.o"
     $CC -O2 -static -DUNPACK=c_unpack -DPACK=c_pack "$here/drive.c" "$work/$side.o" -o "$work/$side"
 done
-$CC -O2 -static -DUNPACK=r_unpack -DPACK=r_pack "$here/drive.c" "$work/target/staticlib/libpayload_c.a" -o "$work/proved"
+$CC -O2 -static -DUNPACK=vrt49_unpack -DPACK=vrt49_pack "$here/drive.c" "$LIB" -o "$work/proved"
 counted() { "$INSNCOUNT" "$@" 2>&1 | sed -n 's/^instructions //p'; }
 count() { # PROGRAM MODE FORMAT.. N: the call's instructions, without the same program's set-up
     p=$1 m=$2; shift 2
