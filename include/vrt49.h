@@ -1,4 +1,5 @@
-/* vrt49.h: the calls of libvrt49: VITA 49.0 packets, payloads, tables, pages and readings.
+/* vrt49.h: the calls of libvrt49: VITA 49.0 packets, and the data packets of 49A, payloads, tables,
+   pages and readings.
 
    The rules are those of document 01, the scope that the owner of this project wrote, as the change
    requests of document 02 have changed it: docs/PACKET.md, docs/LAYOUT.md and docs/MANUAL.md say
@@ -23,7 +24,8 @@
    vrt49_counts and vrt49_own_table test a whole table each time, 490 to 700 instructions for each
    stream that holds six fields, and vrt49_changed tests two; of a stream's fields vrt49_readings
    gives all for one test. vrt49_play_run is the fast one: it tests the table once, and then takes
-   110 instructions for a sample packet and 6 for each stream before its own (docs/SPEED.md).
+   114 instructions for a sample packet, 210 for one of 49A, and 6 for each stream before its own
+   (docs/SPEED.md).
 
    What a caller owes: every pointer is valid, and aligned as its type asks; a buffer has as many
    entries as its number says, and an array of a fixed length, such as levels[2], has them all; a
@@ -38,7 +40,7 @@
 #include <stdint.h>
 
 #define VRT49_VERSION_MAJOR 0
-#define VRT49_VERSION_MINOR 14
+#define VRT49_VERSION_MINOR 15
 #define VRT49_VERSION_PATCH 0
 
 #ifdef __cplusplus
@@ -55,20 +57,23 @@ enum vrt49_refusal {
     VRT49_BITS = 3,      /* reserved header bit set */
     VRT49_SHORT = 4,     /* size below the required parts */
     VRT49_CUT = 5,       /* size exceeds the words given */
-    VRT49_CLASS = 6,     /* top eight class bits not zero */
+    VRT49_CLASS = 6,     /* top eight class bits not zero; not given for 49A */
     VRT49_TIME = 7,      /* TSF is 2 and the fraction is 10^12 or more */
     VRT49_INDICATOR = 8, /* indicator bits 7-0 not zero */
     VRT49_LAYOUT = 9,    /* fields need more or fewer words than the body has */
     VRT49_FIELD = 10,    /* a field rule is broken */
     VRT49_STREAM = 11,   /* no identifier, one not declared, or a stream number not in the table */
-    VRT49_LIST = 12,     /* 0 or over 32 identifiers, or one twice */
+    VRT49_LIST = 12,     /* 0 or over 32 identifiers, or one twice; or choices that are not one for
+                            each, or are not 0 or 1 */
     VRT49_ROOM = 13,     /* a buffer to be written is too short */
     VRT49_VALUE = 14,    /* a number does not fit its bits, type or range; a bit is not 30 to 10 */
     VRT49_SIZE = 15,     /* a packet to be written, or a page, exceeds 65,535 words */
     VRT49_FORMAT = 16,   /* the payload format is refused, or an item width is outside 1 to 64 */
     VRT49_COUNT = 17,    /* wrong number of items, which come in whole groups, or of words */
     VRT49_TABLE = 18,    /* table not well made */
-    VRT49_PAGE = 19      /* page not well made */
+    VRT49_PAGE = 19,     /* page not well made */
+    VRT49_PAD = 20       /* 49A: class or trailer absent, a class that does not fit its table, or a
+                            payload that is not whole sample vectors and its padding */
 };
 
 /* The name of a number that a call answered, "OK" of 0; "?" of one that no call answers. */
@@ -95,6 +100,7 @@ static inline const char *vrt49_name(uint32_t number)
     case VRT49_COUNT: return "COUNT";
     case VRT49_TABLE: return "TABLE";
     case VRT49_PAGE: return "PAGE";
+    case VRT49_PAD: return "PAD";
     default: return "?";
     }
 }
@@ -104,9 +110,15 @@ static inline const char *vrt49_name(uint32_t number)
 #define VRT49_PACKET_WORDS 65535             /* a packet, at most */
 #define VRT49_FIELD_WORDS 13                 /* a held field, at most */
 #define VRT49_ENTRY_WORDS 5                  /* an entry of vrt49_play_run */
-#define VRT49_TABLE_WORDS(s) (1 + 88 * (s))  /* the layout of a table of s streams */
-#define VRT49_PAGE_WORDS(s) (2 + 89 * (s))   /* a page of s streams, at most */
+#define VRT49_TABLE_WORDS(s) (1 + 89 * (s))  /* the layout of a table of s streams */
+#define VRT49_PAGE_WORDS(s) (2 + 90 * (s))   /* a page of s streams, at most */
 #define VRT49_ITEMS_MAX 2097120              /* items that are packed or unpacked at once */
+
+/* How the data packets of a stream, of type 1, are read: a word for each identifier of a list. */
+enum vrt49_choice {
+    VRT49_PLAIN = 0, /* 49.0 */
+    VRT49_SURVEY = 1 /* 49A, the Spectrum Survey: its Standard Data Packet */
+};
 
 /* The type of a packet. */
 enum vrt49_type {
@@ -193,6 +205,25 @@ enum vrt49_state_bit {
 #define VRT49_STATE_BELOW 12   /* how far below its enable the value of an indicator stands */
 #define VRT49_STATE_USER 0xFFu /* the user bits of a state word */
 
+/* The data type of a 49A class: what an item is, and its bits. */
+enum vrt49_data_type {
+    VRT49_DATA_SIGNED_4 = 1, /* two's complement: vrt49_signed gives the value */
+    VRT49_DATA_SIGNED_8 = 2,
+    VRT49_DATA_SIGNED_16 = 3,
+    VRT49_DATA_SIGNED_32 = 4,
+    VRT49_DATA_SIGNED_64 = 5,
+    VRT49_DATA_SINGLE_32 = 6, /* IEEE 754 */
+    VRT49_DATA_DOUBLE_64 = 7,
+    VRT49_DATA_UNSIGNED_1 = 8,
+    VRT49_DATA_UNSIGNED_4 = 9,
+    VRT49_DATA_UNSIGNED_8 = 10,
+    VRT49_DATA_UNSIGNED_16 = 11,
+    VRT49_DATA_UNSIGNED_32 = 12,
+    VRT49_DATA_UNSIGNED_64 = 13
+};
+
+#define VRT49_SURVEY_OUI 0xFFFFFAu /* the OUI of a 49A class */
+
 /* The kinds of reading. */
 enum vrt49_kind {
     VRT49_KIND_FREQUENCY = 1,   /* whole hertz, and parts of 2^20 */
@@ -252,6 +283,24 @@ typedef struct vrt49_parts {
     uint32_t fraction_low;
     uint32_t trailer;
 } vrt49_parts;
+
+/* A packet that was read as 49A. Of a data packet, type 1, the payload's n items are unpacked by
+   vrt49_unpack from the two words of its format: both follow from the class. Of other types the
+   last four are 0. */
+typedef struct vrt49_survey {
+    vrt49_packet packet;
+    uint32_t pad;    /* bits behind the last item, 0 to 31 */
+    uint32_t first;  /* the format's first word */
+    uint32_t second; /* the format's second word */
+    uint32_t items;  /* n, at most 2,096,960 */
+} vrt49_survey;
+
+/* The parts of a packet to be written as 49A. The pad count is of type 1 with a class; else it is
+   ignored. */
+typedef struct vrt49_survey_parts {
+    vrt49_parts parts;
+    uint32_t pad;
+} vrt49_survey_parts;
 
 /* A trailer word, taken apart. */
 typedef struct vrt49_trailer {
@@ -328,6 +377,8 @@ typedef struct vrt49_panel {
 #endif
 VRT49_ASSERT(vrt49_packet_is_18_words, sizeof(vrt49_packet) == 18 * sizeof(uint32_t));
 VRT49_ASSERT(vrt49_parts_is_15_words, sizeof(vrt49_parts) == 15 * sizeof(uint32_t));
+VRT49_ASSERT(vrt49_survey_is_22_words, sizeof(vrt49_survey) == 22 * sizeof(uint32_t));
+VRT49_ASSERT(vrt49_survey_parts_is_16_words, sizeof(vrt49_survey_parts) == 16 * sizeof(uint32_t));
 VRT49_ASSERT(vrt49_trailer_is_4_words, sizeof(vrt49_trailer) == 4 * sizeof(uint32_t));
 VRT49_ASSERT(vrt49_place_is_3_sizes, sizeof(vrt49_place) == 3 * sizeof(size_t));
 VRT49_ASSERT(vrt49_coordinates_is_4_words, sizeof(vrt49_coordinates) == 4 * sizeof(uint32_t));
@@ -347,6 +398,17 @@ uint32_t vrt49_read(const uint32_t *words, size_t n, vrt49_packet *answer);
    */
 uint32_t vrt49_write(const vrt49_parts *parts, const uint32_t *body, size_t body_n, uint32_t *out,
                      size_t room, size_t at, size_t *length);
+
+/* Reads the packet at the front of the words as 49A, as vrt49_play reads a packet of a stream that
+   has VRT49_SURVEY: EMPTY to FIELD (as in vrt49_read, but CLASS not of type 1), PAD (of type 1
+   alone). Packets of other types are read as vrt49_read reads them. */
+uint32_t vrt49_read_survey(const uint32_t *words, size_t n, vrt49_survey *answer);
+
+/* Writes a packet as 49A into out from word `at` on, as vrt49_write does: TYPE, VALUE (also for a
+   pad count over 31, of type 1 with a class), SHORT, SIZE, TIME, INDICATOR, LAYOUT, FIELD, PAD (of
+   type 1 alone), ROOM. length: the words written. vrt49_survey_class makes class and pad count. */
+uint32_t vrt49_write_survey(const vrt49_survey_parts *parts, const uint32_t *body, size_t body_n,
+                            uint32_t *out, size_t room, size_t at, size_t *length);
 
 /* A trailer word's parts; nothing is refused. */
 uint32_t vrt49_trailer_parts(uint32_t word, vrt49_trailer *answer);
@@ -410,16 +472,18 @@ uint32_t vrt49_signed(uint32_t width, uint64_t item, int64_t *value);
 
 /* ---- tables of streams */
 
-/* Starts a table for a list of identifiers: LIST, ROOM. Words past the layout stay. length: the
-   layout's words, VRT49_TABLE_WORDS of the identifiers. */
-uint32_t vrt49_start(const uint32_t *ids, size_t ids_n, uint32_t *table, size_t table_n,
-                     size_t *length);
+/* Starts a table for a list of identifiers, each with its choice, of enum vrt49_choice: LIST, ROOM.
+   Words past the layout stay. length: the layout's words, VRT49_TABLE_WORDS of the identifiers. */
+uint32_t vrt49_start(const uint32_t *ids, size_t ids_n, const uint32_t *choices, size_t choices_n,
+                     uint32_t *table, size_t table_n, size_t *length);
 
 /* Whether a table is well made: 1 or 0. Nothing is refused. */
 uint32_t vrt49_well_made(const uint32_t *table, size_t table_n);
 
-/* Plays the packet at the front of the words: TABLE, EMPTY to FIELD (as in reading), STREAM. After
-   STREAM go on by the packet's size, which vrt49_read gives; vrt49_play_run does so itself. */
+/* Plays the packet at the front of the words: TABLE, EMPTY to FIELD (as in reading), PAD, STREAM. A
+   packet of type 1 whose stream has VRT49_SURVEY is read as vrt49_read_survey does; every other,
+   one of no declared stream too, as vrt49_read does. After STREAM go on by the packet's size, which
+   vrt49_read gives; vrt49_play_run does so itself. */
 uint32_t vrt49_play(uint32_t *table, size_t table_n, const uint32_t *words, size_t words_n,
                     vrt49_heard *answer);
 
@@ -466,10 +530,10 @@ uint32_t vrt49_held_words(const uint32_t *table, size_t table_n, size_t stream, 
 
 /* ---- what a table says of a stream */
 
-/* The stream's identifier, and its held indicator: bit b is set exactly where the field of bit b is
-   held, so 22 never is. TABLE, STREAM. */
+/* The stream's identifier, its choice, and its held indicator: bit b is set exactly where the field
+   of bit b is held, so 22 never is. TABLE, STREAM. */
 uint32_t vrt49_identity(const uint32_t *table, size_t table_n, size_t stream, uint32_t *identifier,
-                        uint32_t *held);
+                        uint32_t *choice, uint32_t *held);
 
 /* What the stream counted of a type, 1, 3, 4 or 5: TABLE, STREAM, VALUE (another type). */
 uint32_t vrt49_counts(const uint32_t *table, size_t table_n, size_t stream, uint32_t type,
@@ -509,6 +573,45 @@ static inline vrt49_parts vrt49_parts_of(const vrt49_packet *packet)
     parts.fraction_low = packet->fraction_low;
     parts.trailer = packet->trailer;
     return parts;
+}
+
+/* The same of a packet that was read as 49A. */
+static inline vrt49_survey_parts vrt49_survey_parts_of(const vrt49_survey *survey)
+{
+    vrt49_survey_parts again;
+    again.parts = vrt49_parts_of(&survey->packet);
+    again.pad = survey->pad;
+    return again;
+}
+
+/* The bits of an item of a data type of 49A, 1 to 64, or 0 of a number that is none; nothing is
+   refused. The constant has a digit for each data type, from the right: the power of two that its
+   bits are. */
+static inline uint32_t vrt49_data_bits(uint32_t data_type)
+{
+    if (data_type < VRT49_DATA_SIGNED_4 || data_type > VRT49_DATA_UNSIGNED_64)
+        return 0;
+    return 1u << ((uint64_t)0x65432065654320 >> 4 * data_type & 15);
+}
+
+/* Gives the parts of a data packet the class of 49A, the pad count of a payload of n items, and the
+   trailer that 49A asks for. complex_samples is 1, or 0 where they are real; data_type is of enum
+   vrt49_data_type, and vector the size of a sample vector, 1 to 65,536. */
+static inline void vrt49_survey_class(vrt49_survey_parts *survey, uint32_t complex_samples,
+                                      uint32_t data_type, uint32_t vector, size_t n)
+{
+    survey->parts.has_class = 1;
+    survey->parts.has_trailer = 1;
+    survey->parts.oui = VRT49_SURVEY_OUI;
+    survey->parts.information_class = complex_samples << 4 | data_type;
+    survey->parts.packet_class = vector - 1;
+    survey->pad = (32 - (uint32_t)(n % 32) * vrt49_data_bits(data_type) % 32) % 32;
+}
+
+/* The bits of an item of a format, 1 to 64; nothing is refused. */
+static inline uint32_t vrt49_item_bits(uint32_t first)
+{
+    return (first & 63) + 1;
 }
 
 /* A packet's fraction as one number. */

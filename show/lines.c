@@ -74,6 +74,7 @@ const char *reason(uint32_t number)
     case VRT49_LAYOUT: return "its fields need more or fewer words than its body has";
     case VRT49_FIELD: return "a field breaks its rule";
     case VRT49_STREAM: return "its stream is not declared";
+    case VRT49_PAD: return "it is no data packet of 49A: its class, its trailer or its padding";
     case VRT49_LIST: return "it does not begin with 1 to 32 identifiers, each once";
     default: return "";
     }
@@ -143,13 +144,13 @@ static void put_value(const vrt49_shown *shown)
 /* Where the line's packet stands, and when it says that it was made: seconds, and picoseconds. */
 static void put_front(const packet *at)
 {
-    vrt49_packet read;
+    vrt49_survey read;
     printf("at %" PRIu64 " packet %" PRIu64, at->place, at->number);
-    if (vrt49_read(at->words, at->words_n, &read) != VRT49_OK || read.tsi == VRT49_TSI_NONE)
+    if (!read_at(at, &read) || read.packet.tsi == VRT49_TSI_NONE)
         return;
-    printf(" time %" PRIu32, read.seconds);
-    if (read.tsf == VRT49_TSF_PICOSECONDS)
-        put_decimals(vrt49_fraction(&read), 12);
+    printf(" time %" PRIu32, read.packet.seconds);
+    if (read.packet.tsf == VRT49_TSF_PICOSECONDS)
+        put_decimals(vrt49_fraction(&read.packet), 12);
 }
 
 /* Which stream the line is of. */
@@ -236,6 +237,22 @@ static void put_doubt(uint32_t bits)
     puts("");
 }
 
+/* What the items of a format are. */
+static const char *item_name(uint32_t first)
+{
+    uint32_t code = first >> 24 & 31;
+    return code == 0 ? "signed" : code == 16 ? "unsigned" : "float";
+}
+
+/* How many items a data packet by 49A has, and their format: real or complex, the bits of an item
+   and what it is, and the vector size. */
+static void put_samples(const vrt49_survey *samples)
+{
+    printf("%s items, %s, %" PRIu32 " bits %s, vector size %" PRIu32 "\n",
+           grouped(samples->items), samples->first >> 29 & 3 ? "complex" : "real",
+           vrt49_item_bits(samples->first), item_name(samples->first), samples->second + 1);
+}
+
 /* What was refused, and why. */
 static void line_refused(const packet *at, uint32_t number)
 {
@@ -255,11 +272,12 @@ static void line_refused(const packet *at, uint32_t number)
 
 /* ---- rows of CSV */
 
-void tell_columns(void)
+void tell_columns(const survey *all)
 {
-    puts("packet,word,event,stream,identifier,type,missing,unsure_since,refusal,name,changed,"
+    printf("packet,word,event,stream,identifier,type,missing,unsure_since,refusal,name,changed,"
          "in_doubt,tsi,seconds,tsf,fraction,rf_hz,if_hz,rf_offset_hz,if_band_offset_hz,"
-         "bandwidth_hz,sample_rate_hz,level_dbm,gain_1_db,gain_2_db,temperature_c,state");
+         "bandwidth_hz,sample_rate_hz,level_dbm,gain_1_db,gain_2_db,temperature_c,state%s\n",
+           all->chosen_n != 0 ? ",items,format,vector" : "");
 }
 
 /* The value of a row's field, of a gain both; nothing where it is absent or there is no stream. */
@@ -280,14 +298,25 @@ static void put_cell(const stream *of, uint32_t bit)
         printf("%.10g", (double)shown.levels[1]);
 }
 
-/* The held state word of a row's stream, which ends the row; nothing where it is absent or there is
-   no stream. */
+/* The held state word of a row's stream; nothing where it is absent or there is no stream. */
 static void put_state_cell(const stream *of)
 {
+    putchar(',');
     if (of && holds_state(of))
-        printf(",0x%08" PRIX32 "\n", of->state);
-    else
-        puts(",");
+        printf("0x%08" PRIX32, of->state);
+}
+
+/* The items of a row's packet, what they are, and the vector size: items,format,vector. Nothing
+   where it is no data packet by 49A. */
+static void put_samples_cells(const packet *at, const vrt49_survey *samples)
+{
+    if (!at || at->choice != VRT49_SURVEY) {
+        printf(",,,");
+        return;
+    }
+    printf(",%" PRIu32 ",%s %" PRIu32 " bits %s,%" PRIu32, samples->items,
+           samples->first >> 29 & 3 ? "complex" : "real", vrt49_item_bits(samples->first),
+           item_name(samples->first), samples->second + 1);
 }
 
 /* Where it stands and what it is: packet,word,event,stream,identifier,type. */
@@ -330,17 +359,20 @@ static void put_when(const vrt49_packet *read)
 static void row(const survey *all, const stream *of, const packet *at, const char *event,
                 const char *what)
 {
-    vrt49_packet read;
-    int good = at && vrt49_read(at->words, at->words_n, &read) == VRT49_OK;
+    vrt49_survey read;
+    int good = at && read_at(at, &read);
     size_t i;
-    put_who(all, of, at, good ? &read : NULL, event);
+    put_who(all, of, at, good ? &read.packet : NULL, event);
     printf(",%s,", what);
     if (of)
         printf("0x%08" PRIX32, of->doubt.fields);
-    put_when(good ? &read : NULL);
+    put_when(good ? &read.packet : NULL);
     for (i = 0; i < VALUES_N; i++)
         put_cell(of, VALUES[i].bit);
     put_state_cell(of);
+    if (all->chosen_n != 0)
+        put_samples_cells(at, &read);
+    puts("");
 }
 
 /* ---- what happens, in the survey's manner */
@@ -409,6 +441,18 @@ void tell_trusted(const survey *all, const stream *of, const packet *at)
            " data packets\n", of->doubt.since, of->doubt.packets);
 }
 
+void tell_samples(const survey *all, const stream *of, const packet *at)
+{
+    if (all->manner == CSV)
+        row(all, of, at, "samples", ",,,,");
+    if (all->manner != LINES)
+        return;
+    put_front(at);
+    put_stream(all, of);
+    printf(" samples: ");
+    put_samples(&of->samples);
+}
+
 void tell_refused(const survey *all, const packet *at, uint32_t number)
 {
     char what[80];
@@ -464,12 +508,24 @@ static void put_last(const stream *of)
     puts("");
 }
 
-/* What a stream did: its packets by type, its last tuning and state, and where it had no tuning or
-   one that cannot be trusted. */
+/* Of a stream by 49A: its data packets and their items, and the last of them. */
+static void put_survey(const stream *of)
+{
+    if (of->choice != VRT49_SURVEY)
+        return;
+    printf("       49A: %s data packets, %s items%s", grouped(of->sampled), grouped(of->items),
+           of->sampled != 0 ? "; the last has " : "\n");
+    if (of->sampled != 0)
+        put_samples(&of->samples);
+}
+
+/* What a stream did: its packets by type, what its samples are by 49A, its last tuning and state,
+   and where it had no tuning or one that cannot be trusted. */
 static void put_summary(const survey *all, const stream *of)
 {
     printf("%6d 0x%08" PRIX32, (int)(of - all->streams), of->identifier);
     put_counts(all, of);
+    put_survey(of);
     put_last(of);
     if (of->untuned != 0)
         printf("       without a tuning: %s data packets\n", grouped(of->untuned));

@@ -37,6 +37,19 @@ int holds_state(const stream *of)
     return (of->held >> VRT49_BIT_STATE & 1) != 0;
 }
 
+int read_at(const packet *at, vrt49_survey *read)
+{
+    uint32_t number = at->said->number;
+    memset(read, 0, sizeof *read);
+    if (number != VRT49_OK && number != VRT49_STREAM)
+        return 0;
+    if (at->choice == VRT49_SURVEY)
+        accepted(vrt49_read_survey(at->words, at->words_n, read), "vrt49_read_survey");
+    else
+        accepted(vrt49_read(at->words, at->words_n, &read->packet), "vrt49_read");
+    return 1;
+}
+
 int has_identifier(const vrt49_packet *read)
 {
     return read->type != VRT49_TYPE_DATA_NO_ID && read->type != VRT49_TYPE_EXTENSION_DATA_NO_ID;
@@ -63,8 +76,8 @@ static int is_open(const recording *from)
 static void show(stream *of)
 {
     size_t length;
-    accepted(vrt49_identity(of->table, VRT49_TABLE_WORDS(1), 0, &of->identifier, &of->held),
-             "vrt49_identity");
+    accepted(vrt49_identity(of->table, VRT49_TABLE_WORDS(1), 0, &of->identifier, &of->choice,
+                            &of->held), "vrt49_identity");
     accepted(vrt49_show_all(of->table, VRT49_TABLE_WORDS(1), 0, &of->panel), "vrt49_show_all");
     accepted(vrt49_held_words(of->table, VRT49_TABLE_WORDS(1), 0, VRT49_BIT_STATE, &of->state, 1,
                               &length), "vrt49_held_words");
@@ -82,19 +95,49 @@ static void start_streams(survey *all)
     }
 }
 
+/* Whether an identifier is among some. */
+static int is_among(uint32_t identifier, const uint32_t *some, size_t n)
+{
+    size_t i;
+    for (i = 0; i < n; i++)
+        if (some[i] == identifier)
+            return 1;
+    return 0;
+}
+
+/* The choice of each stream of a list. */
+static void choose(const survey *all, const uint32_t *ids, size_t n, uint32_t *choices)
+{
+    size_t s;
+    for (s = 0; s < n; s++)
+        choices[s] = is_among(ids[s], all->chosen, all->chosen_n) ? VRT49_SURVEY : VRT49_PLAIN;
+}
+
+/* Notes an identifier that was chosen for 49A and is not in the list. */
+static void note_unlisted(survey *all, const uint32_t *ids, size_t n)
+{
+    size_t i;
+    for (i = 0; i < all->chosen_n && !all->unlisted; i++) {
+        all->unlisted = !is_among(all->chosen[i], ids, n);
+        all->stranger = all->chosen[i];
+    }
+}
+
 /* Starts the tables from the list at the front: 0 or LIST. */
 static uint32_t start(survey *all, recording *from)
 {
-    uint32_t number;
+    uint32_t number, choices[VRT49_STREAMS_MAX];
     do
         refill(from);
     while (!from->ended && is_open(from));
     if (is_open(from) || from->words[0] > VRT49_STREAMS_MAX)
         return VRT49_LIST;
-    number = vrt49_start(from->words + 1, from->words[0], all->table,
+    choose(all, from->words + 1, from->words[0], choices);
+    number = vrt49_start(from->words + 1, from->words[0], choices, from->words[0], all->table,
                          VRT49_TABLE_WORDS(VRT49_STREAMS_MAX), &all->layout);
     if (number != VRT49_OK)
         return number;
+    note_unlisted(all, from->words + 1, from->words[0]);
     all->streams_n = from->words[0];
     start_streams(all);
     from->at = 1 + all->streams_n;
@@ -175,6 +218,19 @@ static void hear_context(survey *all, stream *of, const packet *at)
         tell_trusted(all, of, at);
 }
 
+/* A data packet that was accepted, of a stream by 49A: a line is due where its format is not that
+   of the packet before; the first word of none is 0, as it is before the first packet. */
+static void hear_samples(survey *all, stream *of, const packet *at)
+{
+    uint32_t first = of->samples.first, second = of->samples.second, items = of->samples.items;
+    read_at(at, &of->samples);
+    of->sampled++;
+    of->items += of->samples.items;
+    if (of->samples.first != first || of->samples.second != second ||
+        (all->every && of->samples.items != items))
+        tell_samples(all, of, at);
+}
+
 /* A packet that was accepted. */
 static void hear(survey *all, const packet *at)
 {
@@ -188,6 +244,8 @@ static void hear(survey *all, const packet *at)
     }
     if (at->said->missing != 0)
         tell_missing(all, of, at, 0);
+    if (at->choice == VRT49_SURVEY)
+        hear_samples(all, of, at);
     if (at->said->type != VRT49_TYPE_EXTENSION_CONTEXT)
         count_data(of);
 }
@@ -229,6 +287,14 @@ static void refuse(survey *all, const packet *at)
 
 /* ---- all of it */
 
+/* Whether a packet is read as 49A: those of type 1 whose stream was chosen. */
+static uint32_t choice_of(const survey *all, const vrt49_entry *said)
+{
+    if (said->number != VRT49_OK || said->type != VRT49_TYPE_DATA)
+        return VRT49_PLAIN;
+    return all->streams[said->stream].choice;
+}
+
 /* Looks at the packets of a run, one after the other, and gives how many it looked at: all but one
    that is cut where more words may come. */
 static size_t look_at(survey *all, recording *from, const vrt49_entry *entries, size_t packets)
@@ -241,6 +307,7 @@ static size_t look_at(survey *all, recording *from, const vrt49_entry *entries, 
         at.number = all->packets;
         at.place = from->before + from->at;
         at.said = &entries[i];
+        at.choice = choice_of(all, at.said);
         at.words = from->words + from->at;
         at.words_n = from->have - from->at;
         if (entries[i].number == VRT49_OK)
@@ -260,7 +327,7 @@ void play(survey *all, recording *from)
     all->stopped_by = start(all, from);
     if (all->stopped_by != VRT49_OK && !from->failed)
         tell_refused(all, NULL, all->stopped_by);
-    while (all->stopped_by == VRT49_OK && !from->failed &&
+    while (all->stopped_by == VRT49_OK && !from->failed && !all->unlisted &&
            !(from->ended && from->at == from->have)) {
         accepted(vrt49_play_entries(all->table, all->layout, from->words, from->have, from->at,
                                     entries, RUN, &packets, &next), "vrt49_play_run");

@@ -13,7 +13,7 @@
 #include "vrtshow.h"
 
 static const char USAGE[] =
-    "vrtshow [-l] [-a] [-q | --csv] [--svg FILE] [RECORDING]\n"
+    "vrtshow [-l] [-a] [-q | --csv] [--svg FILE] [--survey ID[,ID..]] [RECORDING]\n"
     "\n"
     "Plays a recording of any length: 32-bit words, S, S identifiers, packets. Without RECORDING,\n"
     "or with -, it is standard input. A line is printed where a stream's tuning changes, where\n"
@@ -26,6 +26,8 @@ static const char USAGE[] =
     "  --csv       CSV instead of lines and summary; frequencies are in hertz, exactly\n"
     "  --svg FILE  a picture besides: the tuning of each stream over the packets; it is written\n"
     "              over a picture, and over no other file\n"
+    "  --survey ID[,ID..]  the data packets of these streams, decimal or 0x.., are read as 49A: a\n"
+    "              line also where the format of their samples changes, with -a their number too\n"
     "  --help      this text\n"
     "\n"
     "In lines ~ stands before a frequency that is rounded, to a millihertz.\n"
@@ -77,7 +79,34 @@ static void take_file(const char *argument, const char **into, const char *file)
     *into = file;
 }
 
-/* Takes one argument, and the file behind it where it has one: gives how many it took. */
+/* Takes an identifier, decimal, or hexadecimal behind 0x, and gives what stands behind it; nothing
+   where there is none. */
+static const char *take_identifier(const char *text)
+{
+    int hex = text[0] == '0' && (text[1] == 'x' || text[1] == 'X');
+    const char *digits = hex ? text + 2 : text;
+    size_t n = strspn(digits, hex ? "0123456789abcdefABCDEF" : "0123456789");
+    unsigned long long number = strtoull(digits, NULL, hex ? 16 : 10);
+    if (n == 0 || n > 10 || number > UINT32_MAX || all.chosen_n == VRT49_STREAMS_MAX)
+        return NULL;
+    all.chosen[all.chosen_n++] = (uint32_t)number;
+    return digits + n;
+}
+
+/* Takes the identifiers of the streams that are by 49A, with commas between them. */
+static void take_survey(const char *argument, const char *list)
+{
+    const char *rest = list;
+    if (all.chosen_n != 0)
+        wrong_use(argument, "one too many");
+    do
+        rest = take_identifier(rest);
+    while (rest && *rest == ',' && *++rest != 0);
+    if (!rest || *rest != 0 || list[strlen(list) - 1] == ',')
+        wrong_use(list, "is not a list of 1 to 32 identifiers");
+}
+
+/* Takes one argument, and what is behind it where it has that: gives how many it took. */
 static int take(int left, char **argument)
 {
     const char *a = argument[0];
@@ -89,6 +118,12 @@ static int take(int left, char **argument)
         if (left < 2)
             wrong_use(a, "has no file behind it");
         take_file(a, &svg_path, argument[1]);
+        return 2;
+    }
+    if (strcmp(a, "--survey") == 0) {
+        if (left < 2)
+            wrong_use(a, "has no identifiers behind it");
+        take_survey(a, argument[1]);
         return 2;
     }
     if (strcmp(a, "-l") == 0)
@@ -220,13 +255,18 @@ static void tell_end(void)
 static void show_recording(void)
 {
     if (all.manner == CSV)
-        tell_columns();
+        tell_columns(&all);
     play(&all, &from);
     if (from.shown)
         fprintf(stderr, "\r                \r");
     if (from.failed) {
         errno = from.failed;
         trouble(name, "cannot be read");
+    }
+    if (all.unlisted) {
+        fprintf(stderr, "vrtshow: %s: 0x%08" PRIX32 " of --survey is not in its list\n", name,
+                all.stranger);
+        exit(TROUBLE);
     }
     if (all.manner != CSV)
         tell_summary(&all, &from);

@@ -82,6 +82,10 @@ typedef struct {
     uint64_t tunings;                     /* how often its band changed, the first time included */
     band last;                            /* its band; it has one where tunings is not 0 */
     double low, high, least, greatest;    /* the edges and centres of all its bands */
+    uint32_t choice;                      /* whether 49A was chosen for it; then of its data: */
+    vrt49_survey samples;                 /* the last packet of type 1, */
+    uint64_t sampled;                     /* how many came, */
+    uint64_t items;                       /* and the items of all */
     column columns[COLUMNS];
 } stream;
 
@@ -90,6 +94,10 @@ enum manner { LINES, SUMMARY, CSV };
 typedef struct {
     enum manner manner;              /* what is printed */
     int every;                       /* 1: also where other held fields than the tuning change */
+    uint32_t chosen[VRT49_STREAMS_MAX]; /* the identifiers of the streams that are by 49A; */
+    size_t chosen_n;                 /* how many they are; */
+    int unlisted;                    /* 1 where one of them is not in the list: */
+    uint32_t stranger;               /* this one */
     uint32_t streams_n;
     stream streams[VRT49_STREAMS_MAX];
     uint32_t table[VRT49_TABLE_WORDS(VRT49_STREAMS_MAX)];
@@ -109,20 +117,27 @@ typedef struct {
     uint32_t refused_in[COLUMNS];
 } survey;
 
-/* A packet that is looked at: its number and place, what the run said of it, and its words. */
+/* A packet that is looked at: its number and place, what the run said of it, whether it is read as
+   49A, and its words. */
 typedef struct {
     uint64_t number, place;
     const vrt49_entry *said;
+    uint32_t choice;
     const uint32_t *words;
     size_t words_n;
 } packet;
 
 /* Plays the whole recording, and prints what happens in the survey's manner. Where a read fails it
-   ends there, and no refusal is printed. */
+   ends there, and no refusal is printed; it does not begin where an identifier that was chosen for
+   49A is not in the list. */
 void play(survey *all, recording *from);
 
 /* A call that cannot be refused here, since it is handed what the library made or accepted. */
 void accepted(uint32_t number, const char *call);
+
+/* Reads a packet by its choice: 1; or 0 where the run refused it as a packet. Of a plain one the
+   last four of the answer are 0. */
+int read_at(const packet *at, vrt49_survey *read);
 
 /* What the panel shows of a field of the stream. */
 vrt49_shown shown_of(const stream *of, uint32_t bit);
@@ -164,8 +179,8 @@ void note_unsure(survey *all, stream *of);
 
 /* ---- what is printed */
 
-/* The first line of CSV: the names of the columns. */
-void tell_columns(void);
+/* The first line of CSV: the names of the columns, three more where 49A was chosen. */
+void tell_columns(const survey *all);
 
 /* That the fields of the set bits changed; before: what the panel showed until now. */
 void tell_tuning(const survey *all, const stream *of, const packet *at, uint32_t changed,
@@ -177,6 +192,10 @@ void tell_missing(const survey *all, const stream *of, const packet *at, uint32_
 
 /* That nothing is in doubt any more from this packet on. */
 void tell_trusted(const survey *all, const stream *of, const packet *at);
+
+/* That the format of the samples of a stream by 49A, or their number, is another from this packet
+   on. */
+void tell_samples(const survey *all, const stream *of, const packet *at);
 
 /* That the packet is refused; or the list, where there is no packet. */
 void tell_refused(const survey *all, const packet *at, uint32_t number);

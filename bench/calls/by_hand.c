@@ -1,5 +1,6 @@
 // What the calls of libvrt49.a are measured against: read, write, play, save, put back, readings and held words in C by hand, with the
-// same checks in the same order and the same entries written. The tests of bodies, records and tables are those of the play bench.
+// same checks in the same order and the same entries written. The tests of bodies, records and tables are those of the play bench; read and write by
+// 49A stand in survey.c.
 #include "../play/by_hand.c"
 enum { ROOM = 13, VALUE = 14, SIZE = 15, PAGE = 19, MOST = 65535 };
 // where the parts that a header announces begin, and how many words are required
@@ -111,10 +112,10 @@ u32 c_play(u32 *t, size_t tn, const u32 *w, size_t n, u32 *a) {
     u32 missing, refused;
     if (!table_good(t, tn))
         return TABLE;
-    refused = read_packet(w, n, &p);
+    refused = read_packet(t, w, n, &p);
     if (refused)
         return refused;
-    long s = hear(t, &p, &missing);
+    long s = hear(&p, &missing);
     if (s < 0)
         return STREAM;
     a[0] = w[0] & 0xffff;

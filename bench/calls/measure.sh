@@ -4,7 +4,7 @@
 set -eu
 here=$(cd "$(dirname "$0")" && pwd)
 . "$here/../rows.sh"
-built "$here/by_hand.c"
+built "$here/by_hand.c" "$here/survey.c"
 for call in read write; do
     row $call data 1 'data packet, 1 body word'
     row $call data 64 'data packet, 64 body words'
@@ -12,8 +12,15 @@ for call in read write; do
     row $call context 1 'context packet of 6 fields'
     row $call large 1 'context packet, large first words'
 done
+for call in read_survey write_survey; do
+    row $call survey 1 '49A data packet, 1 body word'
+    row $call survey 64 '49A data packet, 64 body words'
+    row $call survey 6400 '49A data packet, 6,400 body words'
+    row $call context 1 'context packet of 6 fields'
+done
 for s in 1 32; do
     row play data $s "data packet, S $s"
+    row play survey $s "49A data packet, S $s"
     row play context $s "context packet of 6 fields, S $s"
 done
 for call in save put_back; do

@@ -3,11 +3,12 @@
 #include <stddef.h>
 #include <stdint.h>
 #include <string.h>
+#include "../pad.h"
 typedef uint64_t u64;
 typedef uint32_t u32;
 typedef uint8_t u8;
-enum { EMPTY = 1, TYPE, BITS, SHORT, CUT, CLASS, TIME, INDICATOR, LAYOUT, FIELD, STREAM, TABLE = 18 };
-enum { HEAD = 14, RECORD = 88, ENTRY = 5 };
+enum { EMPTY = 1, TYPE, BITS, SHORT, CUT, CLASS, TIME, INDICATOR, LAYOUT, FIELD, STREAM, TABLE = 18, PAD = 20 };
+enum { CHOICE = 14, HEAD = 15, RECORD = 89, ENTRY = 5 };
 // the fields of fixed size, 30 to 10, and those of them that are held: all but the over-range count, 22
 #define FIXED 0x7ffffc00u
 #define HELD 0x7fbffc00u
@@ -15,14 +16,16 @@ enum { HEAD = 14, RECORD = 88, ENTRY = 5 };
 // the words of a field of fixed size, and the place of its slot in a record, by its bit
 static const u8 sizes[32] = {0, 0, 0, 0, 0, 0, 0, 0, 0, 0, 1, 13, 13, 11, 11, 2,
                              1, 2, 1, 1, 2, 2, 1, 1, 1, 2, 2, 2,  2,  2,  1,  0};
-static const u8 slots[32] = {0,  0,  0,  0,  0,  0,  0,  0,  0,  0,  87, 74, 61, 50, 39, 37,
-                             36, 34, 33, 32, 30, 28, 27, 26, 25, 23, 21, 19, 17, 15, 14, 0};
+static const u8 slots[32] = {0,  0,  0,  0,  0,  0,  0,  0,  0,  0,  88, 75, 62, 51, 40, 38,
+                             37, 35, 34, 33, 31, 29, 28, 27, 26, 24, 22, 20, 18, 16, 15, 0};
 // the slots of the over-range count, which stays zero, and of the state
-enum { OVER_RANGE = 27, STATE = 36 };
+enum { OVER_RANGE = 28, STATE = 37 };
 // the place of a type's count in a record
 static const u8 counts[6] = {0, 2, 0, 5, 8, 11};
+// a packet that was read: its stream's record, which is none where it is not declared, and the stream
 struct packet {
-    u32 kind, count, identifier;
+    u32 kind, count, *record;
+    long stream;
     const u32 *body;
 };
 static int format_ok(u32 w) {
@@ -96,7 +99,24 @@ static __attribute__((noinline)) u32 check_context(const u32 *body, size_t n) {
         return LAYOUT;
     return ok ? 0 : FIELD;
 }
-static inline u32 read_packet(const u32 *w, size_t n, struct packet *p) {
+// The record of an identifier, and its stream; none where it is not declared.
+static inline u32 *seek(u32 *t, u32 identifier, long *stream) {
+    size_t streams = t[0], s = 0;
+    u32 *r = t + 1;
+    while (r[0] != identifier) {
+        r += RECORD;
+        if (++s == streams)
+            return 0;
+    }
+    *stream = s;
+    return r;
+}
+// PAD of a 49A packet with header h. Not inlined, so that plain packets do not pay for its registers.
+static __attribute__((noinline)) u32 check_survey(u32 h, const u32 *class, u32 n) {
+    return (h >> 26 & 3) != 3 || pad_bad(class[0], class[1], n) ? PAD : 0;
+}
+// A packet's stream is looked for before its class: a data packet is read by the choice of its stream.
+static inline u32 read_packet(u32 *t, const u32 *w, size_t n, struct packet *p) {
     if (!n)
         return EMPTY;
     u32 h = w[0], kind = h >> 28, size = h & 0xffff, tsf = h >> 20 & 3;
@@ -111,15 +131,18 @@ static inline u32 read_packet(const u32 *w, size_t n, struct packet *p) {
         return SHORT;
     if (n < size)
         return CUT;
-    if (classed && w[class] >> 24)
+    p->record = streamed ? seek(t, w[1], &p->stream) : 0;
+    u32 survey = kind == 1 && p->record && p->record[CHOICE];
+    if (classed && w[class] >> 24 && !survey)
         return CLASS;
     if (tsf == 2 && ((u64)w[fraction] << 32 | w[fraction + 1]) >= TIME_LIMIT)
         return TIME;
     p->kind = kind;
     p->count = h >> 16 & 15;
-    p->identifier = streamed ? w[1] : 0;
     p->body = w + body;
-    return kind == 4 ? check_context(w + body, size - body) : 0;
+    if (kind == 4)
+        return check_context(w + body, size - body);
+    return survey ? check_survey(h, w + class, size - body - trailed) : 0;
 }
 static int all_zero(const u32 *w, size_t n) {
     for (size_t i = 0; i < n; i++)
@@ -129,9 +152,9 @@ static int all_zero(const u32 *w, size_t n) {
 }
 static int record_good(const u32 *r) {
     u32 held = r[1];
-    if (held & ~HELD || (held && !r[10]))
+    if (held & ~HELD || (held && !r[10]) || r[CHOICE] > 1)
         return 0;
-    for (const u32 *c = r + 2; c < r + HEAD; c += 3)
+    for (const u32 *c = r + 2; c < r + CHOICE; c += 3)
         if (c[2] > 16 || (!c[2] && (c[0] || c[1])))
             return 0;
     const u32 *slot = r + HEAD;
@@ -185,16 +208,10 @@ static __attribute__((noinline)) void hold(u32 *r, const u32 *body) {
     fill(r, body + 1, bits);
 }
 // Plays a packet that was read; gives the stream, or -1 where there is none, and the missing that it adds.
-static inline long hear(u32 *t, const struct packet *p, u32 *missing) {
-    size_t streams = t[0], s = 0;
-    u32 *r = t + 1;
-    if (p->kind == 0 || p->kind == 2)
+static inline long hear(const struct packet *p, u32 *missing) {
+    u32 *r = p->record;
+    if (!r)
         return -1;
-    while (r[0] != p->identifier) {
-        r += RECORD;
-        if (++s == streams)
-            return -1;
-    }
     u32 *c = r + counts[p->kind];
     u32 more = c[2] ? (p->count - c[2]) & 15 : 0;
     c[0]++;
@@ -203,7 +220,7 @@ static inline long hear(u32 *t, const struct packet *p, u32 *missing) {
     if (p->kind == 4)
         hold(r, p->body);
     *missing = more;
-    return s;
+    return p->stream;
 }
 u64 c_play_run(u32 *t, size_t lt, const u32 *w, size_t n, size_t from, u32 *answers, size_t la) {
     if (!table_good(t, lt))
@@ -212,14 +229,14 @@ u64 c_play_run(u32 *t, size_t lt, const u32 *w, size_t n, size_t from, u32 *answ
     while (done < most && at < n) {
         struct packet p;
         u32 *e = answers + ENTRY * done++;
-        u32 refused = read_packet(w + at, n - at, &p), missing;
+        u32 refused = read_packet(t, w + at, n - at, &p), missing;
         if (refused) {
             e[0] = refused;
             e[1] = e[2] = e[3] = e[4] = 0;
             break;
         }
         u32 size = w[at] & 0xffff;
-        long s = hear(t, &p, &missing);
+        long s = hear(&p, &missing);
         e[1] = size;
         if (s < 0) {
             e[0] = STREAM;

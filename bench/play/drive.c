@@ -6,7 +6,7 @@
 typedef uint64_t u64;
 typedef uint32_t u32;
 u64 FN(u32 *, size_t, const u32 *, size_t, size_t, u32 *, size_t);
-enum { RECORD = 88, ENTRY = 5, SPARE = 3, LONGEST = 512 };
+enum { CHOICE = 14, RECORD = 89, ENTRY = 5, SPARE = 3, LONGEST = 512 };
 static u32 state = 12345;
 static u32 any(u32 below) {
     state = state * 1664525 + 1013904223;
@@ -19,6 +19,21 @@ static size_t data(u32 *w, u32 s, u32 count) {
     size_t n = 0;
     w[n++] = 0x14600000 | count << 16 | 70;
     w[n++] = identifier(s);
+    w[n++] = word();
+    w[n++] = any(100);
+    w[n++] = word();
+    for (int i = 0; i < 64; i++)
+        w[n++] = word();
+    w[n++] = word();
+    return n;
+}
+// A data packet of 49A of 64 body words: vectors of 3 unsigned items of 8 bits, and 8 bits of padding.
+static size_t surveyed(u32 *w, u32 s, u32 count) {
+    size_t n = 0;
+    w[n++] = 0x1c600000 | count << 16 | 72;
+    w[n++] = identifier(s);
+    w[n++] = 0x40fffffa;
+    w[n++] = 0x000a0002;
     w[n++] = word();
     w[n++] = any(100);
     w[n++] = word();
@@ -80,6 +95,10 @@ static size_t mixed(u32 *w, u32 s, u32 count) {
     if (classed) {
         w[n++] = word() >> 8;
         w[n++] = word();
+        if (kind == 1 && any(4)) { // a class of 49A, with vectors of 1 or 2
+            w[n - 2] = 8 * any(4) << 27 | 0xfffffa;
+            w[n - 1] = any(2) << 20 | (1 + any(13)) << 16 | any(2);
+        }
     }
     if (tsi)
         w[n++] = word();
@@ -127,7 +146,7 @@ static u64 sum(u64 x, const u32 *w, size_t n) {
     return x;
 }
 int main(int argc, char **argv) {
-    // MODE KIND(0 data 1 context 2 mixed 3 context with state) STREAMS PACKETS
+    // MODE KIND(0 data 1 context 2 mixed 3 context with state 4 data of 49A) STREAMS PACKETS; of mixed packets every second stream is by 49A
     // modes: 0 no call, 1 a run of 0 packets, 2 a run of all, 3 a run of all and then one of 0 packets,
     // 4 a run from each packet, and after it one of 0 packets over a table with a bit changed
     if (argc != 5)
@@ -139,14 +158,16 @@ int main(int argc, char **argv) {
     size_t *places = calloc(packets + 1, sizeof *places);
     u32 last[32] = {0};
     t[0] = streams;
-    for (size_t s = 0; s < streams; s++)
+    for (size_t s = 0; s < streams; s++) {
         t[1 + RECORD * s] = identifier(s);
+        t[1 + RECORD * s + CHOICE] = kind == 4 || (kind == 2 && s % 2 == 0);
+    }
     size_t n = 0;
     for (size_t i = 0; i < packets; i++) {
         u32 s = i % streams;
         last[s] = (last[s] + (any(8) ? 1 : 3)) % 16;
         places[i] = n;
-        n += (kind == 0 ? data : kind == 1 ? context : kind == 2 ? mixed : stated)(w + n, s, last[s]);
+        n += (kind == 0 ? data : kind == 1 ? context : kind == 2 ? mixed : kind == 3 ? stated : surveyed)(w + n, s, last[s]);
     }
     u64 r = 0, x = 0;
     if (mode == 1)

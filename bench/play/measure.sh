@@ -15,9 +15,9 @@ trap 'exit 1' HUP INT TERM
 mkdir -p "$work"
 if [ -z "${LIBRARY:-}" ]; then
     mkdir -p "$work/crates/play_c/src"
-    for c in words fields packet record table play; do rm -rf "$work/crates/$c"; cp -R "crates/$c" "$work/crates/"; rm -rf "$work/crates/$c/must-fail"; done
+    for c in words fields packet_survey packet record table play; do rm -rf "$work/crates/$c"; cp -R "crates/$c" "$work/crates/"; rm -rf "$work/crates/$c/must-fail"; done
     cp "$here/calls.txt" "$work/crates/play_c/src/lib.rt"
-    { grep -E '^(words|fields|packet|record|table|play):' crates.txt; echo 'play_c: words fields packet record table play'; } >"$work/crates.txt"
+    { grep -E '^(words|fields|packet_survey|packet|record|table|play):' crates.txt; echo 'play_c: words fields packet_survey packet record table play'; } >"$work/crates.txt"
     mkdir -p "$work/target" # what is proved already is not proved again
     for part in rlib stamp; do [ ! -d "target/$part" ] || cp -R "target/$part" "$work/target/"; done
     (cd "$work" && rt staticlib play_c >"$work/log" 2>&1) || { tail -5 "$work/log"; exit 1; }
@@ -38,8 +38,8 @@ row() { # WHAT STREAMS PARTS C PROVED RESULTS
     awk -v w="$1" -v s="$2" -v n="$3" -v c="$4" -v r="$5" -v e="$6" 'BEGIN { printf "%-36s %6d %9.2f %8.2f  %.3f  %s\n", w, s, c / n, r / n, r / c, e }'
 }
 echo 'call                                 streams C by hand   proved  ratio  results'
-for k in 0 1 3; do
-    case $k in 0) what=data ;; 1) what='context of 6 fields' ;; *) what='6 fields, 22 and 16 too' ;; esac
+for k in 0 4 1 3; do
+    case $k in 0) what=data ;; 4) what='49A data' ;; 1) what='context of 6 fields' ;; *) what='6 fields, 22 and 16 too' ;; esac
     for s in 1 32; do
         row "a packet: $what" $s $n "$(between "$work/c" 2 1 $k $s)" "$(between "$work/r" 2 1 $k $s)" "$(compared 2 $k $s)"
     done

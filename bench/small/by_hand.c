@@ -48,13 +48,16 @@ u32 c_find(const u32 *body, size_t n, u32 bit, size_t *a) {
     a[2] = size;
     return 0;
 }
-u32 c_start(const u32 *ids, size_t streams, u32 *t, size_t tn, size_t *length) {
-    if (streams < 1 || streams > 32)
+u32 c_start(const u32 *ids, size_t streams, const u32 *choices, size_t choices_n, u32 *t, size_t tn, size_t *length) {
+    if (streams < 1 || streams > 32 || choices_n != streams)
         return LIST;
     for (size_t i = 1; i < streams; i++)
         for (size_t j = 0; j < i; j++)
             if (ids[i] == ids[j])
                 return LIST;
+    for (size_t i = 0; i < streams; i++)
+        if (choices[i] > 1)
+            return LIST;
     if (tn < 1 + RECORD * streams)
         return ROOM;
     t[0] = streams;
@@ -62,6 +65,7 @@ u32 c_start(const u32 *ids, size_t streams, u32 *t, size_t tn, size_t *length) {
         u32 *r = t + 1 + RECORD * s;
         r[0] = ids[s];
         memset(r + 1, 0, (RECORD - 1) * 4);
+        r[CHOICE] = choices[s];
     }
     *length = 1 + RECORD * streams;
     return 0;
@@ -87,12 +91,13 @@ static inline u32 record_of(const u32 *t, size_t tn, size_t s, const u32 **r) {
     *r = t + 1 + RECORD * s;
     return 0;
 }
-u32 c_identity(const u32 *t, size_t tn, size_t s, u32 *identifier, u32 *held) {
+u32 c_identity(const u32 *t, size_t tn, size_t s, u32 *identifier, u32 *choice, u32 *held) {
     const u32 *r;
     u32 refused = record_of(t, tn, s, &r);
     if (refused)
         return refused;
     *identifier = r[0];
+    *choice = r[CHOICE];
     *held = r[1];
     return 0;
 }

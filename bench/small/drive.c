@@ -18,15 +18,15 @@ u32 CALL(words_needed)(u32, u32, size_t, size_t *);
 u32 CALL(coordinates_of)(u32, u32, size_t, size_t, u32 *);
 u32 CALL(item_at)(u32, u32, size_t, const u32 *, size_t *);
 u32 CALL(signed)(u32, u64, int64_t *);
-u32 CALL(start)(const u32 *, size_t, u32 *, size_t, size_t *);
+u32 CALL(start)(const u32 *, size_t, const u32 *, size_t, u32 *, size_t, size_t *);
 u32 CALL(well_made)(const u32 *, size_t);
 u32 CALL(page_length)(const u32 *, size_t, size_t *);
-u32 CALL(identity)(const u32 *, size_t, size_t, u32 *, u32 *);
+u32 CALL(identity)(const u32 *, size_t, size_t, u32 *, u32 *, u32 *);
 u32 CALL(counts)(const u32 *, size_t, size_t, u32, u32 *);
 u32 CALL(own_table)(const u32 *, size_t, size_t, u32 *, size_t, size_t *);
 u32 CALL(changed)(const u32 *, size_t, size_t, const u32 *, size_t, size_t, u32 *);
 u32 CALL(play)(u32 *, size_t, const u32 *, size_t, u32 *);
-enum { RECORD = 88, CONTEXT = 0x40000000 };
+enum { RECORD = 89, CONTEXT = 0x40000000 };
 // Bodies: fields 29, 27, 24, 23, 21 and 18, whose first words are small; fields 29, 27, 23, 21, 20 and 19, whose first words are all 2^16 or more.
 static const u32 small[] = {1u << 29 | 1 << 27 | 1 << 24 | 1 << 23 | 1 << 21 | 1 << 18, 1, 2, 3, 4, 0xff80, 6, 7, 8, 0xffe0};
 static const u32 large[] = {1u << 29 | 1 << 27 | 1 << 23 | 1 << 21 | 1 << 20 | 1 << 19, 0x10001, 2, 0xfff20003, 4, 0x7fff0001, 0x01000007, 8, 0x00010009, 10, 0xff80ff80};
@@ -35,7 +35,7 @@ static const u32 link = 1u << 31 | 11 << 6 | 11, processing = 15 << 6 | 11;
 // A format of complex 16-bit items in vectors of 4, with a repeat of 4: a group has 32 items. Bit 23 makes it one of component repeating.
 static const u32 complex16 = 1u << 31 | 1 << 29 | 15 << 6 | 15, fours = 3 << 16 | 3;
 static _Alignas(64) u32 t[1 + RECORD * 32]; // the count of memset hangs on the place
-static u32 own[1 + RECORD], ids[32], a[4];
+static u32 own[1 + RECORD], ids[32], choices[32], a[4];
 static size_t place[3], length;
 static int64_t value;
 static u32 refused, answer;
@@ -44,12 +44,14 @@ static u64 sum(u64 x, const u32 *w, size_t n) {
         x = x * 31 + w[i];
     return x;
 }
-// A table of so many streams, of which each holds the six fields, or all that can be held: 20.
+// A table of so many streams, every second by 49A, of which each holds the six fields, or all that can be held: 20.
 static void table(size_t streams, int all) {
     u32 w[2 + 75] = {0}, n = all ? 75 : sizeof small / sizeof *small;
-    for (size_t s = 0; s < streams; s++)
+    for (size_t s = 0; s < streams; s++) {
         ids[s] = 0x1000 + s;
-    refused |= CALL(start)(ids, streams, t, 1 + RECORD * streams, &length);
+        choices[s] = s % 2;
+    }
+    refused |= CALL(start)(ids, streams, choices, streams, t, 1 + RECORD * streams, &length);
     memcpy(w + 2, small, sizeof small);
     if (all) {
         w[2] = 0x7ffffc00;
@@ -95,15 +97,15 @@ static void of_words(const char *call, const char *kind, size_t size, size_t tim
 static void of_table(const char *call, size_t streams, size_t times) {
     size_t tn = 1 + RECORD * streams, last = streams - 1;
     refused |= CALL(own_table)(t, tn, last, own, 1 + RECORD, &length);
-    own[1 + 15]++;
+    own[1 + 16]++;
     if (!strcmp(call, "start"))
-        REPEAT(refused, CALL(start)(ids, streams, t, tn, &length));
+        REPEAT(refused, CALL(start)(ids, streams, choices, streams, t, tn, &length));
     if (!strcmp(call, "well_made"))
         REPEAT(answer, CALL(well_made)(t, tn));
     if (!strcmp(call, "page_length"))
         REPEAT(refused, CALL(page_length)(t, tn, &length));
     if (!strcmp(call, "identity"))
-        REPEAT(refused, CALL(identity)(t, tn, last, a, a + 1));
+        REPEAT(refused, CALL(identity)(t, tn, last, a, a + 1, a + 2));
     if (!strcmp(call, "counts"))
         REPEAT(refused, CALL(counts)(t, tn, last, 4, a));
     if (!strcmp(call, "own_table"))

@@ -15,6 +15,7 @@ enum { WORDS = 1 << 20, SAVED = 1 + VRT49_PAGE_WORDS(VRT49_STREAMS_MAX) };
 
 static uint32_t words[WORDS], table[VRT49_TABLE_WORDS(VRT49_STREAMS_MAX)];
 static uint32_t saved[SAVED];
+static const uint32_t plain[VRT49_STREAMS_MAX] = {VRT49_PLAIN}; /* of each stream */
 
 /* Reads the words of a file, at most so many; 0 where it cannot be read. */
 static int read_file(const char *name, uint32_t *to, size_t most, size_t *n)
@@ -72,8 +73,8 @@ static uint32_t begin(size_t length, size_t n, size_t *layout, size_t *at)
     *at = length ? saved[0] : 1 + streams;
     if (length)
         return vrt49_put_back(saved + 1, length - 1, table, room, layout);
-    if (streams < n)
-        return vrt49_start(words + 1, streams, table, room, layout);
+    if (streams < n && streams <= VRT49_STREAMS_MAX)
+        return vrt49_start(words + 1, streams, plain, streams, table, room, layout);
     return VRT49_LIST;
 }
 

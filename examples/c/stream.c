@@ -13,6 +13,7 @@ enum { ENTRIES = 256 };
 
 static uint32_t words[2 * VRT49_PACKET_WORDS], table[VRT49_TABLE_WORDS(VRT49_STREAMS_MAX)];
 static vrt49_entry entries[ENTRIES];
+static const uint32_t plain[VRT49_STREAMS_MAX] = {VRT49_PLAIN}; /* of each stream */
 static uint64_t packets_of[VRT49_STREAMS_MAX], missing_of[VRT49_STREAMS_MAX], undeclared;
 
 /* Reads at most `most` big-endian words, and gives how many. */
@@ -89,7 +90,8 @@ int main(int argc, char **argv)
         return 2;
     if (read_words(&streams, 1) == 1 && streams <= VRT49_STREAMS_MAX &&
         read_words(ids, streams) == streams)
-        number = vrt49_start(ids, streams, table, sizeof table / sizeof table[0], &layout);
+        number = vrt49_start(ids, streams, plain, streams, table, sizeof table / sizeof table[0],
+                             &layout);
     if (number == VRT49_OK) {
         number = play_stream(layout, chunk);
         print_streams(ids, streams, layout);

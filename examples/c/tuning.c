@@ -5,6 +5,7 @@
 #include "vrt49.h"
 
 static uint32_t words[1 << 20], table[VRT49_TABLE_WORDS(VRT49_STREAMS_MAX)];
+static const uint32_t plain[VRT49_STREAMS_MAX] = {VRT49_PLAIN}; /* of each stream */
 
 int main(void)
 {
@@ -15,8 +16,9 @@ int main(void)
     vrt49_shown rf, level;
     for (at = 0; at < n; at++)
         words[at] = ntohl(words[at]); /* the calls take words in the host's order */
-    if (words[0] < n)
-        number = vrt49_start(words + 1, words[0], table, sizeof table / sizeof *table, &layout);
+    if (words[0] < n && words[0] <= VRT49_STREAMS_MAX)
+        number = vrt49_start(words + 1, words[0], plain, words[0], table,
+                             sizeof table / sizeof *table, &layout);
     at = number == VRT49_OK ? 1 + words[0] : 0;
     for (; number == VRT49_OK && at < n; at += packet.size) {
         number = vrt49_read(words + at, n - at, &packet);

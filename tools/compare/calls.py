@@ -85,16 +85,21 @@ def around(r, n):
 # Packets.
 
 
+def packet_entries(p):
+    """The eighteen words of a packet that was read."""
+    return [
+        p.type, p.class_flag, p.trailer_flag, p.tsm, p.tsi, p.tsf, p.count, p.size, p.identifier,
+        p.oui, p.information, p.packet, p.seconds, p.fraction >> 32, p.fraction & ONES, p.body,
+        p.length, p.trailer,
+    ]
+
+
 def read_of(words, answer):
     lent = [words, answer]
     said, p = vrt49.read(list(words.entries))
     if said == "refused":
         return refused(lent, p)
-    return Case(lent, 0, {1: put(answer, [
-        p.type, p.class_flag, p.trailer_flag, p.tsm, p.tsi, p.tsf, p.count, p.size, p.identifier,
-        p.oui, p.information, p.packet, p.seconds, p.fraction >> 32, p.fraction & ONES, p.body,
-        p.length, p.trailer,
-    ])})
+    return Case(lent, 0, {1: put(answer, packet_entries(p))})
 
 
 def read(r):
@@ -174,6 +179,83 @@ def write(r):
     if r.randrange(20) == 0:
         at = r.choice((room, room + 1, 2**32 - 1, 2**32, 2**63, 2**64 - 1, 2**64 - size))
     return write_of(given(parts), given(body), noisy(r, room), at, length_place(r))
+
+
+def read_survey_of(words, answer):
+    lent = [words, answer]
+    said, what = vrt49.read_survey(list(words.entries))
+    if said == "refused":
+        return refused(lent, what)
+    packet, survey = what
+    return Case(lent, 0, {1: put(answer, packet_entries(packet) + list(survey))})
+
+
+def read_survey(r):
+    if r.randrange(500) == 0:
+        return read_survey_of(given(long_survey(r)), noisy(r, 22))
+    make = making.some_packet if r.randrange(4) == 0 else making.some_survey
+    return read_survey_of(given(make(r)), noisy(r, 22))
+
+
+def long_survey(r):
+    """A survey packet of about as many words as a size can say."""
+    made, _, _ = making.survey_parts(r)
+    made.packet = r.choice((0, 1, 4, 65529, 65535))
+    room = r.choice((65535, 65534, 65000)) - vrt49_write.packet_size(made, [])
+    pad = r.choice((0, 0, 8, 31))
+    words = vrt49_write.survey_words(made, pad, list(noisy(r, room).entries))
+    return r.choice((words, words, words[:-1], words + [0, 1]))
+
+
+def write_survey_of(parts, body, out, at, length):
+    lent = [parts, body, out, at, length]
+    p = parts.entries
+    # as vrt49_write: flags above 1 are VALUE
+    if p[0] <= 5 and max(p[1:4]) > 1:
+        return refused(lent, vrt49_write.VALUE)
+    asked = vrt49_write.Parts(*p[:12], p[12] << 32 | p[13], p[14])
+    (said, number), after = vrt49_write.write_survey(
+        asked, p[15], list(body.entries), list(out.entries), at
+    )
+    if said == "refused":
+        return refused(lent, number)
+    return Case(lent, 0, {2: array("I", after), 4: put(length, [number])})
+
+
+def write_survey(r):
+    if r.randrange(4) == 0:
+        # a plain packet, of any type; the pad count is for no other than type 1
+        p = making.parts(r)
+        body, pad = making.body_for(r, p.type), r.choice((0, 0, 31, 32, making.word(r)))
+        if r.randrange(3) == 0:
+            body = making.some_body(r)
+    else:
+        p, pad, body = making.survey_parts(r)
+        if r.randrange(3) == 0:
+            p, pad, body = making.bent_survey(r, p, pad, body)
+    if r.randrange(20) == 0:
+        p.type = r.choice((0, 1, 2, 3, 4, 5, 6, 7, 15, 16, making.word(r)))
+    if r.randrange(300) == 0 and p.type < 6:
+        # about 65,535 words
+        body = long_body(r, p.type, 65535 - vrt49_write.packet_size(p, []) + r.choice((0, 0, 1, 2)))
+    parts = parts_words(p) + [pad]
+    if r.randrange(8) == 0:
+        # a number that may not fit
+        which = r.choice((1, 2, 3, 4, 5, 6, 8, 9, 10, 15, 15, 15))
+        bits = {1: 1, 2: 1, 3: 1, 4: 2, 5: 2, 6: 4, 8: 24, 9: 16, 10: 16, 15: 5}[which]
+        parts[which] = r.choice((1 << bits, (1 << bits) - 1, (1 << bits) + 1, 1 << 27, ONES, making.word(r)))
+    if r.randrange(60) == 0:
+        parts = making.words(r, 16)
+    size = 20 + len(body)
+    if parts[0] < 6 and max(parts[1:7]) < 16:
+        size = vrt49_write.packet_size(vrt49_write.Parts(*parts[:12], 0, 0), body)
+    at = r.choice((0, 0, 1, 3, r.randrange(20)))
+    room = at + size + r.choice((0, 0, 0, 1, 7, r.randrange(30)))
+    if r.randrange(8) == 0:
+        room = r.choice((max(0, at + size - 1), r.randrange(at + size), at, max(0, at - 1), 0))
+    if r.randrange(25) == 0:
+        at = r.choice((room, room + 1, 2**32 - 1, 2**32, 2**63, 2**64 - 1, 2**64 - size))
+    return write_survey_of(given(parts), given(body), noisy(r, room), at, length_place(r))
 
 
 def trailer_parts(r):
@@ -432,12 +514,14 @@ def signed(r):
 # Tables.
 
 
-def start_of(ids, lent_table, length):
-    lent = [ids, lent_table, length]
-    (said, what), after = table.start_lent(list(ids.entries), list(lent_table.entries))
+def start_of(ids, choices, lent_table, length):
+    lent = [ids, choices, lent_table, length]
+    (said, what), after = table.start_lent(
+        list(ids.entries), list(choices.entries), list(lent_table.entries)
+    )
     if said == "refused":
         return refused(lent, what)
-    return Case(lent, 0, {1: array("I", after), 2: put(length, [what])})
+    return Case(lent, 0, {2: array("I", after), 3: put(length, [what])})
 
 
 def start(r):
@@ -445,26 +529,45 @@ def start(r):
     ids = making.identifiers(r, n)
     if n > 1 and r.randrange(6) == 0:
         ids[r.randrange(n)] = ids[r.randrange(n)]
+    choices = [r.randrange(2) for _ in ids]
+    if r.randrange(12) == 0:
+        choices = r.choice((choices[:-1], choices + [0], choices + [1], [], [0] * 32))
+    if choices and r.randrange(12) == 0:
+        choices[r.randrange(len(choices))] = r.choice((2, 3, 256, 1 << 31, ONES, making.word(r)))
     room = table.layout_length(n) + r.choice((0, 0, 0, 1, 5, 100))
     if r.randrange(8) == 0:
         room = around(r, table.layout_length(n))
-    return start_of(given(ids), noisy(r, room), length_place(r))
+    return start_of(given(ids), given(choices), noisy(r, room), length_place(r))
 
 
 def well_made(r):
     lent = making.some_table(r)
-    if r.randrange(3) == 0 and lent[0:1] and 1 <= lent[0] <= 32 and len(lent) > 88:
+    if r.randrange(3) == 0 and lent[0:1] and 1 <= lent[0] <= 32 and len(lent) > making.RECORD:
         lent = making.bend_table(r, lent)
     if r.randrange(60) == 0:
-        lent = making.words(r, r.choice((0, 1, 2, 88, 89, 90, 200)))
+        lent = making.words(r, r.choice((0, 1, 2, 89, 90, 91, 200)))
     return Case([given(lent)], 1 if table.well_made(lent) else 0, {})
 
 
 def declared(r, lent):
     """An identifier that a table has, mostly."""
-    if r.randrange(12) and lent and 1 <= lent[0] <= (len(lent) - 1) // 88:
-        return lent[1 + 88 * r.randrange(lent[0])]
+    if r.randrange(12) and lent and 1 <= lent[0] <= (len(lent) - 1) // making.RECORD:
+        return lent[1 + making.RECORD * r.randrange(lent[0])]
     return making.word(r)
+
+
+def sent(r, lent, kind, plain=making.packet, survey=making.survey):
+    """A packet of one of a table's streams, mostly: of type 1 as the choice of its stream
+    says, and now and then as it does not."""
+    identifier = declared(r, lent)
+    choices = [
+        lent[at + making.CHOICE] for at in range(1, len(lent) - making.RECORD + 1, making.RECORD)
+        if lent[at] == identifier
+    ]
+    asked = choices[0] if choices else r.randrange(2)
+    if kind == 1 and (asked == 1) != (r.randrange(6) == 0):
+        return survey(r, identifier)
+    return plain(r, kind, identifier)
 
 
 def lent_table(r):
@@ -486,9 +589,9 @@ def play_of(lent_words, words, answer):
 
 def play(r):
     lent = lent_table(r)
-    kind = r.choice((1, 3, 4, 4, 4, 5)) if r.randrange(10) else None
-    identifier = declared(r, lent)
-    words = (making.packet if r.randrange(3) else making.some_packet)(r, kind, identifier)
+    kind = r.choice((1, 1, 1, 3, 4, 4, 4, 5)) if r.randrange(10) else None
+    made = (making.packet, making.survey) if r.randrange(3) else (making.some_packet, making.some_survey)
+    words = sent(r, lent, kind, *made)
     if r.randrange(60) == 0:
         words = []
     return play_of(given(lent), given(words), noisy(r, 4))
@@ -535,7 +638,7 @@ def play_run(r):
     words, places = [], []
     for _ in range(r.choice((0, 1, 2, 3, 5, 8, r.randrange(20)))):
         places.append(len(words))
-        made = making.packet(r, r.choice((0, 1, 1, 3, 4, 4, 5, 2)), declared(r, lent))
+        made = sent(r, lent, r.choice((0, 1, 1, 1, 3, 4, 4, 5, 2)))
         words += making.bent_packet(r, made) if r.randrange(10) == 0 else made
     if r.randrange(12) == 0:
         words = making.bent(r, words)
@@ -586,8 +689,8 @@ def put_back(r):
     if r.randrange(2):
         made = making.bend_page(r, made)
     if r.randrange(40) == 0:
-        made = making.words(r, r.choice((0, 1, 2, 17, 18, 19, 34)))
-    room = table.layout_length(streams) + r.choice((0, 0, 1, 4, 88))
+        made = making.words(r, r.choice((0, 1, 2, 18, 19, 20, 36)))
+    room = table.layout_length(streams) + r.choice((0, 0, 1, 4, making.RECORD))
     if r.randrange(8) == 0:
         room = around(r, table.layout_length(streams))
     out, length = noisy(r, room), length_place(r)
@@ -605,7 +708,8 @@ def some_place(r, lent):
     """A stream and a bit, mostly of a field that the table holds."""
     streams = lent[0] if lent and 1 <= lent[0] <= 32 else 1
     stream = r.randrange(streams)
-    held = lent[2 + 88 * stream] if len(lent) > 2 + 88 * stream else 0
+    place = 2 + making.RECORD * stream
+    held = lent[place] if len(lent) > place else 0
     bits = [bit for bit in table.HELD_BITS if held >> bit & 1]
     bit = r.choice(bits) if bits and r.randrange(6) else r.choice((*range(10, 31), 22, 22, 22))
     if r.randrange(15) == 0:
@@ -695,12 +799,13 @@ def held_words(r):
 
 
 def identity_of(r, lent, stream):
-    identifier, held = noisy(r, 1), noisy(r, 1)
-    args = [given(lent), stream, identifier, held]
+    found = [noisy(r, 1) for _ in range(3)]
+    args = [given(lent), stream, *found]
     said = streams.identity(lent, stream)
     if said[0] == "refused":
         return refused(args, said[1])
-    return Case(args, 0, {2: put(identifier, [said[1]]), 3: put(held, [said[2]])})
+    # identifier, choice and held indicator
+    return Case(args, 0, {2 + k: put(one, [said[1 + k]]) for k, one in enumerate(found)})
 
 
 def identity(r):
@@ -733,13 +838,13 @@ def own_table_of(r, lent, stream, room):
 def own_table(r):
     lent = lent_table(r)
     stream, _ = some_place(r, lent)
-    return own_table_of(r, lent, stream, r.choice((0, 88, 89, 89, 89, 90, 120)))
+    return own_table_of(r, lent, stream, r.choice((0, 89, 90, 90, 90, 91, 120)))
 
 
 def played_on(r, lent):
     """The table after some packets of its own streams; a table that is not well made stays."""
     for _ in range(r.randrange(4)):
-        lent = table.play_lent(lent, making.packet(r, r.choice((1, 4, 4)), declared(r, lent)))[1]
+        lent = table.play_lent(lent, sent(r, lent, r.choice((1, 4, 4))))[1]
     return lent
 
 
@@ -761,20 +866,22 @@ def changed(r):
         after = panel_table(r)
         other, _ = some_place(r, after)
     elif r.randrange(3) == 0:
-        said, own = streams.own_table(before, stream, [0] * 89)
+        said, own = streams.own_table(before, stream, [0] * streams.OWN_WORDS)
         before, stream = (own, 0) if said[0] == "table" else (before, stream)
     return changed_of(r, before, stream, after, other)
 
 
 # The calls in drive.c's order: what each takes (its letters, as there), how many
 # cases, and the answers that must occur.  SIZE does not occur for a page: it has at
-# most 2,850 words.
+# most 2,882 words.
 
 Call = namedtuple("Call", "name takes make cases occur")
 
 CALLS = (
     Call("vrt49_read", "iI", read, 100000, tuple(range(11))),
     Call("vrt49_write", "iiIqL", write, 50000, (0, 2, 4, 7, 8, 9, 10, 13, 14, 15)),
+    Call("vrt49_read_survey", "iI", read_survey, 60000, (*range(11), 20)),
+    Call("vrt49_write_survey", "iiIqL", write_survey, 40000, (0, 2, 4, 7, 8, 9, 10, 13, 14, 15, 20)),
     Call("vrt49_trailer_parts", "wI", trailer_parts, 5000, (0,)),
     Call("vrt49_trailer_word", "wwwwI", trailer_word, 20000, (0, 14)),
     Call("vrt49_field_count", "w", field_count, 5000, tuple(range(24))),
@@ -786,9 +893,9 @@ CALLS = (
     Call("vrt49_coordinates_of", "wwqqI", coordinates_of, 30000, (0, 14, 16, 17)),
     Call("vrt49_item_at", "wwqiL", item_at, 30000, (0, 14, 16, 17)),
     Call("vrt49_signed", "wqL", signed, 20000, (0, 14, 16)),
-    Call("vrt49_start", "iIL", start, 10000, (0, 12, 13)),
+    Call("vrt49_start", "iiIL", start, 10000, (0, 12, 13)),
     Call("vrt49_well_made", "i", well_made, 30000, (0, 1)),
-    Call("vrt49_play", "IiI", play, 40000, (*range(12), 18)),
+    Call("vrt49_play", "IiI", play, 40000, (*range(12), 18, 20)),
     Call("vrt49_play_run", "IiqILL", play_run, 15000, (0, 18)),
     Call("vrt49_page_length", "iL", page_length, 6000, (0, 18)),
     Call("vrt49_save", "iIL", save, 10000, (0, 13, 18)),
@@ -796,7 +903,7 @@ CALLS = (
     Call("vrt49_reading", "iqwIILI", reading, 30000, (0, 11, 14, 18)),
     Call("vrt49_readings", "iqIILII", readings, 20000, (0, 11, 18)),
     Call("vrt49_held_words", "iqwIL", held_words, 15000, (0, 11, 13, 14, 18)),
-    Call("vrt49_identity", "iqII", identity, 8000, (0, 11, 18)),
+    Call("vrt49_identity", "iqIII", identity, 8000, (0, 11, 18)),
     Call("vrt49_counts", "iqwI", counts, 12000, (0, 11, 14, 18)),
     Call("vrt49_own_table", "iqIL", own_table, 8000, (0, 11, 13, 18)),
     Call("vrt49_changed", "iqiqI", changed, 15000, (0, 11, 18)),

@@ -117,11 +117,12 @@ def forms(payloads):
 
 def samples():
     words, packets = vrtplay.words_of(Path("samples/packets").read_bytes()), []
+    # each has before it how it is read, and how many words it has
     while words:
-        packets.append(to_bytes(words[1 : 1 + words[0]]))
-        del words[: 1 + words[0]]
+        packets.append(to_bytes(words[2 : 2 + words[1]]))
+        del words[: 2 + words[1]]
     # the third is cut, and the fourth's size leaves words that are no packet
-    wanted = recording_of([7], packets[0], packets[1], packets[4], packets[5])
+    wanted = recording_of([7], packets[0], packets[1], packets[4], packets[5], packets[6])
     for form, capture in forms(packets).items():
         expect(f"sample packets, {form}", capture, wanted, [f"frame 3: {EXCEEDS}", f"frame 4: {TYPE}"])
 

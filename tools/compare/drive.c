@@ -18,6 +18,8 @@ static const struct {
 } calls[] = {
     {"vrt49_read", "iI", {"words", "answer"}},
     {"vrt49_write", "iiIqL", {"parts", "body", "out", "length"}},
+    {"vrt49_read_survey", "iI", {"words", "answer"}},
+    {"vrt49_write_survey", "iiIqL", {"parts", "body", "out", "length"}},
     {"vrt49_trailer_parts", "wI", {"answer"}},
     {"vrt49_trailer_word", "wwwwI", {"word"}},
     {"vrt49_field_count", "w", {0}},
@@ -29,7 +31,7 @@ static const struct {
     {"vrt49_coordinates_of", "wwqqI", {"coordinates"}},
     {"vrt49_item_at", "wwqiL", {"coordinates", "item"}},
     {"vrt49_signed", "wqL", {"value"}},
-    {"vrt49_start", "iIL", {"ids", "table", "length"}},
+    {"vrt49_start", "iiIL", {"ids", "choices", "table", "length"}},
     {"vrt49_well_made", "i", {"table"}},
     {"vrt49_play", "IiI", {"table", "words", "answer"}},
     {"vrt49_play_run", "IiqILL", {"table", "words", "answers", "packets", "next"}},
@@ -39,7 +41,7 @@ static const struct {
     {"vrt49_reading", "iqwIILI", {"table", "kind", "parts", "hertz", "levels"}},
     {"vrt49_readings", "iqIILII", {"table", "kinds", "parts", "hertz", "first", "second"}},
     {"vrt49_held_words", "iqwIL", {"table", "out", "length"}},
-    {"vrt49_identity", "iqII", {"table", "identifier", "held"}},
+    {"vrt49_identity", "iqIII", {"table", "identifier", "choice", "held"}},
     {"vrt49_counts", "iqwI", {"table", "answer"}},
     {"vrt49_own_table", "iqIL", {"table", "out", "length"}},
     {"vrt49_changed", "iqiqI", {"before", "after", "fields"}},
@@ -66,30 +68,32 @@ static uint32_t call(uint32_t which) {
     switch (which) {
     case 0: return vrt49_read(B(0), P(1));
     case 1: return vrt49_write(P(0), B(1), B(2), s[0], P(3));
-    case 2: return vrt49_trailer_parts(s[0], P(0));
-    case 3: return vrt49_trailer_word(s[0], s[1], s[2], s[3], P(0));
-    case 4: return vrt49_field_count(s[0]);
-    case 5: return vrt49_check_body(B(0));
-    case 6: return vrt49_find(B(0), s[0], P(1));
-    case 7: return vrt49_unpack(s[0], s[1], s[2], B(0), B(1), B(2), B(3));
-    case 8: return vrt49_pack(s[0], s[1], B(0), B(1), B(2), B(3), P(4));
-    case 9: return vrt49_words_needed(s[0], s[1], s[2], P(0));
-    case 10: return vrt49_coordinates_of(s[0], s[1], s[2], s[3], P(0));
-    case 11: return vrt49_item_at(s[0], s[1], s[2], P(0), P(1));
-    case 12: return vrt49_signed(s[0], s[1], P(0));
-    case 13: return vrt49_start(B(0), B(1), P(2));
-    case 14: return vrt49_well_made(B(0));
-    case 15: return vrt49_play(B(0), B(1), P(2));
-    case 16: return vrt49_play_run(B(0), B(1), s[0], B(2), P(3), P(4));
-    case 17: return vrt49_page_length(B(0), P(1));
-    case 18: return vrt49_save(B(0), B(1), P(2));
-    case 19: return vrt49_put_back(B(0), B(1), P(2));
-    case 20: return vrt49_reading(B(0), s[0], s[1], P(1), P(2), P(3), P(4));
-    case 21: return vrt49_readings(B(0), s[0], P(1), P(2), P(3), P(4), P(5));
-    case 22: return vrt49_held_words(B(0), s[0], s[1], B(1), P(2));
-    case 23: return vrt49_identity(B(0), s[0], P(1), P(2));
-    case 24: return vrt49_counts(B(0), s[0], s[1], P(1));
-    case 25: return vrt49_own_table(B(0), s[0], B(1), P(2));
+    case 2: return vrt49_read_survey(B(0), P(1));
+    case 3: return vrt49_write_survey(P(0), B(1), B(2), s[0], P(3));
+    case 4: return vrt49_trailer_parts(s[0], P(0));
+    case 5: return vrt49_trailer_word(s[0], s[1], s[2], s[3], P(0));
+    case 6: return vrt49_field_count(s[0]);
+    case 7: return vrt49_check_body(B(0));
+    case 8: return vrt49_find(B(0), s[0], P(1));
+    case 9: return vrt49_unpack(s[0], s[1], s[2], B(0), B(1), B(2), B(3));
+    case 10: return vrt49_pack(s[0], s[1], B(0), B(1), B(2), B(3), P(4));
+    case 11: return vrt49_words_needed(s[0], s[1], s[2], P(0));
+    case 12: return vrt49_coordinates_of(s[0], s[1], s[2], s[3], P(0));
+    case 13: return vrt49_item_at(s[0], s[1], s[2], P(0), P(1));
+    case 14: return vrt49_signed(s[0], s[1], P(0));
+    case 15: return vrt49_start(B(0), B(1), B(2), P(3));
+    case 16: return vrt49_well_made(B(0));
+    case 17: return vrt49_play(B(0), B(1), P(2));
+    case 18: return vrt49_play_run(B(0), B(1), s[0], B(2), P(3), P(4));
+    case 19: return vrt49_page_length(B(0), P(1));
+    case 20: return vrt49_save(B(0), B(1), P(2));
+    case 21: return vrt49_put_back(B(0), B(1), P(2));
+    case 22: return vrt49_reading(B(0), s[0], s[1], P(1), P(2), P(3), P(4));
+    case 23: return vrt49_readings(B(0), s[0], P(1), P(2), P(3), P(4), P(5));
+    case 24: return vrt49_held_words(B(0), s[0], s[1], B(1), P(2));
+    case 25: return vrt49_identity(B(0), s[0], P(1), P(2), P(3));
+    case 26: return vrt49_counts(B(0), s[0], s[1], P(1));
+    case 27: return vrt49_own_table(B(0), s[0], B(1), P(2));
     default: return vrt49_changed(B(0), s[0], B(1), s[1], P(2));
     }
 #undef B

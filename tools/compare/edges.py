@@ -1,8 +1,9 @@
-"""Cases at the edges of document 01's rules, and of those of C-11 and C-12, for each call:
+"""Cases at the edges of document 01's rules, and of those of C-11, C-12 and C-13, for each call:
 the samples of document 01 with the number it states, every choice of optional parts, every
 bit of a field with a rule, every item of small groups, groups of as many items as may be and
 of more, every bit of a table and a page, every pair of counts, every choice of the enables
-of a state word."""
+of a state word; of survey packets every data type, pad count and bit of the class, and every
+choice of a list of streams."""
 
 import itertools
 import random
@@ -13,6 +14,7 @@ import page
 import payload
 import table
 import vrt49
+import vrt49_write
 from calls import MOST_ITEMS, given, noisy
 from making import ONES, TERA
 
@@ -143,6 +145,184 @@ def write(r):
         yield sure(ask([1] + [0] * 14, [], 3, at), 0 if at < 2 else 13)
     for body in bodies():
         yield ask([4] + [0] * 14, body)
+
+
+# Survey packets.
+
+HANDS = (
+    [0x1C000007, 7, 0x00FFFFFA, 0x00130000, 0xABCDEF12, 0x30000000, 0],
+    [0x1C000006, 7, 0x40FFFFFA, 0x000A0002, 0x01020300, 0],
+)
+
+
+def survey(high, low, body, flags=0x0C, tsf=0, fraction=0, kind=1, identifier=7):
+    """A survey packet; flags have C in bit 3 and T in bit 2."""
+    words = [kind << 28 | flags << 24 | tsf << 20]
+    words += [identifier] if kind in (1, 3, 4, 5) else []
+    words += [high, low] if flags & 8 else []
+    words += [fraction >> 32, fraction & ONES] if tsf else []
+    words += body
+    words += [0x5A5A] if flags & 4 else []
+    words[0] += len(words)
+    return words
+
+
+def survey_high(pad=0):
+    return pad << 27 | 0xFFFFFA
+
+
+def survey_shapes():
+    """Classes of every data type, real and complex, in vectors, with their bits."""
+    for data, (_, item) in vrt49.SURVEY_TYPES.items():
+        for rc in (0, 1):
+            for vector in (1, 2, 3, 7):
+                yield rc << 20 | data << 16 | vector - 1, item * (1 + rc) * vector
+
+
+def survey_payloads():
+    """The words of a class, a body, and whether the body has whole vectors: every pad count in
+    few words, whole vectors, large vectors."""
+    for low, vector in survey_shapes():
+        for vectors in (0, 1, 2, 5):
+            n = (vector * vectors + 31) // 32
+            pad = 32 * n - vector * vectors
+            yield survey_high(pad), low, [*range(n)], True
+            for other in {(pad + 1) % 32, pad ^ 16, 0, 31} - {pad}:
+                right = 32 * n >= other and (32 * n - other) % vector == 0
+                yield survey_high(other), low, [*range(n)], right
+        for n in range(4):
+            for pad in range(32):
+                right = 32 * n >= pad and (32 * n - pad) % vector == 0
+                if right or pad in (0, 1, 8, 16, 31):
+                    yield survey_high(pad), low, [*range(n)], right
+    for data, rc, vector, n, right in (
+        (5, 1, 65536, 0, True), (5, 1, 65536, 4, False), (8, 0, 65536, 2048, True),
+        (8, 0, 65536, 2047, False), (8, 0, 65530, 65530, True), (13, 0, 32765, 65530, True),
+        (13, 1, 32765, 65530, False), (8, 0, 1, 65530, True), (7, 0, 1, 65529, False),
+    ):
+        yield survey_high(), rc << 20 | data << 16 | vector - 1, [*range(n)], right
+
+
+def survey_classes():
+    """The words of a class with one thing wrong, and their first eight bits."""
+    for bit in range(27):
+        yield survey_high() ^ 1 << bit, 0x00080000
+        yield survey_high(9) ^ 1 << bit, 0x00080000
+    for bit in range(22, 32):
+        yield survey_high(), 0x00080000 ^ 1 << bit
+    for low in range(64):
+        if low >> 4 > 1 or not 1 <= low & 15 <= 13:
+            yield survey_high(), low << 16
+    yield survey_high(), 0x20110002
+
+
+def read_survey(r):
+    def ask(words):
+        return calls.read_survey_of(given(words), noisy(r, 22))
+
+    yield sure(ask([]), 1)
+    cases = [ask(words) for words in HANDS]
+    assert [list(case.after[1][18:]) for case in cases] == [[0, 0x200003CF, 0, 4], [8, 0x100001C7, 2, 3]]
+    yield from (sure(case, 0) for case in cases)
+    for high, low, body, right in survey_payloads():
+        case = ask(survey(high, low, body))
+        if right:
+            pad, first, second, n = case.after[1][18:]
+            assert payload.words_needed(first, second, n) == ("words", len(body))
+            assert n * payload.item_size(first) + pad == 32 * len(body)
+        yield sure(case, 0 if right else 20)
+    for high, low in survey_classes():
+        for body in ([], [1], [1, 2]):
+            yield sure(ask(survey(high, low, body)), 20)
+            # the earlier refusals come first
+            yield sure(ask(survey(high, low, body, tsf=2, fraction=TERA)), 7)
+            yield sure(ask(survey(high, low, body)[:-1]), 5)
+    for flags in (0, 4, 8):
+        for high in (survey_high(), survey_high(3), ONES):
+            words = survey(high, 0x00080000, [1, 2], flags)
+            yield sure(ask(words), 20)
+            yield sure(ask(words[:-1]), 5)
+            yield sure(ask([words[0] & ~0xFFFF] + words[1:]), 4)
+            yield sure(ask(survey(high, 0x00080000, [1], flags, 2, TERA)), 7)
+            yield sure(ask(survey(high, 0x00080000, [1], flags | 1)), 3)
+    # other types stay plain
+    for kind in (0, 2, 3, 4, 5):
+        for pad in range(32):
+            flags = 8 if kind > 3 else 0x0C
+            case = ask(survey(survey_high(pad), 0x00080000, [0], flags, kind=kind))
+            yield sure(case, 6 if pad else 0)
+            assert pad or list(case.after[1][18:]) == [0] * 4
+    for header in range(0, 1 << 32, 1 << 20):
+        kind = header >> 28
+        needed = vrt49.required_words(header) if kind < 6 else 9
+        yield ask([header | needed] + [0] * (needed - 1))
+        yield ask([header | needed + 1] + [0] * needed)
+    for body in [*bodies()][::5]:
+        yield ask(context(body))
+
+
+def write_survey(r):
+    def ask(parts, body, room=None, at=0):
+        room = len(body) + 9 if room is None else room
+        return calls.write_survey_of(given(parts), given(body), noisy(r, room), at, calls.length_place(r))
+
+    def of(words, room=None, at=0, **changed):
+        """The parts of a survey packet's words, with some of them changed, and its body."""
+        p = vrt49_write.parts_of(vrt49.packet_of(words))
+        pad = changed.pop("pad", words[2] >> 27 if p.class_flag else 0)
+        for name, number in changed.items():
+            setattr(p, name, number)
+        return ask(calls.parts_words(p) + [pad], vrt49.body_of(words), room, at)
+
+    for words in HANDS:
+        case = of(words, len(words))
+        assert list(case.after[2]) == words
+        yield sure(case, 0)
+        yield sure(of(words, len(words) - 1), 13)
+        yield sure(of(words, len(words), 1), 13)
+    for high, low, body, right in survey_payloads():
+        words = survey(high, low, body)
+        case = of(words)
+        assert not right or list(case.after[2][: len(words)]) == words
+        yield sure(case, 0 if right else 20)
+    for high, low in survey_classes():
+        # the bits 26 to 24 are not among the parts
+        right = high >> 24 & 7 != 0
+        yield sure(of(survey(high, low, [1])), 0 if right else 20)
+        yield sure(of(survey(high, low, [1], tsf=2, fraction=TERA)), 7)
+        yield sure(of(survey(high, low, [1]), 0), 13 if right else 20)
+    good = survey(survey_high(8), 0x000A0002, [1])
+    for pad in range(40):
+        yield sure(of(good, pad=pad), 14 if pad > 31 else 0 if pad == 8 else 20)
+        # no class, or another type: it is not looked at
+        yield sure(of(good, class_flag=0, pad=pad), 20)
+        for kind in (0, 2, 3):
+            yield sure(of(good, type=kind, pad=pad), 0)
+        yield sure(of(good, type=5, trailer_flag=0, pad=pad), 0)
+    for pad in (64, 1 << 27, 1 << 31, ONES):
+        yield sure(of(good, pad=pad), 14)
+        yield sure(of(good, type=3, pad=pad), 0)
+        yield sure(of(good, trailer_flag=0, pad=pad), 14)
+    yield sure(of(good, trailer_flag=0), 20)
+    yield sure(of(good, type=6, pad=ONES), 2)
+    for place, bits in ((1, 1), (2, 1), (3, 1), (4, 2), (5, 2), (6, 4), (8, 24), (9, 16), (10, 16)):
+        for number in (1 << bits, (1 << bits) + 1, ONES):
+            parts = calls.parts_words(vrt49_write.parts_of(vrt49.packet_of(good))) + [8]
+            parts[place] = number
+            yield sure(ask(parts, [1]), 14)
+    yield sure(ask([4, 0, 0, 0, 0, 0, 0, 7] + [0] * 7 + [ONES], []), 4)
+    for n in (65530, 65531):
+        words = survey(survey_high(0), 0x00080000, [])
+        p = calls.parts_words(vrt49_write.parts_of(vrt49.packet_of(words))) + [1]
+        yield sure(ask(p, [5] * n), 0 if n == 65530 else 15)
+    for kind in range(7):
+        for flags in range(8):
+            for tsi in range(5):
+                for tsf in range(5):
+                    parts = [kind, flags & 1, flags >> 1 & 1, flags >> 2, tsi, tsf, 3, 7, 0xFFFFFA, 8, 0, 11, 12, 13, 14, 2]
+                    yield ask(parts, [0] if kind == 4 else [])
+    for body in [*bodies()][::5]:
+        yield ask([4] + [0] * 14 + [32], body)
 
 
 def trailer_parts(r):
@@ -376,8 +556,9 @@ def signed(r):
 
 
 def start(r):
-    def ask(ids, room):
-        return calls.start_of(given(ids), noisy(r, room), calls.length_place(r))
+    def ask(ids, room, choices=None):
+        choices = [one % 2 for one in range(len(ids))] if choices is None else choices
+        return calls.start_of(given(ids), given(choices), noisy(r, room), calls.length_place(r))
 
     for n in range(41):
         room = table.layout_length(n)
@@ -388,13 +569,39 @@ def start(r):
         for other in range(place):
             ids = [*range(32)]
             ids[other] = ids[place]
-            yield sure(ask(ids, 2817), 12)
+            yield sure(ask(ids, 2849), 12)
+    for n in range(1, 33):
+        room = table.layout_length(n)
+        for number in {0, n - 1, n + 1, 32, 33} - {n}:
+            for choice in (0, 1):
+                yield sure(ask(range(n), room, [choice] * number), 12)
+                yield sure(ask(range(n), 0, [choice] * number), 12)
+        for place in range(n):
+            for choice in (0, 1):
+                choices = [1 - choice] * n
+                choices[place] = choice
+                case = ask(range(n), room, choices)
+                assert [case.after[2][15 + 89 * one] for one in range(n)] == choices
+                yield sure(case, 0)
+            for choice in (2, 3, 256, 1 << 31, ONES):
+                choices = [place % 2] * n
+                choices[place] = choice
+                yield sure(ask(range(n), room, choices), 12)
+                yield sure(ask(range(n), 0, choices), 12)
+    for ids in ([], [7, 7], range(33)):
+        for choices in ([], [0], [1] * 33, [2]):
+            yield sure(ask(ids, 2900, choices), 12)
 
 
-def full_stream(identifier):
+def fresh_stream(identifier, choice=0):
+    return table.fresh_stream(identifier, choice)
+
+
+def full_stream(identifier, choice=1):
     """A stream that has started all its counts and holds every field that is held."""
     counts = {kind: {"seen": kind, "missing": 9, "last": kind} for kind in table.COUNTED_TYPES}
-    return {"identifier": identifier, "counts": counts, "held": {bit: full_field(bit) for bit in table.HELD_BITS}}
+    held = {bit: full_field(bit) for bit in table.HELD_BITS}
+    return {"identifier": identifier, "choice": choice, "counts": counts, "held": held}
 
 
 ALL_ON, ALL_OFF, VALUES, BRIEF = 0xFC0FC000, 0xFC000000, 0x000FC000, 0x03003000
@@ -402,7 +609,7 @@ ALL_ON, ALL_OFF, VALUES, BRIEF = 0xFC0FC000, 0xFC000000, 0x000FC000, 0x03003000
 
 def holding_state(word):
     """A table of one stream that holds a state word alone."""
-    stream = table.fresh_stream(7)
+    stream = fresh_stream(7, word % 2)
     stream["counts"][4] = {"seen": 1, "missing": 0, "last": 3}
     stream["held"] = {16: [word]}
     return [stream]
@@ -421,19 +628,24 @@ def states():
 
 def spoilt_tables():
     """Tables of one stream that are not well made: with a state word that cannot be held; with
-    field 22 held, its word not zero, or both, where nothing else is held and where all is."""
+    field 22 held, its word not zero, or both, where nothing else is held and where all is; with
+    a choice that is neither 0 nor 1."""
     for word in (*[1 << bit for bit in range(12, 20)], 1 << 24, 1 << 25, 1 << 20, ALL_ON - (1 << 26)):
         yield table.layout(holding_state(word))
     for stream in (*holding_state(0), full_stream(7)):
         for held, word in ((1 << 22, 0), (0, 5), (1 << 22, 5)):
             words = table.layout([stream])
-            words[2], words[28] = words[2] | held, word
+            words[2], words[29] = words[2] | held, word
+            yield words
+        for choice in (2, 3, 256, 1 << 31, ONES):
+            words = table.layout([stream])
+            words[15] = choice
             yield words
 
 
 def state_tables():
     """Tables of one stream after state words and over-range counts, each with what is held."""
-    lent = table.layout([table.fresh_stream(7)])
+    lent = table.layout([fresh_stream(7, 1)])
     for body in (
         [1 << 22, 5], [1 << 16, 0], [1 << 16, BRIEF | 0x5A], [1 << 22 | 1 << 16, 6, ALL_ON],
         [1 << 16, 1 << 29 | VALUES | 0xA5], [1 << 22 | 1 << 10, 7, 8], [1 << 16, ALL_OFF],
@@ -444,10 +656,10 @@ def state_tables():
 
 def tables():
     """Tables of one stream, fresh, started and full, of some and of 32."""
-    yield table.layout([table.fresh_stream(7)])
+    yield table.layout([fresh_stream(7)])
     yield table.layout([full_stream(7)])
-    yield table.layout([table.fresh_stream(7), full_stream(8), table.fresh_stream(9)])
-    yield table.layout([full_stream(i) for i in range(32)])
+    yield table.layout([fresh_stream(7), full_stream(8), fresh_stream(9, 1)])
+    yield table.layout([full_stream(i, i % 2) for i in range(32)])
 
 
 def well_made(r):
@@ -461,7 +673,7 @@ def well_made(r):
     one, full, three, _ = tables()
     for made in (one, full):
         yield from map(ask, bits_of(made, range(len(made))))
-    yield from map(ask, bits_of(three, [0, 1, 2, 90, 178, 264]))
+    yield from map(ask, bits_of(three, [0, 1, 2, 15, 91, 104, 180, 193, 267]))
     for word, good in states():
         yield sure(ask(table.layout(holding_state(word))), good)
     for spoilt in spoilt_tables():
@@ -469,10 +681,10 @@ def well_made(r):
 
 
 def played_table(last, seen=1, missing=0):
-    stream = table.fresh_stream(7)
+    stream = fresh_stream(7)
     for kind in table.COUNTED_TYPES:
         stream["counts"][kind] = {"seen": seen, "missing": missing, "last": last}
-    return table.layout([table.fresh_stream(5), stream])
+    return table.layout([fresh_stream(5, 1), stream])
 
 
 def play(r):
@@ -484,7 +696,7 @@ def play(r):
 
     for kind in table.COUNTED_TYPES:
         for count in range(16):
-            yield sure(ask(table.layout([table.fresh_stream(7)]), packet(kind, count)), 0)
+            yield sure(ask(table.layout([fresh_stream(7)]), packet(kind, count)), 0)
             for last in range(16):
                 case = ask(played_table(last, ONES, ONES - count), packet(kind, count))
                 assert case.after[2][3] == (count - last - 1) % 16
@@ -504,39 +716,89 @@ def play(r):
             (ALL_ON | 0x5A, enables << 26 | BRIEF | 0xA5, ALL_ON - own | 0xA5),
             (ALL_OFF | 0x5A, enables << 26 | VALUES, ALL_OFF | own),
         ):
-            lent = table.layout(holding_state(before) if before else [table.fresh_stream(7)])
+            lent = table.layout(holding_state(before) if before else [fresh_stream(7)])
             case = ask(lent, context([1 << 16, word]))
-            assert (case.after[0][2], case.after[0][37]) == (1 << 16, after)
+            assert (case.after[0][2], case.after[0][38]) == (1 << 16, after)
             yield sure(case, 0)
     # the over-range count, alone and before each field, and before all of them
     for lent in tables():
         yield sure(ask(lent, context([1 << 22, ONES])), 0)
     for bit in range(10, 22):
-        case = ask(table.layout([table.fresh_stream(7)]), context(body_of(22, bit)))
-        assert case.after[0][2] == 1 << bit and case.after[0][28] == 0
+        case = ask(table.layout([fresh_stream(7)]), context(body_of(22, bit)))
+        assert case.after[0][2] == 1 << bit and case.after[0][29] == 0
         yield sure(case, 0)
-    yield sure(ask(table.layout([table.fresh_stream(7)]), context(body_of(*range(10, 23)))), 0)
+    yield sure(ask(table.layout([fresh_stream(7)]), context(body_of(*range(10, 23)))), 0)
     for kind in (0, 2):
         yield sure(ask(played_table(1), [kind << 28 | 1]), 11)
     yield sure(ask(played_table(1), [1 << 28 | 2, 8]), 11)
     # both a table that is not well made and a packet that is refused
     yield sure(ask([0], []), 18)
     yield sure(ask([], [ONES]), 18)
+    yield from play_by_choice(ask)
     for spoilt in spoilt_tables():
         yield sure(ask(spoilt, packet(1, 0)), 18)
+        yield sure(ask(spoilt, HANDS[1]), 18)
         yield sure(ask(spoilt, context([1 << 22 | 1 << 16, 5, ALL_ON])), 18)
+
+
+def play_by_choice(ask):
+    """Packets of type 1 to streams of either choice and to none, those of other types, and each
+    stream of 32 that alone has the other choice."""
+    for choice in (0, 1):
+        for before in ([], [fresh_stream(5, 1 - choice)], [full_stream(5, 1 - choice), fresh_stream(6)]):
+            lent = table.layout([*before, fresh_stream(7, choice), fresh_stream(8, 1 - choice)])
+            for high, low, body, right in [*survey_payloads()][:200:9]:
+                number = (0 if right else 20) if choice else 6 if high >> 24 else 0
+                yield sure(ask(lent, survey(high, low, body)), number)
+            for high, low in [*survey_classes()][::3]:
+                yield sure(ask(lent, survey(high, low, [1])), 20 if choice else 6 if high >> 24 else 0)
+                # not declared
+                words = survey(high, low, [1], identifier=9)
+                yield sure(ask(lent, words), 6 if high >> 24 else 11)
+            for flags in (0, 4, 8):
+                words = survey(survey_high(), 0x00080000, [1, 2], flags)
+                yield sure(ask(lent, words), 20 if choice else 0)
+                yield sure(ask(lent, words[:1] + [9] + words[2:]), 11)
+                yield sure(ask(lent, words[:1]), 5)
+            for pad in (0, 1, 8, 31):
+                for kind in (0, 2, 3, 4, 5):
+                    flags = 8 if kind > 3 else 0x0C
+                    words = survey(survey_high(pad), 0x00080000, [0], flags, kind=kind)
+                    yield sure(ask(lent, words), 6 if pad else 11 if kind in (0, 2) else 0)
+                words = survey(survey_high(pad), 0x00080000, [1], tsf=2, fraction=TERA)
+                yield sure(ask(lent, words), 7 if choice or not pad else 6)
+        for place in range(32):
+            streams = [fresh_stream(one, choice if one == place else 1 - choice) for one in range(32)]
+            for identifier in {place, (place + 1) % 32, 31 - place}:
+                words = survey(survey_high(1), 0x00080000, [1], identifier=identifier)
+                mine = streams[identifier]["choice"]
+                yield sure(ask(table.layout(streams), words), 0 if mine else 6)
 
 
 def play_run(r):
     data = [*DATA, 0x14020005, 7, 0, 0, 0]
     # valid data on, an over-range count before a temperature, and lock off
     states = context([1 << 16, 0x40040001]) + context([1 << 22 | 1 << 18, 5, 64]) + context([1 << 16, 0x20000002])
-    lent = table.layout([table.fresh_stream(7)])
+    lent = table.layout([fresh_stream(7)])
     cuts = [(recording, n) for recording in (data, states) for n in range(len(recording) + 1)]
     for recording, n in cuts:
         for entries in (0, 4, 5, 10, 14, 15):
             for start_at in (0, 5, 10, 11):
                 yield sure(calls.play_run_of(r, lent, recording[:n], start_at, entries), 0)
+    # streams of both choices in turn: STREAM goes on, PAD and CLASS end
+    mixed = [fresh_stream(7, 1), fresh_stream(8, 0)]
+    run = [*HANDS[0], *survey(survey_high(), 0, [], identifier=9), *HANDS[1]]
+    run += [0x10000002, 8] + survey(survey_high(), 0x00080000, [1], identifier=8)
+    for end in (survey(survey_high(), 0x00080000, [1], 8), survey(survey_high(3), 0x00080000, [1], identifier=8)):
+        for last in (end, []):
+            words = run + last + [0x10010002, 8]
+            for entries in (0, 5, 10, 15, 20, 25, 30, 35, 60):
+                for streams in (mixed, mixed[::-1], mixed[:1], mixed[1:], [fresh_stream(7, 0), fresh_stream(8, 1)]):
+                    yield sure(calls.play_run_of(r, table.layout(streams), words, 0, entries), 0)
+    written = calls.run(table.layout(mixed), run + survey(survey_high(), 0x00080000, [1], 8), 0, 9)[1]
+    assert written[::5] == [0, 11, 0, 0, 0, 20], written
+    written = calls.run(table.layout(mixed), run + survey(survey_high(3), 0x00080000, [1], identifier=8), 0, 9)[1]
+    assert written[::5] == [0, 11, 0, 0, 0, 6], written
     for spoilt in spoilt_tables():
         yield sure(calls.play_run_of(r, spoilt, data, 0, 10), 18)
 
@@ -544,8 +806,8 @@ def play_run(r):
 def page_length(r):
     for streams in range(1, 33):
         for made, length in (
-            ([table.fresh_stream(i) for i in range(streams)], 2 + 16 * streams),
-            ([full_stream(i) for i in range(streams)], 2 + 89 * streams),
+            ([fresh_stream(i, i % 2) for i in range(streams)], 2 + 17 * streams),
+            ([full_stream(i, i % 3 % 2) for i in range(streams)], 2 + 90 * streams),
         ):
             case = calls.page_length_of(r, table.layout(made))
             assert case.after[1][0] == length
@@ -556,19 +818,24 @@ def page_length(r):
 
 def save(r):
     for streams in (1, 2, 31, 32):
-        made = [full_stream(i) for i in range(streams)]
+        made = [full_stream(i, i % 2) for i in range(streams)]
         lent = table.layout(made)
-        length = 2 + 89 * streams
+        length = 2 + 90 * streams
         for room in (length, length + 1, length - 1, 0):
             yield sure(calls.save_of(r, lent, room), 0 if room >= length else 13)
     for lent in state_tables():
-        yield sure(calls.save_of(r, lent, 91), 0)
+        yield sure(calls.save_of(r, lent, 92), 0)
+    for choice in (0, 1):
+        for stream in (fresh_stream(7, choice), full_stream(7, choice)):
+            case = calls.save_of(r, table.layout([stream]), 92)
+            assert case.after[1][18] == choice
+            yield sure(case, 0)
     for spoilt in spoilt_tables():
-        yield sure(calls.save_of(r, spoilt, 92), 18)
+        yield sure(calls.save_of(r, spoilt, 93), 18)
 
 
 def put_back(r):
-    def ask(words, room=177):
+    def ask(words, room=179):
         out, length = noisy(r, room), calls.length_place(r)
         args = [given(words), out, length]
         (said, what), after = page.put_back(words, list(out.entries))
@@ -576,26 +843,34 @@ def put_back(r):
             return calls.refused(args, what)
         return calls.Case(args, 0, {1: calls.array("I", after), 2: calls.put(length, [what])})
 
-    fresh, full = page.page_of([table.fresh_stream(7)]), page.page_of([full_stream(7)])
+    fresh, full = page.page_of([fresh_stream(7)]), page.page_of([full_stream(7)])
     yield sure(ask([]), 19)
     for made in (fresh, full):
         yield sure(ask(made), 0)
-        yield sure(ask(made, 89), 0)
-        yield sure(ask(made, 88), 13)
+        yield sure(ask(made, 90), 0)
+        yield sure(ask(made, 89), 13)
+        for choice in (0, 1, 2, 3, 256, 1 << 31, ONES):
+            words = made[:18] + [choice] + made[19:]
+            case = ask(words)
+            assert choice > 1 or case.after[1][15] == choice
+            yield sure(case, 0 if choice < 2 else 19)
+            yield sure(ask(words, 0), 13 if choice < 2 else 19)
+        # without the word, the lengths right
+        yield sure(ask([1, made[1] - 1, 4, made[3] - 1] + made[4:18] + made[19:]), 19)
         yield sure(ask(made + [0]), 19)
         yield sure(ask(made[:-1]), 19)
         yield from map(ask, bits_of(made, range(len(made))))
-    three = page.page_of([table.fresh_stream(7), full_stream(8), table.fresh_stream(9)])
-    yield from (ask(words, 265) for words in bits_of(three, range(9)))
+    three = page.page_of([fresh_stream(7, 1), full_stream(8), fresh_stream(9)])
+    yield from (ask(words, 268) for words in bits_of(three, range(9)))
     for word, good in states():
         yield sure(ask(page.page_of(holding_state(0))[:-1] + [word]), 0 if good else 19)
     # field 22 held, with its word and without it
     for made, stream in ((page.page_of(holding_state(5)), 0), (full, 0), (three, 1)):
-        yield sure(ask(making.hold_count(r, made, stream), 265), 19)
+        yield sure(ask(making.hold_count(r, made, stream), 268), 19)
         held = made[2 + 2 * stream] + 1
-        yield sure(ask(made[:held] + [made[held] | 1 << 22] + made[held + 1 :], 265), 19)
+        yield sure(ask(made[:held] + [made[held] | 1 << 22] + made[held + 1 :], 268), 19)
     for streams in (31, 32):
-        yield sure(ask(page.page_of([full_stream(i) for i in range(streams)]), 2817), 0)
+        yield sure(ask(page.page_of([full_stream(i, i % 2) for i in range(streams)]), 2849), 0)
 
 
 # What a table says of a stream: state words and field 22; the rest is among the other cases.
@@ -630,18 +905,35 @@ def held_words(r):
 def identity(r):
     for lent in state_tables():
         yield sure(calls.identity_of(r, lent, 0), 0)
+    for choice in (0, 1):
+        lent = table.layout([fresh_stream(7, 1 - choice), full_stream(8, choice)])
+        case = calls.identity_of(r, lent, 1)
+        assert [case.after[place][0] for place in (2, 3, 4)] == [8, choice, 0x7FBFFC00]
+        yield sure(case, 0)
     for spoilt in spoilt_tables():
         yield sure(calls.identity_of(r, spoilt, 0), 18)
 
 
 def own_table(r):
     for lent in state_tables():
-        yield sure(calls.own_table_of(r, lent, 0, 89), 0)
+        yield sure(calls.own_table_of(r, lent, 0, 90), 0)
+        yield sure(calls.own_table_of(r, lent, 0, 89), 13)
+    for choice in (0, 1):
+        lent = table.layout([fresh_stream(7, 1 - choice), full_stream(8, choice)])
+        case = calls.own_table_of(r, lent, 1, 90)
+        assert case.after[2][15] == choice
+        yield sure(case, 0)
     for spoilt in spoilt_tables():
-        yield sure(calls.own_table_of(r, spoilt, 0, 89), 18)
+        yield sure(calls.own_table_of(r, spoilt, 0, 90), 18)
 
 
 def changed(r):
+    # the choice is no field
+    for stream in (fresh_stream, full_stream):
+        both = [table.layout([stream(7, choice)]) for choice in (0, 1)]
+        case = calls.changed_of(r, both[0], 0, both[1], 0)
+        assert case.after[4][0] == 0
+        yield sure(case, 0)
     made = [*state_tables()]
     for before in made:
         for after in made:

@@ -2,7 +2,7 @@
 tools/try_install leaves them, COMMAND runs them. `stream` must count what the text has, whether it takes 1, 7 or 65,535 words at a time;
 `tuning` must print a line for each Context packet; both must end with the text's refusal; and where there is none, `resume`, stopped after every few
 packets, must save the page of a play that was never stopped. What `resume` cannot read or write it must name, and leave as it is. `samples`, which has
-its payloads in itself, must find each sample where loops over their order find it."""
+its payloads in itself, must find each sample where loops over their order find it, and `survey`, which has its packets in itself, the items of those by 49A."""
 import glob
 import os
 import re
@@ -18,7 +18,8 @@ STREAM = 11
 
 def names():
     with open(os.path.join(ROOT, 'include/vrt49.h'), encoding='utf-8') as file:
-        return {int(number): name for name, number in re.findall(r'^    VRT49_([A-Z]+) = (\d+),? ', file.read(), re.M)}
+        listed = re.search(r'enum vrt49_refusal \{\n(.*?)\n\};', file.read(), re.S).group(1)
+    return {int(number): name for name, number in re.findall(r'^    VRT49_([A-Z]+) = (\d+),? ', listed, re.M)}
 
 
 NAMES = names()
@@ -151,8 +152,41 @@ def wrong_samples():
         yield f'samples: {have}'
 
 
+# the bits of an item of 49A, by its data type (source document 004, Table 4-5)
+ITEM_BITS = {1: 4, 2: 8, 3: 16, 4: 32, 5: 64, 6: 32, 7: 64, 8: 1, 9: 4, 10: 8, 11: 16, 12: 32, 13: 64}
+
+
+def packets_of(words):
+    """The packets that stand one after the other."""
+    while words:
+        size = words[0] & 0xFFFF
+        yield words[:size]
+        words = words[size:]
+
+
+def survey_line(packet):
+    """What `survey` prints of a data packet by 49A without time: its items, cut from the bits of its payload, behind four words and before the trailer."""
+    bits, payload = ITEM_BITS[packet[3] >> 16 & 15], ''.join(f'{word:032b}' for word in packet[4:-1])
+    payload = payload[:len(payload) - (packet[2] >> 27)]
+    items = [f'{int(payload[at:at + bits], 2):X}' for at in range(0, len(payload), bits)]
+    what = f'{"complex" if packet[3] >> 20 & 3 else "real"}, vectors of {(packet[3] & 0xFFFF) + 1}'
+    return f'{len(items)} items of {bits} bits, {what}: {" ".join(items)}\n'
+
+
+def wrong_survey():
+    """Where `survey` prints something else of the packets in its source."""
+    with open(os.path.join(ROOT, 'examples/c/survey.c'), encoding='utf-8') as file:
+        source = re.sub(r'/\*.*?\*/', '', file.read(), flags=re.S)
+    listed = {name: [one.strip() for one in cells.split(',')] for name, cells in re.findall(r'(\w+)\[(?:WORDS)?\] = \{([^}]*)\}', source)}
+    by_survey = [int(identifier, 0) for identifier, choice in zip(listed['ids'], listed['choices']) if choice == 'VRT49_SURVEY']
+    lines = [survey_line(packet) for packet in packets_of([int(word, 0) for word in listed['words']]) if packet[1] in by_survey]
+    have = run('survey')
+    if have != (0, ''.join(lines), '') or len(lines) != 2:
+        yield f'survey: {have}'
+
+
 found = tried = 0
-for line in [*wrong_with_files(), *wrong_samples()]:
+for line in [*wrong_with_files(), *wrong_samples(), *wrong_survey()]:
     found += 1
     print(line)
 for recording in sorted(glob.glob(os.path.join(ROOT, 'samples/recordings/*.vrt'))):

@@ -277,6 +277,85 @@ def packet(r, kind=None, identifier=None):
     return vrt49_write.packet_words(made, body_for(r, made.type))
 
 
+# Survey packets.
+
+
+def survey_class(r):
+    """The information and packet class of a class that fits, and the bits of one vector: of
+    a data type, real or complex, and a vector that is small, mostly."""
+    data, rc = r.randint(1, 13), r.randrange(2)
+    vector = r.choice((1, 1, 1, 2, 3, 7, r.randint(1, 40), r.randint(1, 40)))
+    if r.randrange(60) == 0:
+        vector = r.choice((65535, 65536, r.randint(1, 65536)))
+    _, item = vrt49.SURVEY_TYPES[data]
+    return rc << 4 | data, vector - 1, item * (1 + rc) * vector
+
+
+def survey_parts(r, identifier=None):
+    """The parts of a survey packet with its pad count and its body, which has whole
+    vectors."""
+    made = parts(r, 1, identifier)
+    made.class_flag = made.trailer_flag = 1
+    made.oui = vrt49.SURVEY_OUI
+    made.information, made.packet, vector = survey_class(r)
+    vectors = r.choice((0, 1, 1, 2, 3, r.randrange(20)))
+    length = vector * (vectors if vector * vectors < 4000 else min(vectors, 1) if vector < 4000 else 0)
+    n = (length + 31) // 32
+    return made, 32 * n - length, words(r, n)
+
+
+def bent_survey(r, made, pad, body):
+    """The parts of a survey packet, with one thing about them bent."""
+    kind = r.randrange(9)
+    if kind == 0:
+        made.class_flag = 0
+    elif kind == 1:
+        made.trailer_flag = 0
+    elif kind == 2:
+        made.oui ^= 1 << r.randrange(24)
+    elif kind == 3:
+        made.information ^= 1 << r.randrange(16)
+    elif kind == 4:
+        made.packet = r.choice((0, 1, 2, 6, r.randrange(64), r.getrandbits(16)))
+    elif kind == 5:
+        pad = r.randrange(32)
+    elif kind == 6:
+        body = body + words(r, r.randint(1, 3))
+    elif kind == 7:
+        body = body[: r.randrange(len(body) + 1)]
+    else:
+        # the class of a No Data packet, now and then with a payload
+        made.information, made.packet = 0x2011, 2
+        body = body if r.randrange(2) else []
+    return made, pad, body
+
+
+def survey(r, identifier=None):
+    """The words of a survey packet, good but for the time, now and then."""
+    return vrt49_write.survey_words(*survey_parts(r, identifier))
+
+
+def some_survey(r, identifier=None):
+    """A survey packet, good or not, with words past it, now and then."""
+    how = r.randrange(20)
+    if how < 7:
+        made = survey(r, identifier)
+    elif how < 15:
+        made = vrt49_write.survey_words(*bent_survey(r, *survey_parts(r, identifier)))
+        if r.randrange(6) == 0 and made[0] >> 27 & 1:
+            # a reserved bit
+            made[2] |= 1 << r.randrange(24, 27)
+    elif how < 19:
+        made = bent_packet(r, survey(r, identifier))
+    else:
+        # the class of a survey packet in another type
+        made = survey_parts(r, identifier)
+        made[0].type = r.choice((0, 2, 3))
+        made = vrt49_write.packet_words(made[0], made[2])
+        made[vrt49.class_place(made[0])] |= r.choice((0, 0, r.getrandbits(5) << 27))
+    return made + words(r, r.choice((0, 0, 0, 1, 5)))
+
+
 def resized(made, size):
     """The same words with another size in the header."""
     return [made[0] & 0xFFFF0000 | size % 65536] + made[1:]
@@ -358,7 +437,7 @@ def stream(r, identifier):
     if counts[4]["last"] is not None and r.randrange(5):
         carried = indicator(r) | r.choice((0, 0, 1 << 16))
         held = {bit: held_field(r, bit) for bit in table.HELD_BITS if carried >> bit & 1}
-    return {"identifier": identifier, "counts": counts, "held": held}
+    return {"identifier": identifier, "choice": r.randrange(2), "counts": counts, "held": held}
 
 
 def some_streams(r, n=None):
@@ -366,11 +445,13 @@ def some_streams(r, n=None):
     return [stream(r, i) for i in identifiers(r, n or streams(r))]
 
 
-# Where a bend of a record is worth while: identifier, held indicator, counts.
-FRONT_WORDS = 14
+# A record's words, and those before its fields: identifier, held indicator, counts, choice.
+RECORD = 89
+FRONT_WORDS = 15
 
-# The slots of the over-range count, which is never held, and of the state word.
-COUNT_SLOT, STATE_SLOT = 27, 36
+# The choice, and the slots of the over-range count, which is never held, and of the state
+# word.
+CHOICE, COUNT_SLOT, STATE_SLOT = 14, 28, 37
 
 
 def bend_state(r, held):
@@ -384,15 +465,15 @@ def bend_state(r, held):
 def bend_table(r, made):
     """The words of a table, bent where a rule looks."""
     bent_words = list(made)
-    kind = r.randrange(11)
-    record = 1 + 88 * r.randrange((len(made) - 1) // 88)
+    kind = r.randrange(12)
+    record = 1 + RECORD * r.randrange((len(made) - 1) // RECORD)
     if kind == 0:
         return bend_length(r, made)
     if kind == 1:
         bent_words[0] = r.choice((0, 33, made[0] + 1, made[0] - 1, word(r)))
     elif kind == 2:
         # one identifier twice, or another
-        other = 1 + 88 * r.randrange((len(made) - 1) // 88)
+        other = 1 + RECORD * r.randrange((len(made) - 1) // RECORD)
         bent_words[record] = bent_words[other]
     elif kind == 3:
         bent_words[record + 1] ^= 1 << r.randrange(32)
@@ -405,7 +486,7 @@ def bend_table(r, made):
         bent_words[place] = bent_words[place] ^ 1 << r.randrange(32) if r.randrange(2) else word(r)
     elif kind == 6:
         # a slot that has a rule
-        place = record + r.choice((15, 25, 28, 33, 34, 35, 36, 37))
+        place = record + r.choice((16, 26, 29, 34, 35, 36, 37, 38))
         bent_words[place] ^= 1 << r.randrange(32)
     elif kind == 7:
         # type 4 not started
@@ -419,6 +500,9 @@ def bend_table(r, made):
         # a state word held that cannot be
         bent_words[record + 1] |= 1 << 16
         bent_words[record + STATE_SLOT] = bend_state(r, bent_words[record + STATE_SLOT])
+    elif kind == 10:
+        # the other choice, or none
+        bent_words[record + CHOICE] = r.choice((0, 1, 2, 3, 256, 1 << 31, ONES, word(r)))
     else:
         return bent(r, made)
     return bent_words
@@ -456,7 +540,7 @@ def bend_page(r, made):
     """The words of a page, bent where a rule looks."""
     bent_words = list(made)
     n = made[0]
-    kind = r.randrange(12)
+    kind = r.randrange(13)
     stream = r.randrange(n)
     at = made[2 + 2 * stream]
     if kind == 0:
@@ -469,7 +553,7 @@ def bend_page(r, made):
         bent_words[r.randrange(2)] = r.choice((0, 33, n + 1, n - 1, len(made) + 1, word(r)))
     elif kind == 3:
         place = 2 + r.randrange(2 * n)
-        bent_words[place] = (bent_words[place] + r.choice((1, ONES, 88, word(r)))) & ONES
+        bent_words[place] = (bent_words[place] + r.choice((1, ONES, RECORD, word(r)))) & ONES
     elif kind == 4:
         bent_words[at + 1] ^= 1 << r.randrange(32)
     elif kind == 5:
@@ -490,6 +574,12 @@ def bend_page(r, made):
     elif kind == 10 and made[at + 1] >> 16 & 1:
         place = field_place(at, made[at + 1], 16)
         bent_words[place] = bend_state(r, bent_words[place])
+    elif kind == 11:
+        # the other choice, or none, or a body without the word
+        if r.randrange(4) == 0:
+            other = made[: at + CHOICE] + made[at + CHOICE + 1 :]
+            return other[:1] + [len(other)] + other[2:]
+        bent_words[at + CHOICE] = r.choice((0, 1, 2, 3, 256, 1 << 31, ONES, word(r)))
     else:
         return bent(r, made)
     return bent_words

@@ -49,6 +49,7 @@ NAMES = dict(
         "EMPTY TYPE BITS SHORT CUT CLASS TIME INDICATOR LAYOUT FIELD STREAM LIST".split(), 1
     )
 )
+NAMES[20] = "PAD"
 WHY = {
     2: "its type is above 5",
     3: "a reserved header bit is set",
@@ -60,6 +61,7 @@ WHY = {
     9: "its fields need more or fewer words than its body has",
     10: "a field breaks its rule",
     12: "it does not begin with 1 to 32 identifiers, each once",
+    20: "it is no data packet of 49A: its class, its trailer or its padding",
 }
 TYPES = {
     0: "data without identifier", 1: "data", 2: "extension data without identifier",
@@ -88,6 +90,11 @@ CSV_HEAD = (
     "tsi,seconds,tsf,fraction,rf_hz,if_hz,rf_offset_hz,if_band_offset_hz,bandwidth_hz,"
     "sample_rate_hz,level_dbm,gain_1_db,gain_2_db,temperature_c,state"
 )
+SURVEY_HEAD = ",items,format,vector"  # behind it where 49A is chosen for a stream
+# What the items of 49A are, and their bits, by the data type of the class (004, Table 4-5).
+ITEMS = {number: (bits, "signed") for number, bits in enumerate((4, 8, 16, 32, 64), 1)}
+ITEMS |= {6: (32, "float"), 7: (64, "float")}
+ITEMS |= {number: (bits, "unsigned") for number, bits in enumerate((1, 4, 8, 16, 32, 64), 8)}
 MOST_COLUMNS, STRANGERS = 2048, 8
 # The first bytes of captures: pcap in both orders, to microseconds and nanoseconds; pcapng.
 CAPTURES = [bytes.fromhex(text) for text in "D4C3B2A1 A1B2C3D4 4D3CB2A1 A1B23C4D 0A0D0D0A".split()]
@@ -155,17 +162,41 @@ def state_text(held):
 # What happens in a recording, by the reference.
 
 
-class Event:
-    """One thing that happens.  kind is tuning, other, missing, trusted or refused; held is what
-    the stream holds then, read what its packet says of itself, where it can be read; in_doubt
-    are the fields in doubt after the packet, unsure_since the packet since which the tuning is
-    not, or was not, to be trusted, and unsure the data packets since then."""
+class Samples:
+    """What a data packet of 49A says of its samples: its class is words 2 and 3.  n is cut from
+    the payload here, and must be what the reference says."""
 
-    def __init__(self, kind, number, place, words=(), stream=None, held=None, **more):
-        self.kind, self.number, self.place = kind, number, place
-        self.stream, self.held = stream, held
-        answer, read = vrt49.read(words) if words else ("refused", None)
-        self.read = read if answer == "accepted" else None
+    def __init__(self, words):
+        self.complex, self.vector = words[3] >> 20 & 3, (words[3] & 0xFFFF) + 1
+        self.bits, self.kind = ITEMS[words[3] >> 16 & 15]
+        head = words[0]
+        before = 4 + (head >> 22 & 3 > 0) + 2 * (head >> 20 & 3 > 0)
+        self.items, left = divmod(32 * (len(words) - before - 1) - (words[2] >> 27), self.bits)
+        said = vrt49.read_survey(words)[1][1].items
+        if left or said != self.items:
+            differs("the check itself, items", said, self.items, left)
+
+    def what(self, between):
+        return f"{'complex' if self.complex else 'real'}{between}{self.bits} bits {self.kind}"
+
+    def format(self):
+        return (self.complex, self.bits, self.kind, self.vector)
+
+    def __str__(self):
+        return f"{self.items:,} items, {self.what(', ')}, vector size {self.vector}"
+
+
+class Event:
+    """One thing that happens.  kind is tuning, other, missing, trusted, samples or refused; held
+    is what the stream holds then, read what its packet says of itself, where it can be read,
+    samples what it says of its samples, where it is a data packet of 49A; in_doubt are the
+    fields in doubt after the packet, unsure_since the packet since which the tuning is not, or
+    was not, to be trusted, and unsure the data packets since then.  quiet is what is only said
+    with -a."""
+
+    def __init__(self, kind, number, place, read=None, stream=None, held=None, **more):
+        self.kind, self.number, self.place, self.read = kind, number, place, read
+        self.stream, self.held, self.quiet, self.samples = stream, held, kind == "other", None
         self.missing = self.unsure_since = self.unsure = self.refusal = self.changed = None
         self.in_doubt = None
         self.__dict__.update(more)
@@ -233,12 +264,16 @@ class Trust:
 
 
 class Story:
-    """All that happens in the bytes of a recording, big-endian."""
+    """All that happens in the bytes of a recording, big-endian; chosen are the identifiers of the
+    streams that are by 49A."""
 
-    def __init__(self, data):
+    def __init__(self, data, chosen=()):
         words = vrtplay.words_of(data)
         self.tail, self.events, self.packets, self.place = len(data) % 4, [], 0, 0
-        self.table = vrtplay.started(words) or []
+        self.table, self.chosen = vrtplay.started(words) or [], chosen
+        for stream in self.table:
+            stream["choice"] = int(stream["identifier"] in chosen)
+        self.sampled = [[] for _ in self.table]  # of each packet by 49A what its samples are
         self.seen = [[] for _ in self.table]  # the numbers of the packets of each stream
         self.bands = [[] for _ in self.table]  # packet, low, centre and high, where they change
         self.trust = [Trust() for _ in self.table]
@@ -257,7 +292,11 @@ class Story:
                 differs(f"the check itself, stream {place}", by_field, trust.in_all())
 
     def add(self, kind, words, **more):
-        self.events.append(Event(kind, self.packets, self.place, words, **more))
+        answer, read = table.read(self.table, words)
+        read = read if answer == "accepted" else None
+        if read and table.choice_of(self.table, words):
+            more["samples"] = Samples(words)
+        self.events.append(Event(kind, self.packets, self.place, read, **more))
 
     def next(self, words):
         before = [dict(stream["held"]) for stream in self.table] if words[0] >> 28 == 4 else None
@@ -281,6 +320,8 @@ class Story:
             trust.data_comes(self.packets, held)
         if missing:
             self.say("missing", words, stream, held, unsure, missing=missing)
+        if kind == 1 and self.table[stream]["choice"]:
+            self.sample(words, stream, held)
         if kind == 4:
             self.look(words, stream, held)
         if ended and not missing:
@@ -292,6 +333,14 @@ class Story:
             kind, words, stream=stream, held=dict(held), in_doubt=set(self.trust[stream].fields),
             unsure_since=unsure[0], unsure=unsure[1], **more,
         )
+
+    def sample(self, words, stream, held):
+        found, before = Samples(words), self.sampled[stream][-1:]
+        self.sampled[stream].append(found)
+        if not before or before[0].format() != found.format():
+            self.say("samples", words, stream, held)
+        elif before[0].items != found.items:
+            self.say("samples", words, stream, held, quiet=True)
 
     def look(self, words, stream, before):
         after = self.table[stream]["held"]
@@ -371,6 +420,8 @@ def line_of(story, event):
     unsure = f"since packet {event.unsure_since}, for {event.unsure} data packets"
     if event.kind == "trusted":
         return f"{text} tuning trusted again: it was not {unsure}"
+    if event.kind == "samples":
+        return f"{text} samples: {event.samples}"
     if event.kind != "missing":
         return f"{text} {'tuned' if event.kind == 'tuning' else 'changed'}: {fields_text(event)}"
     text += f" missing {event.missing} of type {event.read.type} ({TYPES[event.read.type]})"
@@ -380,7 +431,7 @@ def line_of(story, event):
 
 
 def lines(story, everything=False):
-    return [line_of(story, event) for event in story.events if everything or event.kind != "other"]
+    return [line_of(story, event) for event in story.events if everything or not event.quiet]
 
 
 def strangers(story):
@@ -401,6 +452,13 @@ def strangers(story):
     return [f"not declared: {what}, packets {count:,}" for what, count in named]
 
 
+def survey_text(sampled):
+    """What the summary says of the data packets of a stream by 49A."""
+    items = sum(one.items for one in sampled)
+    text = f"{len(sampled):,} data packets, {items:,} items"
+    return f"{text}; the last has {sampled[-1]}" if sampled else text
+
+
 def summary(story):
     said = []
     if story.table:
@@ -416,6 +474,8 @@ def summary(story):
             pair = (f"{count['seen']:,}", f"{count['missing']:,}") if started else ("-", "-")
             line += f"{pair[0]:>14} {pair[1]:>9}"
         said.append(line)
+        if stream["choice"]:
+            said.append(f"       49A: {survey_text(story.sampled[place])}")
         held = stream["held"]
         tuning = [f"{VALUES[b][0]} {shown(held, b)} {VALUES[b][1]}" for b in VALUES if b in held]
         said.append(f"       last tuning: {', '.join(tuning) or 'none'}")
@@ -445,7 +505,7 @@ def mask(fields):
     return f"0x{sum(1 << bit for bit in fields):08X}"
 
 
-def row_of(event):
+def row_of(story, event):
     def cell(value):
         return "" if value is None else str(value)
 
@@ -465,12 +525,15 @@ def row_of(event):
         else:
             row += [""] * (2 if bit == 23 else 1)
     row.append(f"0x{event.held[16][0]:08X}" if event.held is not None and 16 in event.held else "")
+    if story.chosen:
+        one = event.samples
+        row += [one.items, one.what(" "), one.vector] if one else [""] * 3
     return ",".join(str(value) for value in row)
 
 
 def rows(story, everything=False):
-    return [CSV_HEAD] + [
-        row_of(event) for event in story.events if everything or event.kind != "other"
+    return [CSV_HEAD + SURVEY_HEAD * bool(story.chosen)] + [
+        row_of(story, event) for event in story.events if everything or not event.quiet
     ]
 
 
@@ -730,14 +793,20 @@ def file_of(data, name="recording"):
     return path
 
 
-def hold(what, data, orders=("big", "little"), everything=(False, True), picture=True):
+def hold(
+    what, data, orders=("big", "little"), everything=(False, True), picture=True, chosen=()
+):
     """A recording, from a file and from standard input, in both orders of bytes, as lines,
-    as a summary, as CSV and as a picture."""
-    story = Story(data)
+    as a summary, as CSV and as a picture; 49A is chosen for some identifiers, every second of
+    which is given as decimal."""
+    story = Story(data, chosen)
     tried["recordings"] += 1
     for order in orders:
         path = file_of(data if order == "big" else little(data))
         option = ["-l"] * (order == "little")
+        if chosen:
+            listed = [f"0x{one:X}" if at % 2 == 0 else str(one) for at, one in enumerate(chosen)]
+            option += ["--survey", ",".join(listed)]
         svg = Path(folder.name, "svg")
         for all_fields in everything:
             more = [*option, *["-a"] * all_fields]
@@ -1113,6 +1182,71 @@ def states():
     hold("states of two streams", recording_of([9, 8, 7], *s.sent))
 
 
+def surveyed(identifier, kind, complex_samples=0, vector=1, vectors=1, count=0, **more):
+    """A data packet of 49A of so many whole vectors, with the padding that they need."""
+    bits = ITEMS[kind][0] * (complex_samples + 1) * vector * vectors
+    low = complex_samples << 20 | kind << 16 | vector - 1
+    given = {"c": 1, "t": 1, "oui": (-bits % 32) << 27 | 0xFFFFFA, "classes": low}
+    body = [(7 * at + bits) & ONES for at in range((bits + 31) // 32)]
+    return packet(1, body, identifier=identifier, count=count % 16, **given | more)
+
+
+def surveys_49a():
+    """Streams by 49A, beside plain ones: every data type, their lines, and what is refused."""
+    packets, count = [], 0
+    for kind in ITEMS:
+        for shape in ((0, 1, 1), (0, 1, 1), (0, 1, 9), (0, 3, 3), (1, 3, 2)):
+            packets.append(surveyed(7, kind, *shape, count))
+            count += 1
+        packets.append(packet(1, [kind], identifier=9, count=kind))
+        packets.append(context(0x08000000, [kind, 0], identifier=7, count=kind % 16))
+        packets.append(packet(3, [kind], identifier=7, count=kind % 16, c=1))
+    story = hold("49A, every data type", recording_of([9, 7], *packets), chosen=[7])
+    told = lines(story, True)
+    if len([line for line in told if " samples: " in line]) != 4 * len(ITEMS):
+        differs("49A, every data type: the check itself", *told)
+    # the examples of docs/PACKET.md, part 3; with time, and a packet that is lost
+    first = packet(
+        1, [0xABCDEF12, 0x30000000], c=1, t=1, identifier=7, oui=0xFFFFFA, classes=0x130000
+    )
+    second = packet(
+        1, [0x01020300], c=1, t=1, identifier=7, oui=0x40FFFFFA, classes=0xA0002, count=2, tsi=1,
+        tsf=2, seconds=9, fraction=5 * 10**11,
+    )
+    story = hold("49A, by hand", recording_of([7], first, second), chosen=[7])
+    of, last = "stream 0 (0x00000007)", "3 items, real, 8 bits unsigned, vector size 3"
+    by_hand = [
+        f"at 2 packet 0 {of} samples: 4 items, complex, 16 bits signed, vector size 1",
+        f"at 9 packet 1 time 9.5 {of} missing 1 of type 1 (data)",
+        f"at 9 packet 1 time 9.5 {of} samples: {last}",
+    ]
+    end = f"       49A: 2 data packets, 7 items; the last has {last}"
+    if lines(story) != by_hand or summary(story)[4] != end:
+        differs("49A, by hand: the check itself", *lines(story), *summary(story))
+    hold("the same, not chosen", recording_of([7, 8], first, second), chosen=[8])
+    hold("no packet of a stream by 49A", recording_of([7, 8]), chosen=[8, 7])
+    # what is refused, each behind a good packet; and what is read as plain 49.0
+    good, none = surveyed(7, 3), {"identifier": 7}
+    for what, bad in {
+        "no class": packet(1, [1], t=1, **none), "no trailer": surveyed(7, 3, t=0),
+        "an OUI": surveyed(7, 3, oui=0x800FFFFA), "a reserved bit": surveyed(7, 3, oui=0x85FFFFFA),
+        "a fixed bit": surveyed(7, 3, classes=0x01030000), "data type 0": surveyed(7, 3, classes=0),
+        "No Data": surveyed(7, 3, vectors=0, classes=0x20110002),
+        "data type 14": surveyed(7, 3, classes=0xE0000), "polar": surveyed(7, 3, classes=0x230000),
+        "no whole vector": surveyed(7, 3, classes=0x30001),
+        "padding alone": surveyed(7, 3, vectors=0, oui=0x08FFFFFA), "a word too few": good[:-1],
+        "a time": surveyed(7, 3, oui=0, tsf=2, fraction=10**12),
+        "a pad count of no stream": surveyed(8, 3), "no stream": packet(1, [1], identifier=8),
+        "type 3": packet(3, [1], c=1, t=1, oui=0x80FFFFFA, **none),
+        "type 5": packet(5, [1], c=1, oui=0xFFFFFA, **none), "no item": surveyed(7, 3, vectors=0),
+    }.items():
+        hold(f"49A, {what}", recording_of([9, 7], good, bad, good), orders=("big",), chosen=[7])
+    packets = [surveyed(i, 1 + i % 13, i % 2, 1 + i % 5, i) for i in range(32)]
+    data = recording_of([*range(32)], *packets)
+    hold("32 streams by 49A", data, chosen=[*range(32)])
+    hold("32 streams, one by 49A", data, orders=("big",), chosen=[0])
+
+
 def pieces():
     """Standard input that comes by few bytes at a time, and packets of every length."""
     sizes = [65535, 3, 65534, 2, 40000, 65535, 65535, 65535, 65535]
@@ -1176,6 +1310,16 @@ def outside():
         (["-q", "--csv"], "--csv: one too many"), (["--csv", survey, "-q"], "-q: one too many"),
         (["--svg", never, "--svg", never], "--svg: one too many"),
         (["--svg", never, survey, survey], f"{survey}: one too many"),
+        (["--survey"], "--survey: has no identifiers behind it"),
+        ([survey, "--survey"], "--survey: has no identifiers behind it"),
+        (["--survey", "7", survey, "--survey", "7"], "--survey: one too many"),
+        *(
+            (["--survey", text, survey], f"{text}: is not a list of 1 to 32 identifiers")
+            for text in (
+                "", ",", "7,", ",7", "7,,9", "7;9", "x", "0x", "-7", "+7", " 7", "7 ", "0x7g", "7a",
+                "4294967296", "0x100000000", "99999999999999999999999", ",".join(["7"] * 33),
+            )
+        ),
     ):
         done = run(*arguments)
         first, _, usage = done.stderr.decode().partition("\n")
@@ -1192,6 +1336,14 @@ def outside():
         done = run(*arguments)
         if done.returncode != 2 or says not in done.stderr.decode():
             differs(f"trouble {arguments}", done)
+        tried["runs"] += 1
+    for more in ([], ["-q"], ["--csv"], ["-a"]):
+        done = run("--survey", "0xA01,3084", *more, survey)
+        says = f"vrtshow: {survey}: 0x00000C0C of --survey is not in its list\n"
+        said = done.stdout.decode()
+        most = more == ["--csv"]  # its head
+        if done.returncode != 2 or done.stderr.decode() != says or said.count("\n") > most:
+            differs(f"--survey of no stream {more}", f"expected {says}", done)
         tried["runs"] += 1
     with open("/dev/full", "wb") as out:
         full = subprocess.run([*COMMAND, survey], stdout=out, stderr=subprocess.PIPE)
@@ -1396,8 +1548,8 @@ def progress():
 GROUPS = {
     group.__name__: group
     for group in (
-        samples, pictures, surveys, columns, million, values, seams, doubts, states, pieces, cut,
-        live, outside, behind, kept, failing, captures, tails, progress,
+        samples, pictures, surveys, columns, million, values, seams, doubts, states, surveys_49a,
+        pieces, cut, live, outside, behind, kept, failing, captures, tails, progress,
     )
 }
 

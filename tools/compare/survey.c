@@ -1,7 +1,7 @@
 /* Every call of libvrt49 once, by the header's names: a context packet and a data packet are read, one is written again, both are played on a
-   table of two streams, the table is saved and put back, the held fields are read for the panel, samples are unpacked and packed again, and found
-   by their channel and instant. It prints what it does, and exits with 1 where a call answers what it should not. It is C99 and C++;
-   tools/compare/compare.sh runs it. */
+   table of two streams, one of them by 49A, the table is saved and put back, the held fields are read for the panel, samples are unpacked and
+   packed again, and found by their channel and instant; a packet of 49A is read, unpacked, and written again. It prints what it does, and exits
+   with 1 where a call answers what it should not. It is C99 and C++; tools/compare/compare.sh runs it. */
 #include <inttypes.h>
 #include <stdio.h>
 #include <stdlib.h>
@@ -16,6 +16,9 @@ static const uint32_t context[] = {0x4065000B, 7, 1794715200, 1, 5, 0x21200000, 
 
 /* type 1 of identifier 7, with a trailer: three samples of 12 bits in two words */
 static const uint32_t data[] = {0x14030005, 7, 0xABCDEF12, 0x30000000, 0x40040000};
+
+/* type 1 of identifier 9 by 49A: 8 bits of padding behind a vector of three unsigned items of 8 bits */
+static const uint32_t survey_data[] = {0x1C000006, 9, 0x40FFFFFA, 0x000A0002, 0x01020300, 0};
 
 static void expect(const char *call, uint32_t number, uint32_t wanted)
 {
@@ -86,23 +89,27 @@ static void play_cut(uint32_t *table, size_t layout, const uint32_t *words, size
 /* plays both packets on a fresh table of streams 7 and 9, and gives the words of its layout */
 static size_t play_packets(uint32_t *table, size_t room)
 {
-    static const uint32_t ids[] = {7, 9}, twice[] = {7, 7};
+    static const uint32_t ids[] = {7, 9}, twice[] = {7, 7}, choices[] = {VRT49_PLAIN, VRT49_SURVEY}, no_choices[] = {VRT49_PLAIN, 2};
     uint32_t recording[ENTRIES(context) + ENTRIES(data)];
     vrt49_entry entries[4];
     vrt49_heard heard;
     size_t layout, packets, next;
     memcpy(recording, context, sizeof context);
     memcpy(recording + ENTRIES(context), data, sizeof data);
-    expect("vrt49_start of one identifier twice", vrt49_start(twice, ENTRIES(twice), table, 0, &layout), VRT49_LIST);
-    expect("vrt49_start", vrt49_start(ids, ENTRIES(ids), table, room, &layout), VRT49_OK);
+    expect("vrt49_start of one identifier twice", vrt49_start(twice, ENTRIES(twice), choices, 2, table, 0, &layout), VRT49_LIST);
+    expect("vrt49_start with a choice too few", vrt49_start(ids, ENTRIES(ids), choices, 1, table, 0, &layout), VRT49_LIST);
+    expect("vrt49_start with a choice that is none", vrt49_start(ids, ENTRIES(ids), no_choices, 2, table, 0, &layout), VRT49_LIST);
+    expect("vrt49_start", vrt49_start(ids, ENTRIES(ids), choices, 2, table, room, &layout), VRT49_OK);
     play_cut(table, layout, recording, ENTRIES(recording) - 1);
-    expect("vrt49_start", vrt49_start(ids, ENTRIES(ids), table, room, &layout), VRT49_OK);
+    expect("vrt49_start", vrt49_start(ids, ENTRIES(ids), choices, 2, table, room, &layout), VRT49_OK);
     expect("the layout", layout == VRT49_TABLE_WORDS(2), 1);
     expect("vrt49_play_entries", vrt49_play_entries(table, layout, recording, ENTRIES(recording), 0, entries, ENTRIES(entries), &packets, &next), VRT49_OK);
     expect("the second entry", entries[1].size == 5 && entries[1].type == VRT49_TYPE_DATA && entries[1].stream == 0 && entries[1].missing == 0, 1);
     printf("played: %zu packets, %zu words, on a table of %zu words\n", packets, next, layout);
     expect("vrt49_play", vrt49_play(table, layout, data, ENTRIES(data), &heard), VRT49_OK);
     printf("played again: type %" PRIu32 " of stream %" PRIu32 ", missing %" PRIu32 "\n", heard.type, heard.stream, heard.missing);
+    expect("vrt49_play of 49A", vrt49_play(table, layout, survey_data, ENTRIES(survey_data), &heard), VRT49_OK);
+    expect("the packet of 49A", heard.type == VRT49_TYPE_DATA && heard.stream == 1 && heard.size == ENTRIES(survey_data), 1);
     return layout;
 }
 
@@ -161,15 +168,18 @@ static void show_readings(const uint32_t *table, size_t layout)
 /* what the table says of stream 0, and what the context packet changes when it is played again: the counts, and no field */
 static void ask_stream(uint32_t *table, size_t layout)
 {
-    uint32_t own[VRT49_TABLE_WORDS(1)], identifier, held, fields;
+    uint32_t own[VRT49_TABLE_WORDS(1)], identifier, choice, held, fields;
     vrt49_count count;
     vrt49_heard heard;
     size_t length;
-    expect("vrt49_identity", vrt49_identity(table, layout, 0, &identifier, &held), VRT49_OK);
+    expect("vrt49_identity", vrt49_identity(table, layout, 1, &identifier, &choice, &held), VRT49_OK);
+    expect("the stream of 49A", identifier == 9 && choice == VRT49_SURVEY && held == 0, 1);
+    expect("vrt49_identity", vrt49_identity(table, layout, 0, &identifier, &choice, &held), VRT49_OK);
+    expect("the choice", choice, VRT49_PLAIN);
     expect("the held rate", held >> VRT49_BIT_SAMPLE_RATE & 1, 1);
     printf("stream 0: identifier %" PRIu32 ", held 0x%08" PRIX32 "\n", identifier, held);
     expect("vrt49_own_table", vrt49_own_table(table, layout, 0, own, ENTRIES(own), &length), VRT49_OK);
-    expect("the own table", length == VRT49_TABLE_WORDS(1) && own[0] == 1 && memcmp(own + 1, table + 1, 88 * sizeof own[0]) == 0, 1);
+    expect("the own table", length == VRT49_TABLE_WORDS(1) && own[0] == 1 && memcmp(own + 1, table + 1, sizeof own - sizeof own[0]) == 0, 1);
     expect("vrt49_play", vrt49_play(table, layout, context, ENTRIES(context), &heard), VRT49_OK);
     expect("vrt49_changed", vrt49_changed(own, length, 0, table, layout, 0, &fields), VRT49_OK);
     expect("no field changed", fields, 0);
@@ -227,6 +237,44 @@ static void find_samples(uint32_t first)
     expect("the coordinates after refusals", at.time == 1 && at.channel == 1 && at.component == 1 && at.repeat == 2, 1);
 }
 
+/* reads a packet of 49A, unpacks its items by the format that it says, and writes it again, from what was read and from what it holds */
+static void read_survey(void)
+{
+    uint64_t items[3];
+    uint8_t events[3];
+    uint16_t channels[3];
+    uint32_t out[ENTRIES(survey_data)];
+    vrt49_packet packet;
+    vrt49_survey survey;
+    vrt49_survey_parts parts, made;
+    size_t length;
+    expect("vrt49_read of 49A", vrt49_read(survey_data, ENTRIES(survey_data), &packet), VRT49_CLASS);
+    expect("vrt49_read_survey", vrt49_read_survey(survey_data, ENTRIES(survey_data), &survey), VRT49_OK);
+    printf("49A: %" PRIu32 " bits of padding, %" PRIu32 " items, format 0x%08" PRIX32 " 0x%08" PRIX32 "\n", survey.pad, survey.items, survey.first,
+           survey.second);
+    expect("its class", survey.packet.oui == VRT49_SURVEY_OUI && survey.packet.information_class == VRT49_DATA_UNSIGNED_8, 1);
+    expect("its items' bits", vrt49_item_bits(survey.first) == 8 && vrt49_data_bits(VRT49_DATA_UNSIGNED_8) == 8, 1);
+    expect("vrt49_unpack of 49A", vrt49_unpack(survey.first, survey.second, survey.items, survey_data + survey.packet.body_at, survey.packet.body_words,
+                                               items, 3, events, 3, channels, 3), VRT49_OK);
+    expect("the items of 49A", items[0] == 1 && items[1] == 2 && items[2] == 3, 1);
+    parts = vrt49_survey_parts_of(&survey);
+    expect("vrt49_write_survey", vrt49_write_survey(&parts, survey_data + survey.packet.body_at, survey.packet.body_words, out, ENTRIES(out), 0, &length),
+           VRT49_OK);
+    expect("the packet written", length == ENTRIES(out) && memcmp(out, survey_data, sizeof out) == 0, 1);
+    memset(&made, 0, sizeof made);
+    made.parts.type = VRT49_TYPE_DATA;
+    made.parts.identifier = 9;
+    vrt49_survey_class(&made, 0, VRT49_DATA_UNSIGNED_8, 3, 3);
+    expect("the parts made", memcmp(&made, &parts, sizeof made) == 0, 1);
+    made.parts.has_trailer = 0;
+    expect("vrt49_write_survey without a trailer", vrt49_write_survey(&made, survey_data + 4, 1, out, ENTRIES(out), 0, &length), VRT49_PAD);
+    made.pad = 32;
+    expect("vrt49_write_survey with a pad count of 32", vrt49_write_survey(&made, survey_data + 4, 1, out, ENTRIES(out), 0, &length), VRT49_VALUE);
+    expect("vrt49_read_survey of a packet without a class", vrt49_read_survey(data, ENTRIES(data), &survey), VRT49_PAD);
+    expect("vrt49_read_survey of a context packet", vrt49_read_survey(context, ENTRIES(context), &survey), VRT49_OK);
+    expect("a context packet read as 49A", survey.packet.type == VRT49_TYPE_CONTEXT && survey.pad + survey.first + survey.second + survey.items == 0, 1);
+}
+
 int main(void)
 {
     static uint32_t table[VRT49_TABLE_WORDS(VRT49_STREAMS_MAX)];
@@ -241,5 +289,6 @@ int main(void)
     unpack_samples();
     find_samples(0xA00001C7);
     find_samples(0xA08001C7);
+    read_survey();
     return 0;
 }

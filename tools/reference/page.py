@@ -1,9 +1,9 @@
 """Reference pages: a table of streams is saved as a page and put back from it.
 
-It is written from document 01, from C-11 of document 02 and from nothing else.
+It is written from document 01, from C-11 and C-13 of document 02 and from nothing else.
 Tables and their words are those of table.py, and so is what a state word is that can
 be held.  Words are whole numbers from 0 to 2^32 - 1 in a list; the sentences in
-quotation marks are document 01's own, or C-11's where it is named.
+quotation marks are document 01's own, or C-11's or C-13's where they are named.
 
 What a well-made page is stands here twice: by document 01's sentence, that some
 well-made table saves exactly its words, and by rules of the words themselves.
@@ -11,7 +11,7 @@ Putting back asks both and fails if they differ.
 """
 
 import table
-from table import COUNTED_TYPES, FIELD_BITS, HELD_BITS, ROOM, STATE_BIT, TABLE
+from table import CHOICES, COUNTED_TYPES, FIELD_BITS, HELD_BITS, ROOM, STATE_BIT, TABLE
 from vrt49 import FIELD_RULES, FIXED_WORDS, bits
 
 # "Numbers given back", those of a page beside TABLE and ROOM.
@@ -21,8 +21,10 @@ PAGE = 19
 # "a packet to be written, or a page, exceeds 65,535 words"
 MOST_WORDS = 65535
 
-# "A body: identifier, held indicator, for types 1, 3, 4, 5 three words each"
-FIRST_WORDS = 2 + 3 * len(COUNTED_TYPES)
+# "A body: identifier, held indicator, for types 1, 3, 4, 5 three words each"; C-13: "the
+# page body records it", the choice, "in one word more", which stands behind these.
+CHOICE_PLACE = 2 + 3 * len(COUNTED_TYPES)
+FIRST_WORDS = CHOICE_PLACE + 1
 
 
 def contents_length(streams):
@@ -44,6 +46,7 @@ def body_of(stream):
         count = stream["counts"][kind]
         last_plus_one = 0 if count["last"] is None else count["last"] + 1
         words += [count["seen"], count["missing"], last_plus_one]
+    words.append(stream["choice"])
     # "then the held words in field order"
     for bit in sorted(stream["held"], reverse=True):
         words += stream["held"][bit]
@@ -197,7 +200,7 @@ def right_end(words):
 
 def right_bodies(words):
     # "A body: identifier, held indicator, for types 1, 3, 4, 5 three words each
-    # ..., then the held words in field order."
+    # ..., then the held words in field order", and the choice before these.
     return all(
         len(body) >= FIRST_WORDS and len(body) == FIRST_WORDS + held_words(body[1])
         for body in bodies_of(words)
@@ -207,6 +210,11 @@ def right_bodies(words):
 def different_identifiers(words):
     # not "one twice"
     return len({body[0] for body in bodies_of(words)}) == words[0]
+
+
+def right_choices(words):
+    # C-13: "plain 49.0 (word 0) or 49A (1)"
+    return all(body[CHOICE_PLACE] in CHOICES for body in bodies_of(words))
 
 
 def only_fields_held(words):
@@ -267,6 +275,7 @@ STAGES = (
     (("bodies", right_bodies),),
     (
         ("identifiers", different_identifiers),
+        ("choice", right_choices),
         ("indicator", only_fields_held),
         ("field", held_kept),
         ("state", states_good),

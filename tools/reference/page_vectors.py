@@ -22,18 +22,21 @@ import table
 from page import PAGE, SIZE
 from play_vectors import (
     ALL_OFF, ALL_ON, COUNTED, FIELD_EDGES, HELD, HELD_BITS, INDICATORS, MOST_PACKETS, MOST_ROOM,
-    PATTERN, RIGHT_STATES, SIZES, WRONG_STATES, at_places, count_place, first_held,
+    PATTERN, RIGHT_STATES, SIZES, WRONG_STATES, at_places, choice_place, count_place, first_held,
     indicator_place, other, random_held, random_ids, random_stores, record_place, short_packet,
     slot_place, slots_of,
 )
-from read_vectors import FIXED, FIXED_BITS, ONES, Numbers, all_fixed, context, packet
+from read_vectors import (
+    FIXED, FIXED_BITS, ONES, Numbers, all_fixed, context, packet, random_survey, survey,
+)
 from table import ROOM, TABLE
+from vrt49 import PAD
 
 ACCEPTED = 0
 MOST_STREAMS = 32
 MOST_PACKET_WORDS = 60_000
 MOST_PAGE = 3000
-PAGE_BUFFER = 2850
+PAGE_BUFFER = 2882
 # Buffers of so many words or fewer are written out whole.
 WHOLE = 200
 MOST_CUTS = 25
@@ -59,8 +62,9 @@ def fold(words):
 
 
 class Resumed:
-    def __init__(self, ids, packets, room, room2):
+    def __init__(self, ids, choices, packets, room, room2):
         self.ids = list(ids)
+        self.choices = list(choices)
         self.packets = [list(words) for words in packets]
         self.room = room
         self.room2 = room2
@@ -72,15 +76,17 @@ class Resumed:
             self.cuts = [(most * i + steps // 2) // steps for i in range(MOST_CUTS)]
 
 
-def resumed(ids, packets, room=None):
+def resumed(ids, packets, room=None, choices=None):
     """A recording, the second table longer than its layout by 0, 1 or some
-    words."""
-    need = 1 + 88 * len(ids)
+    words; the choices are zeros if no others are named."""
+    need = 1 + 89 * len(ids)
     turn = len(cases)
     more = (0, 1, 2 + turn % 7)[turn % 3]
     if room is None:
         room = need + turn % 4
-    cases.append(Resumed(ids, packets, room, min(need + more, MOST_ROOM)))
+    if choices is None:
+        choices = [0] * len(ids)
+    cases.append(Resumed(ids, choices, packets, room, min(need + more, MOST_ROOM)))
 
 
 def played_recordings():
@@ -89,12 +95,12 @@ def played_recordings():
     play_vectors.build()
     for one in play_vectors.recordings:
         if one.answer == play_vectors.STARTED and one.packets and not one.stores:
-            resumed(one.ids, [words for words, _ in one.packets], one.room)
+            resumed(one.ids, [words for words, _ in one.packets], one.room, one.choices)
 
 
 def full_recordings():
     """Streams that come to hold every field that is held, one after another: bodies of
-    87 words."""
+    88 words."""
     for n in (1, 2, 8, 32):
         ids = [0x51000000 + 7 * i for i in range(n)]
         packets = [
@@ -103,6 +109,8 @@ def full_recordings():
         ]
         packets += [short_packet(1, identifier, 3) for identifier in ids[:4]]
         resumed(ids, packets)
+        packets += [survey([1], pad=3, identifier=identifier) for identifier in ids[:4]]
+        resumed(ids, packets, choices=[(i + n) % 2 for i in range(n)])
 
 
 def split_recordings():
@@ -156,10 +164,36 @@ def split_recordings():
     )
 
 
+def survey_recordings():
+    """Lists of both choices, stopped at each packet."""
+    numbers = Numbers(4949)
+    for choices in ([0, 0], [0, 1], [1, 0], [1, 1]):
+        packets = []
+        for turn in range(3):
+            for identifier in (7, 8):
+                given = dict(identifier=identifier, count=5 * turn % 16)
+                packets.append(survey([turn, 1], pad=turn, **given))
+                packets.append(packet(1, [turn], **given))
+                packets.append(packet(3, [turn], **given))
+            packets.append(context(1 << 16, [turn << 31 & ONES | turn], identifier=7, count=turn))
+        packets += [survey([1], pad=1, identifier=9), survey([1], identifier=9)]
+        resumed([7, 8], packets, choices=choices)
+    for n in (1, 3, 32):
+        ids = random_ids(numbers, n)
+        packets = []
+        for turn in range(24):
+            words = random_survey(numbers)
+            words[1] = ids[numbers.below(n)]
+            packets.append(words if turn % 4 else short_packet(1, words[1], turn % 16))
+        for turn in range(3):
+            choices = [(0, 1, numbers.below(2))[turn] for _ in ids]
+            resumed(ids, packets, choices=choices)
+
+
 # Pages that are built here, from the words of each body.
 
 
-def body(identifier, held=None, counts=None):
+def body(identifier, held=None, counts=None, choice=0):
     """The words of a body.  Held has the words of fields by their bit, counts the
     three words of a count by type; where fields are held and there is no count of
     type 4, it has started."""
@@ -170,6 +204,7 @@ def body(identifier, held=None, counts=None):
     words = [identifier, sum(1 << bit for bit in held)]
     for kind in COUNTED:
         words += counts.get(kind, [0, 0, 0])
+    words.append(choice)
     for bit, _ in FIXED:
         words += held.get(bit, [])
     return words
@@ -193,7 +228,7 @@ def page_from_words(lent):
     bodies = []
     for stream in range(lent[0]):
         place = record_place(stream)
-        words = lent[place : place + 14]
+        words = lent[place : place + 15]
         for bit, n in HELD:
             if lent[place + 1] >> bit & 1:
                 words += lent[slot_place(bit, stream) : slot_place(bit, stream) + n]
@@ -215,7 +250,7 @@ def put(words, answer, room=None, broken=None, beside=None):
     left after; every fourth table of a page that is refused is written out
     whole."""
     if room is None:
-        need = 1 + 88 * (words[0] if words and 1 <= words[0] <= 32 else 1)
+        need = 1 + 89 * (words[0] if words and 1 <= words[0] <= 32 else 1)
         turn = len(cases)
         room = need + turn % 3
         if answer == PAGE and turn % 4:
@@ -246,9 +281,9 @@ def with_length(words):
 
 
 FRESH = body(7)
-FULL = body(7, every_field(), {4: [3, 1, 16], 1: [9, 9, 9]})
+FULL = body(7, every_field(), {4: [3, 1, 16], 1: [9, 9, 9]}, 1)
 FEW = body(8, {29: [0, 5], 24: [0xFF80], 10: [6]}, {3: [1, 2, 3], 5: [ONES, ONES, 1]})
-ONE_WORD = body(9, {23: [0x00800040]})
+ONE_WORD = body(9, {23: [0x00800040]}, choice=1)
 
 # Pages of one, two and three streams to be bent.
 BASES = {
@@ -268,7 +303,8 @@ def good_pages():
         put(words, ACCEPTED, room=MOST_ROOM)
     for n in range(1, 33):
         ids = [0x70000000 + 5 * i for i in range(n)]
-        beside(joined(*[body(identifier) for identifier in ids]), "number")
+        bodies = [body(identifier, choice=i % 3 % 2) for i, identifier in enumerate(ids)]
+        beside(joined(*bodies), "number")
     for n in (2, 3, 4, 9, 32):
         fields = every_field(other)
         words = joined(*[body(0x100 + i, fields, {4: [i, i, 1 + i % 16]}) for i in range(n)])
@@ -324,7 +360,7 @@ def wrong_contents():
     for streams in (3, 8, 9, 31, 32):
         # The page of one stream with a number of streams that asks for more.
         words = changed(BASES["fresh"], {0: streams})
-        bent(words, *(("contents",) if 2 + 2 * streams > 18 else ("offsets", "end")))
+        bent(words, *(("contents",) if 2 + 2 * streams > 19 else ("offsets", "end")))
 
 
 def wrong_lengths():
@@ -401,23 +437,23 @@ def gaps():
         streams = words[0]
         for stream in range(streams):
             at = words[2 + 2 * stream]
-            for inserted in ([0], [PATTERN], [0] * 14):
+            for inserted in ([0], [PATTERN], [0] * 15):
                 bent(moved(words, at, inserted, range(stream, streams)), "offsets")
         # After the last body.
         bent(moved(words, len(words), [0], ()), "end")
-        bent(moved(words, len(words), [0] * 16, ()), "end")
+        bent(moved(words, len(words), [0] * 17, ()), "end")
 
 
 def overlaps():
     # Two bodies that have words in common: all of them, and one.
     same = joined(FRESH, FRESH)
-    bent(with_length(changed(same, {4: 6})[:20]), "offsets")
+    bent(with_length(changed(same, {4: 6})[:21]), "offsets")
     bent(same, "identifiers")
     # The first body's last word, which is zero, is the second's identifier.
     first, second = body(7), body(0)
     words = joined(first, second)
-    shared = words[:20] + words[21:]
-    bent(changed(with_length(shared), {4: 19}), "offsets")
+    shared = words[:21] + words[22:]
+    bent(changed(with_length(shared), {4: 20}), "offsets")
     beside(words, "offsets")
     # The first body begins within the contents: the pair of the last is read as
     # its identifier and held indicator.
@@ -455,8 +491,8 @@ def orders():
     beside(joined(body(8), body(7)), "offsets")
     # The bodies before the contents' end, or the contents last.
     fresh = BASES["fresh"]
-    bent([1, 18, 2, 14] + fresh[4:], "offsets", "end")
-    bent([1, 18] + fresh[4:] + fresh[2:4], "offsets", "end")
+    bent([1, 19, 2, 15] + fresh[4:], "offsets", "end")
+    bent([1, 19] + fresh[4:] + fresh[2:4], "offsets", "end")
 
 
 # The held indicator and the held words.
@@ -494,7 +530,7 @@ def wrong_held():
     bent(changed(words, {7: 1 << 30 | 1 << 10, second + 1: 0}), "bodies")
     # With the border moved, too: the words of the first are then those of the
     # second, shifted.
-    moved_border = changed(words, {3: 14, 4: 20, 5: 16, 7: 0})
+    moved_border = changed(words, {3: 15, 4: 21, 5: 17, 7: 0})
     bent(moved_border, "bodies")
     beside(words, "bodies")
 
@@ -535,9 +571,31 @@ def wrong_over_range_counts():
         bent(joined(changed(with_word, {1: indicator})), "bodies")
     # The longest page that there is, and with field 22 in its last stream.
     many = [body(0x300 + i, every_field()) for i in range(32)]
-    beside(joined(*many), "indicator", room=2817)
+    beside(joined(*many), "indicator", room=2849)
     many[31] = body(0x31F, {**every_field(), 22: [5]})
-    bent(joined(*many), "indicator", room=2817)
+    bent(joined(*many), "indicator", room=2849)
+
+
+def wrong_choices():
+    """Choices other than 0 and 1, and bodies as they were without one."""
+    for wrong in (2, 3, 4, 16, 1 << 8, 1 << 16, 1 << 31, (1 << 31) + 1, ONES):
+        bent(joined(body(7, choice=wrong)), "choice")
+        bent(joined(body(7, every_field(), choice=wrong)), "choice")
+        bent(joined(FEW, body(7, choice=wrong)), "choice")
+        bent(joined(body(7, {10: [1]}, choice=wrong), FEW), "choice")
+        bent(joined(FEW, body(7, choice=wrong), ONE_WORD), "choice")
+    for choice in (0, 1):
+        beside(joined(body(7, choice=choice)), "choice")
+        beside(joined(body(7, every_field(), choice=choice)), "choice")
+        beside(joined(FEW, body(7, {10: [1]}, choice=choice)), "choice")
+        beside(joined(*[body(i, choice=choice) for i in range(32)]), "choice")
+    for held in ({}, {10: [1]}, {30: [0]}, every_field()):
+        words = body(7, held)
+        bent(joined(words[:14] + words[15:]), "bodies")
+        bent(joined(words[:14] + [0] + words[14:]), "bodies")
+    # The choice is no held word: a body without it whose first held word is 0.
+    words = body(7, {30: [0], 10: [5]})
+    bent(joined(words[:14] + words[15:]), "bodies")
 
 
 def wrong_lists():
@@ -629,7 +687,7 @@ def many_streams():
         place = 2 + 2 * stream
         end = ("offsets", "end") if stream == 31 else ("offsets",)
         bent(changed(right, {place: right[place] + 1}), *end)
-        bent(changed(right, {place + 1: 15}), *(("end",) if stream == 31 else ("offsets",)))
+        bent(changed(right, {place + 1: 16}), *(("end",) if stream == 31 else ("offsets",)))
         for one, rule in (
             (body(0x200 + stream, {10: [3]}, {4: [0, 0, 0]}), "type 4"),
             (body(0x200 + stream, {18: [1 << 16]}), "field"),
@@ -637,6 +695,7 @@ def many_streams():
             (body(0x200 + stream, counts={5: [0, 0, 17]}), "last"),
             (body(0x200 + stream, counts={5: [0, 1, 0]}), "not started"),
             (changed(bodies[stream], {1: 1}), "indicator"),
+            (body(0x200 + stream, choice=2), "choice"),
             (bodies[stream] + [0], "bodies"),
         ):
             bent(joined(*bodies[:stream], one, *bodies[stream + 1 :]), rule)
@@ -649,27 +708,28 @@ def many_streams():
 
 def rooms():
     for n in (1, 2, 3, 16, 31, 32):
-        need = 1 + 88 * n
+        need = 1 + 89 * n
         for fields in ({}, {10: [4], 23: [5]}) if n < 4 else ({10: [4]},):
             words = joined(*[body(0x40 + i, fields) for i in range(n)])
-            for room in (need - 1, need - 88, 0, len(words) if len(words) < need else 1):
+            for room in (need - 1, need - 89, 0, len(words) if len(words) < need else 1):
                 put(words, ROOM, room=room)
             for room in (need, need + 1, min(need + 90, MOST_ROOM)):
                 put(words, ACCEPTED, room=room)
     full = joined(*[body(0x40 + i, every_field()) for i in range(32)])
-    put(full, ROOM, room=2816)
-    put(full, ACCEPTED, room=2817)
+    put(full, ROOM, room=2848)
+    put(full, ACCEPTED, room=2849)
     # PAGE before ROOM: each rule, and a table that is too short.
     fresh = BASES["fresh"]
     for words, rule in (
         ([], "number"),
         (changed(fresh, {0: 0}), "number"),
         (with_length(fresh[:3]), "contents"),
-        (changed(fresh, {1: 19}), "length"),
-        (changed(fresh, {2: 3, 3: 15}), "offsets"),
+        (changed(fresh, {1: 20}), "length"),
+        (changed(fresh, {2: 3, 3: 16}), "offsets"),
         (with_length(fresh + [0]), "end"),
         (joined(FRESH + [0]), "bodies"),
         (joined(FRESH, FRESH), "identifiers"),
+        (joined(body(7, choice=2)), "choice"),
         (joined(changed(FRESH, {1: 1 << 8})), "indicator"),
         (joined(body(7, {24: [1 << 16]})), "field"),
         (joined(body(7, {16: [1 << 19]})), "state"),
@@ -677,7 +737,7 @@ def rooms():
         (joined(body(7, counts={5: [1, 0, 17]})), "last"),
         (joined(body(7, {10: [3]}, {4: [0, 0, 0]})), "type 4"),
     ):
-        for room in (0, 88):
+        for room in (0, 89):
             bent(words, rule, room=room)
         both_faults.add((PAGE, ROOM, rule))
 
@@ -696,7 +756,7 @@ def random_body(numbers, identifier):
         for bit, n in HELD:
             if numbers.below(chance) == 0:
                 held[bit] = random_held(numbers, bit, n)
-    return body(identifier, held, counts)
+    return body(identifier, held, counts, numbers.below(2))
 
 
 def random_pages():
@@ -710,7 +770,7 @@ def random_pages():
         n = 1 + numbers.below(3)
         bodies = [random_body(numbers, identifier) for identifier in random_ids(numbers, n)]
         words = joined(*bodies)
-        most = len(words) if turn % 3 == 0 else 2 + 2 * n + 14
+        most = len(words) if turn % 3 == 0 else 2 + 2 * n + 15
         place = numbers.below(most)
         way = numbers.below(4)
         if way == 0:
@@ -719,7 +779,7 @@ def random_pages():
             words[place] = numbers.below(20)
         else:
             words[place] ^= 1 << numbers.below(32)
-        put(words, None, room=1 + 88 * 3 + numbers.below(3))
+        put(words, None, room=1 + 89 * 3 + numbers.below(3))
 
 
 # Tables to be saved.
@@ -750,7 +810,7 @@ def tables_with_stores():
             continue
         if many and one.broken != ("last",):
             continue
-        _, lent = table.start_lent(one.ids, [PATTERN] * one.room)
+        _, lent = table.start_lent(one.ids, one.choices, [PATTERN] * one.room)
         for place, word in one.stores:
             lent[place] = word
         broken = tuple(table.broken_rules(lent))
@@ -760,9 +820,9 @@ def tables_with_stores():
         turn = turns[broken]
         if broken and turn <= 30:
             # TABLE before ROOM, in turn with enough room.
-            room = (18, 0, 19, 17, MOST_PAGE)[turn % 5]
+            room = (19, 0, 20, 18, MOST_PAGE)[turn % 5]
             save(lent, TABLE, room, broken)
-            if room < 18:
+            if room < 19:
                 both_faults.add((TABLE, ROOM, broken))
         elif not broken and turn % 2:
             need = len(page_from_words(lent))
@@ -778,7 +838,8 @@ def tables_of_streams():
     numbers = Numbers(3217)
     for n in range(1, 32):
         ids = random_ids(numbers, n)
-        _, lent = table.start_lent(ids, [PATTERN] * (1 + 88 * n + n % 3))
+        choices = [numbers.below(2) for _ in ids]
+        _, lent = table.start_lent(ids, choices, [PATTERN] * (1 + 89 * n + n % 3))
         for place, word in random_stores(numbers, n).items():
             lent[place] = word
         need = len(page_from_words(lent))
@@ -787,7 +848,8 @@ def tables_of_streams():
             save(lent, ROOM, need - 1, ())
             save(lent, ROOM, 0, ())
     for n in (1, 2, 32):
-        fresh = table.start_lent(range(n), [PATTERN] * (1 + 88 * n))[1]
+        choices = [1 - i % 2 for i in range(n)]
+        fresh = table.start_lent(range(n), choices, [PATTERN] * (1 + 89 * n))[1]
         full = list(fresh)
         for stream in range(n):
             full[indicator_place(stream)] = HELD_BITS
@@ -795,7 +857,7 @@ def tables_of_streams():
             slots = slots_of(first_held)
             for place, word in at_places(slot_place(30, stream), slots).items():
                 full[place] = word
-        for words, need in ((fresh, 2 + 16 * n), (full, 2 + 89 * n)):
+        for words, need in ((fresh, 2 + 17 * n), (full, 2 + 90 * n)):
             if len(page_from_words(words)) != need:
                 sys.exit(f"a page of {n} streams has not {need} words")
             save(words, ROOM, need - 1, ())
@@ -807,9 +869,9 @@ def tables_of_streams():
                 # Not the whole layout, and a word past it.
                 save(words[:-1], TABLE, need, ("layout",))
                 save(words + [ONES], ACCEPTED, need, ())
-    save([], TABLE, 18, ("layout", "number"))
+    save([], TABLE, 19, ("layout", "number"))
     save([], TABLE, 0, ("layout", "number"))
-    save([1], TABLE, 18, ("layout",))
+    save([1], TABLE, 19, ("layout",))
 
 
 # The two files.
@@ -830,6 +892,7 @@ class Coverage:
         self.tables_broken = {}
         self.saved_streams = set()
         self.put_streams = set()
+        self.choices = set()
 
     def add(self, label):
         self.tally[label] = self.tally.get(label, 0) + 1
@@ -861,17 +924,23 @@ def of_resumed(k, one, cover):
         sys.exit(f"case {k} has a room or a list that is too large")
     if len(one.packets) > MOST_PACKETS or len(inner) > MOST_PACKET_WORDS:
         sys.exit(f"case {k} has too many packets")
-    given = [RESUME, one.room, one.room2, len(one.ids), *one.ids, len(one.packets)]
-    given += [len(inner), *inner, len(one.cuts), *one.cuts]
-    need = 1 + 88 * len(one.ids)
+    given = [RESUME, one.room, one.room2, len(one.ids), *one.ids, *one.choices]
+    given += [len(one.packets), len(inner), *inner, len(one.cuts), *one.cuts]
+    need = 1 + 89 * len(one.ids)
     # Unbroken, on one table.
-    answer, whole = table.start(one.ids, one.room)
+    answer, whole = table.start(one.ids, one.choices, one.room)
     if answer != "started":
         sys.exit(f"case {k} does not start")
     states, answers = [copy.deepcopy(whole)], []
     for words in one.packets:
         answers.append(table.play(whole, words))
         states.append(copy.deepcopy(whole))
+        if answers[-1] == ("refused", PAD):
+            cover.choices.add("PAD in a recording")
+    both = (0 in one.choices, 1 in one.choices)
+    cover.choices.add(("recording", *both))
+    if both == (True, True) and ("refused", PAD) in answers and len(one.cuts) > len(one.packets):
+        cover.choices.add("both choices and PAD, stopped at each packet")
     end = table.layout(whole)
     folded = fold([word for answer in answers for word in five_words(answer)])
     lines = [f"{k} recording"]
@@ -923,9 +992,9 @@ def of_put(k, one, cover):
             sys.exit(f"case {k} is refused and has written")
         cover.add(f"put refused {number}")
         if number == ROOM:
-            cover.rooms.add(("put", ROOM, one.words[0], one.room - (1 + 88 * one.words[0])))
+            cover.rooms.add(("put", ROOM, one.words[0], one.room - (1 + 89 * one.words[0])))
         return given, [f"{k} refused {number}", words_line("table", lent, one.room)]
-    if what != 1 + 88 * one.words[0] or not table.well_made(lent):
+    if what != 1 + 89 * one.words[0] or not table.well_made(lent):
         sys.exit(f"case {k} is put back as a table that is not well made")
     if page_from_words(lent) != one.words or lent[what:] != untouched[what:]:
         sys.exit(f"case {k} is put back as another table")
@@ -933,6 +1002,8 @@ def of_put(k, one, cover):
     if answer != "saved" or buffer[:length] != one.words:
         sys.exit(f"case {k} is not saved again as it was")
     cover.add("put")
+    for stream in range(one.words[0]):
+        cover.choices.add(("put", lent[choice_place(stream)]))
     cover.put_streams.add(one.words[0])
     cover.rooms.add(("put", ACCEPTED, one.words[0], one.room - what))
     return given, [
@@ -970,6 +1041,8 @@ def of_save(k, one, cover):
     if what != length or buffer != expected + untouched[length:]:
         sys.exit(f"case {k} is saved as another page")
     cover.add("saved")
+    for stream in range(one.words[0]):
+        cover.choices.add(("saved", one.words[choice_place(stream)]))
     cover.saved_streams.add(one.words[0])
     cover.rooms.add(("save", ACCEPTED, one.words[0], one.room - length))
     return given, [f"{k} saved {what}", words_line("page", buffer, one.room), last]
@@ -979,6 +1052,7 @@ def build():
     played_recordings()
     full_recordings()
     split_recordings()
+    survey_recordings()
     good_pages()
     wrong_numbers()
     wrong_contents()
@@ -991,6 +1065,7 @@ def build():
     wrong_indicators()
     wrong_over_range_counts()
     wrong_lists()
+    wrong_choices()
     wrong_counts()
     wrong_starts()
     wrong_fields()
@@ -1013,6 +1088,13 @@ LEAST = {
     "saved": 100,
 }
 
+# What is there of both choices: recordings of either alone and of both.
+CHOICES = {
+    "PAD in a recording", "both choices and PAD, stopped at each packet",
+    ("recording", True, False), ("recording", False, True),
+    ("recording", True, True), ("put", 0), ("put", 1), ("saved", 0), ("saved", 1),
+}
+
 TABLE_RULES = [name for name, _ in table.RULES_OF_WORDS + table.RULES_OF_RECORDS]
 
 
@@ -1023,8 +1105,8 @@ def fail(condition, message):
 
 def check(cover):
     """The cases that there have to be."""
-    # SIZE cannot be reached: 32 streams with every field held are 2,850 words.
-    fail(2 + 89 * 32 > page.MOST_WORDS, f"{SIZE} can be reached")
+    # SIZE cannot be reached: 32 streams with every field held are 2,882 words.
+    fail(2 + 90 * 32 > page.MOST_WORDS, f"{SIZE} can be reached")
     for label in cover.tally:
         fail(label not in LEAST, f"{label}: not an answer that is asked for")
     for label, n in LEAST.items():
@@ -1035,7 +1117,8 @@ def check(cover):
         ("streams of a recording", cover.streams == every),
         ("streams of a page put back", cover.put_streams == every),
         ("streams of a table saved", cover.saved_streams == every),
-        ("lengths of a page", cover.lengths >= {18, 91, 514, 2850}),
+        ("lengths of a page", cover.lengths >= {19, 92, 546, 2882}),
+        ("choices put back and saved", cover.choices >= CHOICES),
         ("words past the second table", cover.past == {0, 1, 2}),
         ("PAGE before ROOM", {rule for a, b, rule in both_faults if a == PAGE} == set(page.RULES)),
         (
@@ -1077,8 +1160,8 @@ def main():
         expected += lines
     check(cover)
     text = "".join(line + "\n" for line in expected)
-    fail(len(given) > 1_300_000, f"the input has {len(given)} bytes, more than 1,300,000")
-    fail(len(text) > 1_000_000, f"the output has {len(text)} bytes, more than 1,000,000")
+    fail(len(given) > 1_690_000, f"the input has {len(given)} bytes, more than 1,690,000")
+    fail(len(text) > 1_300_000, f"the output has {len(text)} bytes, more than 1,300,000")
     with open(sys.argv[1], "wb") as file:
         file.write(given)
     with open(sys.argv[2], "w", encoding="ascii", newline="\n") as file:

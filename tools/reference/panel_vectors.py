@@ -85,9 +85,15 @@ def refused(number):
 # Tables.
 
 
+def choice_for(identifier):
+    """The choice of a stream in these tables: 1 where its identifier is odd."""
+    return identifier % 2
+
+
 def fresh(ids=(7,), past=0):
     """The words of a table that has just started, and words past it."""
-    return table.start_lent(list(ids), [PATTERN] * (1 + 88 * len(ids) + past))[1]
+    choices = [choice_for(identifier) for identifier in ids]
+    return table.start_lent(list(ids), choices, [PATTERN] * (1 + 89 * len(ids) + past))[1]
 
 
 def stored(words, stores):
@@ -361,7 +367,7 @@ def broken_tables():
         if one.answer != play_vectors.STARTED or not one.broken or len(one.ids) > 3:
             continue
         if len(one.broken) == 1 and len(found.get(one.broken, [])) < 6:
-            lent = table.start_lent(one.ids, [PATTERN] * one.room)[1]
+            lent = table.start_lent(one.ids, one.choices, [PATTERN] * one.room)[1]
             found.setdefault(one.broken, []).append(stored(lent, dict(one.stores)))
     found[("layout", "number")] = [[]]
     return found
@@ -435,7 +441,7 @@ def random_tables():
         n = 1 + numbers.below(3)
         lent = stored(fresh(random_ids(numbers, n), turn % 3), random_stores(numbers, n))
         if turn % 7 == 6:
-            lent[numbers.below(1 + 88 * n)] ^= 1 << numbers.below(32)
+            lent[numbers.below(1 + 89 * n)] ^= 1 << numbers.below(32)
         stream = numbers.below(n) if numbers.below(8) else numbers.below(40)
         bit = BITS[numbers.below(21)] if numbers.below(8) else numbers.below(40)
         if turn % 3:
@@ -504,7 +510,7 @@ def panels_of_streams():
         show_every_stream(*held_by_streams(n, scattered, past=2), far if n < 5 else ())
         show_every_stream(*held_by_streams(n, lambda stream: EVERY, past=n))
     show_every_stream(*held_by_streams(32, scattered))
-    lent, fields = held_by_streams(32, in_turn, past=83)
+    lent, fields = held_by_streams(32, in_turn, past=51)
     for stream in (16, 31):
         show(lent, stream, readings_of(fields[stream]))
     # The words of a record past the layout are no stream.

@@ -18,11 +18,12 @@ import read_vectors
 import table
 import vrt49
 from read_vectors import (
-    FIXED, FIXED_BITS, FORMAT, ONES, TERA, Numbers, all_fixed, context, counted, format_word,
-    lists_of, packet, plain, random_field, random_packet,
+    FIXED, FIXED_BITS, FORMAT, ITEM_BITS, ONES, OUI, PAD_FAULTS, TERA, Numbers, all_fixed,
+    context, counted, format_word, lists_of, packet, plain, random_field, random_packet,
+    random_survey, survey, survey_class, whole,
 )
 from table import LIST, ROOM, STREAM, TABLE
-from vrt49 import BITS, CLASS, CUT, EMPTY, FIELD, INDICATOR, LAYOUT, SHORT, TIME, TYPE
+from vrt49 import BITS, CLASS, CUT, EMPTY, FIELD, INDICATOR, LAYOUT, PAD, SHORT, TIME, TYPE
 
 STARTED = 0
 PATTERN = 0xA5A5A5A5
@@ -38,9 +39,10 @@ READ_ORDER = (EMPTY, TYPE, BITS, SHORT, CUT, CLASS, TIME, INDICATOR, LAYOUT, FIE
 # Where each word of a record is, from the record's start.
 INDICATOR_PLACE = 1
 COUNT_PLACES = {1: 2, 3: 5, 4: 8, 5: 11}
+CHOICE_PLACE = 14
 SLOT_PLACES = {
-    30: 14, 29: 15, 28: 17, 27: 19, 26: 21, 25: 23, 24: 25, 23: 26, 22: 27, 21: 28, 20: 30,
-    19: 32, 18: 33, 17: 34, 16: 36, 15: 37, 14: 39, 13: 50, 12: 61, 11: 74, 10: 87,
+    30: 15, 29: 16, 28: 18, 27: 20, 26: 22, 25: 24, 24: 26, 23: 27, 22: 28, 21: 29, 20: 31,
+    19: 33, 18: 34, 17: 35, 16: 37, 15: 38, 14: 40, 13: 51, 12: 62, 11: 75, 10: 88,
 }
 SIZES = dict(FIXED)
 
@@ -61,16 +63,17 @@ both_faults = set()
 
 
 class Recording:
-    """One recording, with the answer of start that it is built for.  The packets
-    are pairs of their words and what they are meant to be answered: the number
+    """One recording, with the answer of start that it is built for.  The choices are
+    zeros if no others are named.  The packets are pairs of their words and what they are meant to be answered: the number
     of a refusal, or type, stream and missing of a packet that is played, or
     None.  The stores are pairs of place and word.  Broken names the rules that
     the table then breaks, and beside the rule that a well-made table is just
     within.  After has words that are meant to be in the table at the end, by
     their place."""
 
-    def __init__(self, ids, packets, answer, room, stores, broken, beside, after):
+    def __init__(self, ids, choices, packets, answer, room, stores, broken, beside, after):
         self.ids = list(ids)
+        self.choices = [0] * len(self.ids) if choices is None else list(choices)
         self.packets = packets
         self.answer = answer
         self.room = room
@@ -81,20 +84,22 @@ class Recording:
 
 
 def recording(
-    ids, packets=(), answer=STARTED, room=None, stores=(), broken=(), beside=None, after=None
+    ids, packets=(), answer=STARTED, room=None, stores=(), broken=(), beside=None, after=None,
+    choices=None,
 ):
     """If no room is named there is enough, with two words left after."""
     if room is None:
-        room = 1 + 88 * len(ids) + 2
+        room = 1 + 89 * len(ids) + 2
     if isinstance(stores, dict):
         stores = stores.items()
+    packets, stores = list(packets), list(stores)
     recordings.append(
-        Recording(ids, list(packets), answer, room, list(stores), broken, beside, after or {})
+        Recording(ids, choices, packets, answer, room, stores, broken, beside, after or {})
     )
 
 
 def record_place(stream):
-    return 1 + 88 * stream
+    return 1 + 89 * stream
 
 
 def count_place(kind, stream=0):
@@ -103,6 +108,10 @@ def count_place(kind, stream=0):
 
 def slot_place(bit, stream=0):
     return record_place(stream) + SLOT_PLACES[bit]
+
+
+def choice_place(stream=0):
+    return record_place(stream) + CHOICE_PLACE
 
 
 def indicator_place(stream=0):
@@ -134,13 +143,13 @@ def short_packet(kind, identifier, count, **rest):
 
 def starts():
     # The number of identifiers.
-    for room in (0, 1, 2, 89, MOST_ROOM):
+    for room in (0, 1, 2, 90, MOST_ROOM):
         recording([], answer=LIST, room=room)
     for n in (33, 34, 40):
         recording(range(100, 100 + n), answer=LIST, room=MOST_ROOM)
     # LIST before ROOM.
     for ids in (range(33), range(40), [7, 7], [1, 2, 3, 2], [5] * 32, [5] * 33):
-        for room in (0, 1, 88, 176):
+        for room in (0, 1, 89, 178):
             recording(ids, answer=LIST, room=room)
     # One twice: every pair of places among four, and some among 32.
     for first in range(4):
@@ -160,26 +169,26 @@ def starts():
     # Identifiers that differ in one bit.
     for bit in (0, 1, 7, 8, 15, 16, 24, 31):
         recording([0x5A5A5A5A, 0x5A5A5A5A ^ 1 << bit], answer=STARTED)
-    recording([0, ONES], after={0: 2, 1: 0, 89: ONES})
+    recording([0, ONES], after={0: 2, 1: 0, 90: ONES})
     recording([ONES, 0])
     # The room.
     for n in (1, 2, 3, 31, 32):
-        need = 1 + 88 * n
+        need = 1 + 89 * n
         ids = [0xC0000000 + 3 * i for i in range(n)]
-        for room in (need - 1, need - 88, 0):
+        for room in (need - 1, need - 89, 0):
             recording(ids, answer=ROOM, room=room)
     for n in (1, 2, 3):
-        need = 1 + 88 * n
+        need = 1 + 89 * n
         ids = [0xC0000000 + 3 * i for i in range(n)]
-        for room in (need, need + 1, need + 88, need + 200):
+        for room in (need, need + 1, need + 89, need + 200):
             recording(ids, room=room, after={0: n, 1: 0xC0000000})
-    recording(range(32), room=2816, answer=ROOM)
-    recording(range(32), room=2817, after={0: 32, 1 + 88 * 31: 31})
-    recording(range(32), room=MOST_ROOM, after={0: 32, 1 + 88 * 31: 31})
+    recording(range(32), room=2848, answer=ROOM)
+    recording(range(32), room=2849, after={0: 32, 1 + 89 * 31: 31})
+    recording(range(32), room=MOST_ROOM, after={0: 32, 1 + 89 * 31: 31})
     # What follows a list that is refused.
     follow = [(short_packet(1, 7, 3), None), ([], None)]
     recording([7, 7], follow, answer=LIST, stores=[(5, 17), (0, 1)])
-    recording([7], follow, answer=ROOM, room=88, stores=[(5, 17), (87, 0)])
+    recording([7], follow, answer=ROOM, room=89, stores=[(5, 17), (88, 0)])
     recording(range(33), follow, answer=LIST, room=MOST_ROOM, stores=[(2899, 0)])
 
 
@@ -193,7 +202,7 @@ def samples():
             ([0x140F0005, 7, 0xABCDEF12, 0x30000000, 0], (1, 0, 0)),
             ([0x14020005, 7, 0, 0, 0], (1, 0, 2)),
         ],
-        room=89,
+        room=90,
         after={0: 1, 1: 7, 2: 0, 3: 2, 4: 2, 5: 3, 6: 0, 7: 0, 8: 0},
     )
     recording(
@@ -210,10 +219,10 @@ def samples():
     recording(
         [7],
         [([0x4065000B, 7, 100, 0, 200, 0x21200000, 0, 1, 2, 0, 3], (4, 0, 0))],
-        after={2: 0x21200000, 9: 1, 10: 0, 11: 6, 16: 0, 17: 1, 26: 2, 29: 0, 30: 3},
+        after={2: 0x21200000, 9: 1, 10: 0, 11: 6, 17: 0, 18: 1, 27: 2, 30: 0, 31: 3},
     )
     # No packets.
-    recording([7], room=89, after={0: 1, 1: 7})
+    recording([7], room=90, after={0: 1, 1: 7})
 
 
 # The counts.
@@ -244,7 +253,7 @@ def gaps():
             total += missing
             packets.append((short_packet(kind, 7, count), (kind, 0, missing)))
         recording(
-            [7], packets, room=89,
+            [7], packets, room=90,
             after=at_places(count_place(kind), [257, total, circle[-1] + 1]),
         )
 
@@ -320,7 +329,7 @@ def counted_apart():
         packets.append((short_packet(1, 0x23, count), (1, 2, missing)))
     after = {**at_places(count_place(1), [4, 15, 4])}
     after.update(at_places(count_place(1, 2), [4, 15, 4]))
-    after.update(at_places(record_place(1), [0x22] + [0] * 87))
+    after.update(at_places(record_place(1), [0x22] + [0] * 88))
     recording([0x21, 0x22, 0x23], packets, after=after)
 
 
@@ -478,7 +487,7 @@ def all_fields():
     others = [word for bit, _ in FIXED for word in other(bit)]
     held = {indicator_place(): HELD_BITS, **at_places(slot_place(30), slots_of(other))}
     tail = [0x00ABCDEF, 1, 7] + lists_of(0, 2) + [8, 9]
-    slots = record_place(0) + 14
+    slots = record_place(0) + 15
     for indicator, words in (
         (FIXED_BITS, all_fixed()),
         (1 << 31 | FIXED_BITS, all_fixed()),
@@ -487,7 +496,7 @@ def all_fields():
     ):
         first = context(indicator, words, identifier=7)
         recording(
-            [7], [(first, (4, 0, 0))], room=89,
+            [7], [(first, (4, 0, 0))], room=90,
             after={indicator_place(): HELD_BITS, **at_places(slots, slots_of(first_held))},
         )
         second = context(FIXED_BITS, others, identifier=7, count=1)
@@ -505,7 +514,7 @@ def all_fields():
 
 
 def over_range_counts():
-    fresh = at_places(1, [7] + [0] * 87)
+    fresh = at_places(1, [7] + [0] * 88)
     once = {**fresh, **at_places(count_place(4), [1, 0, 1])}
     for word in (0, 1, ONES):
         recording([7], [(context(1 << 22, [word], identifier=7), (4, 0, 0))], after=once)
@@ -777,7 +786,7 @@ def refusals():
     for one in every:
         recording([7], begin + [one] + end, after=after)
     recording([7], begin + every + end, after=after)
-    fresh = {0: 1, **at_places(1, [7] + [0] * 87)}
+    fresh = {0: 1, **at_places(1, [7] + [0] * 88)}
     recording([7], every, after=fresh)
     # The refusals of reading before STREAM.
     undeclared = refused_packets(8)
@@ -803,7 +812,7 @@ def refusals():
     recording(
         [0x11, 0x13],
         [(short_packet(kind, identifier, 0), STREAM) for identifier in near for kind in COUNTED],
-        after={2: 0, 3: 0, 90: 0, 91: 0},
+        after={2: 0, 3: 0, 91: 0, 92: 0},
     )
     # The first and the last of the list, and one past it in memory.
     ids = [0x20 + i for i in range(32)]
@@ -817,6 +826,276 @@ def refusals():
             (short_packet(1, 0x30, 1), (1, 16, 0)),
         ],
     )
+
+
+# Spectrum-survey packets, and the choice of each stream.
+
+
+def choices_of_lists():
+    """Choices that are not as many as the identifiers, or neither 0 nor 1."""
+    for ids in ([7], [7, 8], [7, 8, 9], list(range(31)), list(range(32))):
+        n = len(ids)
+        for choice in (0, 1):
+            for number in (0, n - 1, n + 1, n + 2, 40):
+                if number != n:
+                    recording(ids, answer=LIST, choices=[choice] * number)
+            recording(ids, choices=[choice] * n, after={choice_place(n - 1): choice})
+        for wrong in (2, 3, 4, 1 << 8, 1 << 16, 1 << 31, (1 << 31) + 1, ONES, PATTERN):
+            for place in {0, n // 2, n - 1}:
+                choices = [place % 2] * n
+                choices[place] = wrong
+                recording(ids, answer=LIST, choices=choices)
+    # With a list that is refused for its identifiers.
+    for ids in ([], [7, 7], [1, 2, 1], list(range(33)), list(range(40))):
+        n = len(ids)
+        for number in {0, max(n - 1, 0), n, min(n + 1, 40), 32}:
+            recording(ids, answer=LIST, choices=[1] * number, room=MOST_ROOM)
+        recording(ids, answer=LIST, choices=[2] * n, room=MOST_ROOM)
+    # LIST before ROOM, and ROOM with choices that are right.
+    for room in (0, 1, 89, 178):
+        recording([7, 8], answer=LIST, choices=[1], room=room)
+        recording([7, 8], answer=LIST, choices=[1, 0, 1], room=room)
+        recording([7, 8], answer=LIST, choices=[0, 2], room=room)
+        recording([7, 8], answer=ROOM, choices=[1, 0], room=room)
+    recording([7, 8], choices=[1, 0], room=179)
+    recording(range(32), choices=[1] * 32, room=2848, answer=ROOM)
+    # Every place of the list.
+    for place in range(32):
+        for turn in (0, 1):
+            choices = [turn] * 32
+            choices[place] = 1 - turn
+            if turn or place in (0, 1, 16, 30, 31):
+                after = {choice_place(i): choice for i, choice in enumerate(choices)}
+                after.update({record_place(i): 0x900 + i for i in range(32)})
+                packets = [(survey([1], pad=1, identifier=0x900 + place), None)]
+                if place % 8 == 0:
+                    recording(range(0x900, 0x920), packets, choices=choices, after=after)
+
+
+def pad_packets(identifier, count=5):
+    """Packets of type 1 that PAD alone applies to, under the choice 1."""
+    found = []
+    for fault in PAD_FAULTS.values():
+        given = {"body": [1, 2], **fault}
+        found.append((survey(**given, identifier=identifier, count=count), PAD))
+        words = survey(**given, identifier=identifier, count=count, tsi=2, tsf=3)
+        found.append((words + [7], PAD))
+    found += [
+        (short_packet(1, identifier, count), PAD),
+        (packet(1, [1, 2], identifier=identifier, count=count), PAD),
+        (survey([1], high=1 << 24, identifier=identifier, count=count), PAD),
+        (survey([1], high=1 << 26, pad=3, identifier=identifier, count=count), PAD),
+        (survey([1], rc=2, identifier=identifier, count=count), PAD),
+        (survey([1, 2, 3], data=13, identifier=identifier, count=count), PAD),
+        (survey([1, 2], vector=65, identifier=identifier, count=count), PAD),
+        (packet(1, [], c=1, t=1, oui=OUI, classes=0x20110002, identifier=identifier), PAD),
+    ]
+    return found
+
+
+def before_pad(identifier, count=5):
+    """Packets of type 1 that PAD and an earlier refusal apply to."""
+    given = dict(identifier=identifier, count=count)
+    bad = survey([1, 2], data=14, **given)
+    return [
+        (survey([1, 2], data=14, tsf=2, fraction=TERA, **given), TIME),
+        (packet(1, [1], tsf=2, fraction=TERA, **given), TIME),
+        (bad[:-1], CUT),
+        (bad[:2], CUT),
+        (bad[:1], CUT),
+        ([bad[0] - 3] + bad[1:], SHORT),
+        ([0x10000001, identifier], SHORT),
+        ([0x10000000], SHORT),
+        ([bad[0] | 1 << 24] + bad[1:], BITS),
+        ([0x60000000 | bad[0] & 0x0FFFFFFF] + bad[1:], TYPE),
+    ]
+
+
+def survey_by_hand():
+    one = [0x1C000007, 7, 0x00FFFFFA, 0x00130000, 0xABCDEF12, 0x30000000, 0]
+    other = [0x1C000006, 7, 0x40FFFFFA, 0x000A0002, 0x01020300, 0]
+    recording([7], [(one, (1, 0, 0)), (other, (1, 0, 15))], choices=[1], after={3: 2, 4: 15})
+    recording([7], [(one, (1, 0, 0)), (other, CLASS)], choices=[0], after={3: 1, 4: 0})
+    recording([8], [(one, STREAM), (other, CLASS)], choices=[1], after={3: 0, 4: 0})
+
+
+def survey_counts():
+    """Survey packets count as type 1; those that are refused do not."""
+    packets = []
+    for turn, (count, missing) in enumerate(((14, 0), (2, 3), (2, 15), (3, 0), (3, 15), (0, 12))):
+        words = survey(counted(turn), pad=turn, identifier=7, count=count) if turn else survey(
+            [], identifier=7, count=count)
+        packets.append((words, (1, 0, missing)))
+        packets.append(pad_packets(7, count)[turn])
+    recording(
+        [7], packets, choices=[1], after={**at_places(3, [6, 45, 1]), choice_place(): 1},
+    )
+    # All of them, before and after packets that are played.
+    begin = [(short_packet(kind, 7, 3), (kind, 0, 0)) for kind in (3, 4, 5)]
+    begin.append((survey([1], identifier=7, count=3), (1, 0, 0)))
+    end = [(short_packet(kind, 7, 4), (kind, 0, 0)) for kind in (3, 4, 5)]
+    end.append((survey([1], identifier=7, count=4), (1, 0, 0)))
+    after = {}
+    for kind in COUNTED:
+        after.update(at_places(count_place(kind), [2, 0, 5]))
+    refused = pad_packets(7) + before_pad(7)
+    recording([7], begin + refused + end, choices=[1], after=after)
+    fresh = {0: 1, **at_places(1, [7] + [0] * 13 + [1] + [0] * 74)}
+    recording([7], refused, choices=[1], after=fresh)
+    for one in refused:
+        recording([7], begin + [one] + end, choices=[1], after=after)
+    # The same words where the choice is 0: what is left is read plainly.
+    for words, _ in refused:
+        answer, what = vrt49.read(words)
+        meant = what if answer == "refused" else (1, 0, 0)
+        recording([7], [(words, meant)], choices=[0])
+
+
+def survey_kinds():
+    """Each data type, real and complex, under both choices."""
+    for choices in ([1, 0], [0, 1]):
+        packets = []
+        for data, item in ITEM_BITS.items():
+            for rc in (0, 1):
+                n = (item * (1 + rc) + 31) // 32
+                pad = 32 * n - item * (1 + rc)
+                for stream in (0, 1):
+                    words = survey(counted(n), pad, data, rc, identifier=7 + stream)
+                    packets.append((words, None if choices[stream] or not pad else CLASS))
+                    words = survey(counted(n), 0, data, rc, identifier=7 + stream)
+                    right = not choices[stream] or whole(n, 0, data, rc, 1)
+                    packets.append((words, None if right else PAD))
+        recording([7, 8], packets, choices=choices)
+
+
+def survey_others():
+    """The choice governs type 1 of a declared stream: other types, and packets of no
+    declared stream, are plain."""
+    oui, classes = survey_class()
+    padded, _ = survey_class(pad=8)
+    for choices in ([1, 1], [0, 0], [1, 0], [0, 1]):
+        packets = []
+        for kind in (3, 4, 5):
+            body = [0] if kind == 4 else [1, 2]
+            for stream in (0, 1):
+                given = dict(c=1, classes=classes, identifier=7 + stream)
+                packets.append((packet(kind, body, oui=oui, **given), None))
+                packets.append((packet(kind, body, oui=padded, **given), CLASS))
+                packets.append((packet(kind, body, identifier=7 + stream), None))
+                packets.append((packet(kind, body, oui=0x123456, **given), None))
+                if kind == 3:
+                    packets.append((packet(kind, body, oui=padded, t=1, **given), CLASS))
+                    packets.append((packet(kind, body, oui=oui, t=1, **given), None))
+        packets += [
+            (context(0x00000001, identifier=7), INDICATOR),
+            (context(1 << 30, identifier=7), LAYOUT),
+            (context(1 << 24, [1 << 16], identifier=8), FIELD),
+        ]
+        for kind in (0, 2):
+            given = dict(c=1, t=1, classes=classes)
+            packets.append((packet(kind, [7, 8], oui=oui, **given), STREAM))
+            packets.append((packet(kind, [7, 8], oui=padded, **given), CLASS))
+        for identifier in (6, 9, 7 | 1 << 31, 0, ONES, PATTERN):
+            given = dict(identifier=identifier)
+            packets += [
+                (survey([1, 2], **given), STREAM),
+                (survey([1, 2], pad=8, **given), CLASS),
+                (survey([1, 2], high=1 << 26, **given), CLASS),
+                (survey([1, 2], data=15, **given), STREAM),
+                (survey([1, 2, 3], data=13, **given), STREAM),
+                (survey([1, 2], t=0, **given), STREAM),
+                (survey([1, 2], c=0, **given), STREAM),
+                (survey([1, 2], pad=8, t=0, **given), CLASS),
+                (survey([1, 2], pad=8, tsf=2, fraction=TERA, **given), CLASS),
+                (survey([1, 2], tsf=2, fraction=TERA, **given), TIME),
+            ]
+        recording([7, 8], packets, choices=choices)
+    # The word of an identifier that is not there, or is another part.
+    recording(
+        [8, 7], [([0x10000001], SHORT), ([0x1C000005], CUT), ([0x1C000005, 7], CUT),
+                 (survey([1], pad=1, identifier=7), (1, 1, 0))], choices=[0, 1],
+    )
+
+
+def survey_mixed():
+    """Lists of both choices: each stream is sent a survey packet with a pad count, one
+    without, and a plain packet."""
+    for n, turn in ((2, 0), (2, 1), (3, 0), (5, 1), (32, 0), (32, 1)):
+        ids = [0x4900 + 3 * i for i in range(n)]
+        choices = [(i + turn) % 2 for i in range(n)]
+        if n == 32 and turn:
+            choices = [i % 3 == 0 for i in range(n)]
+            choices = [int(choice) for choice in choices]
+        packets, after = [], {}
+        for stream, (identifier, choice) in enumerate(zip(ids, choices)):
+            sent = (
+                (survey([1], pad=1, identifier=identifier), choice == 1, CLASS),
+                (survey([1], identifier=identifier, count=1), True, None),
+                (packet(1, [1], identifier=identifier, count=2), choice == 0, PAD),
+            )
+            for words, right, number in sent:
+                packets.append((words, None if right else number))
+            last = 2 if choice else 3
+            after.update(at_places(count_place(1, stream), [2, 0, last]))
+            after[choice_place(stream)] = choice
+        recording(ids, packets, choices=choices, after=after)
+    # A walk over two streams in turn, with context between.
+    packets = []
+    for turn in range(8):
+        packets += [
+            (survey([turn], pad=turn, identifier=7, count=turn), (1, 0, 0)),
+            (packet(1, [turn], identifier=8, count=turn), (1, 1, 0)),
+            (context(1 << 23, [turn], identifier=7, count=turn), (4, 0, 0)),
+        ]
+    packets.insert(10, (packet(1, [7], identifier=7, count=9), PAD))
+    packets.insert(15, (survey([7], pad=9, identifier=8, count=9), CLASS))
+    packets.insert(20, (survey([7], identifier=9, count=9), STREAM))
+    recording([7, 8], packets, choices=[1, 0])
+
+
+def long_surveys():
+    recording(
+        [8, 9],
+        [
+            (survey(counted(2048), vector=65536, identifier=9, count=4), (1, 1, 0)),
+            (survey(counted(2047), vector=65536, identifier=9, count=5), PAD),
+            (survey(counted(130), pad=16, data=3, vector=5, identifier=9, count=5), PAD),
+            (survey(counted(130), pad=0, data=5, rc=1, vector=5, identifier=9, count=5), PAD),
+            (survey(counted(140), pad=0, data=5, rc=1, vector=7, identifier=9, count=5), (1, 1, 0)),
+        ],
+        choices=[0, 1],
+    )
+
+
+def wrong_choices():
+    for wrong in (2, 3, 4, 1 << 8, 1 << 16, 1 << 31, (1 << 31) + 1, ONES, PATTERN):
+        not_made({choice_place(): wrong}, "choice")
+        for stream in range(3):
+            not_made({choice_place(stream): wrong}, "choice", ids=(7, 8, 9))
+    not_made({choice_place(31): 2}, "choice", ids=range(32), probe=0)
+    not_made({choice_place(30): ONES}, "choice", ids=range(32), probe=0)
+    not_made({choice_place(): 2, count_place(1) + 2: 17}, "choice", "last")
+    # Of a table that is otherwise full.
+    fields = at_places(slot_place(30), slots_of(first_held))
+    stores = {**START_4, indicator_place(): HELD_BITS, **fields}
+    not_made({**stores, choice_place(): 2}, "choice")
+    # A word past the records.
+    neighbour({choice_place(1): 2}, "choice", room=200)
+    # The other choice: packets are then read by it.
+    for before in (0, 1):
+        after = {choice_place(): 1 - before}
+        padded = survey([1], pad=1, identifier=7)
+        bare = short_packet(1, 7, 0)
+        meant = [(padded, CLASS), (bare, (1, 0, 0))] if before else [
+            (padded, (1, 0, 0)), (bare, PAD)]
+        recording([7], meant, choices=[before], stores=after, beside="choice", after=after)
+        for full in (stores, {**stores, choice_place(): 1 - before}):
+            again = 1 - before if choice_place() in full else before
+            words = padded if again else bare
+            recording(
+                [7], [(words, (1, 0, 0))], choices=[before], stores=full, beside="choice",
+                after={choice_place(): again, **fields},
+            )
 
 
 # Tables that are not well made, and their neighbours that are.
@@ -834,19 +1113,23 @@ def probes(identifier):
         *[words for words, _ in refused_packets(identifier)[::5]],
         short_packet(3, 0x0BADBAD0, 0),
         packet(0, [identifier]),
+        survey([1], identifier=identifier, pad=1),
+        survey([1], identifier=identifier, t=0),
     ]
 
 
 def not_made(stores, *broken, ids=(7,), probe=None, **rest):
-    """A table that breaks these rules."""
+    """A table that breaks these rules, the choices of its streams now these and now
+    those."""
     words = probes(ids[-1] if probe is None else probe)
     # All the probes in every eighth recording, two of them in the others.
     turn = len(recordings)
     if turn % 8:
         words = [words[turn % 2], words[turn % len(words)]]
+    choices = [(turn >> i % 4) % 2 for i in range(len(ids))]
     recording(
         ids, [(one, TABLE) for one in words], stores=stores, broken=broken,
-        after=dict(stores), **rest,
+        after=dict(stores), choices=choices, **rest,
     )
 
 
@@ -869,7 +1152,12 @@ def every_refusal_after_table():
         [7], [(words, TABLE) for words, _ in packets], stores=stores, broken=("last",),
         after=stores,
     )
-    for _, number in packets:
+    refused = pad_packets(7)
+    recording(
+        [7], [(words, TABLE) for words, _ in refused], stores=stores, broken=("last",),
+        after=stores, choices=[1],
+    )
+    for _, number in packets + refused:
         both_faults.add((TABLE, number))
 
 
@@ -886,11 +1174,13 @@ def wrong_numbers():
         1 << 29, (1 << 29) + 1, (1 << 29) + 2, 3 << 29, 0x101, 0x10001, (1 << 31) + 1,
     ):
         not_made({0: number}, "layout", "number")
+    for words in (1, 2, 3, 88):
+        not_made({0: words * pow(89, -1, 1 << 32) % (1 << 32)}, "layout", "number")
     # A smaller number, the words past its records being what they may.
     neighbour({0: 1}, "number", ids=(7, 8))
     neighbour({0: 2}, "number", ids=(7, 8, 9), stream=1)
     neighbour({0: 31}, "number", ids=range(32), stream=30)
-    wild = {0: 1, **at_places(89, [7, ONES, 1, 2, 0, 5, 6, 17])}
+    wild = {0: 1, **at_places(90, [7, ONES, 1, 2, 0, 5, 6, 17])}
     neighbour(wild, "number", ids=(7, 8))
     recording(
         [7, 8], [(short_packet(1, 8, 6), STREAM), (short_packet(1, 7, 6), (1, 0, 0))],
@@ -900,23 +1190,23 @@ def wrong_numbers():
 
 def wrong_layouts():
     # Two records where the words of one are, and then those of both but one.
-    not_made({0: 2}, "layout", room=89)
+    not_made({0: 2}, "layout", room=90)
     not_made({0: 32}, "layout")
-    zeros = at_places(89, [8] + [0] * 87)
-    short = {place: word for place, word in zeros.items() if place < 176}
-    not_made({0: 2, **short}, "layout", room=176)
-    neighbour({0: 2, **zeros}, "layout", room=177)
-    neighbour({0: 2, **zeros}, "layout", room=178)
+    zeros = at_places(90, [8] + [0] * 88)
+    short = {place: word for place, word in zeros.items() if place < 178}
+    not_made({0: 2, **short}, "layout", room=178)
+    neighbour({0: 2, **zeros}, "layout", room=179)
+    neighbour({0: 2, **zeros}, "layout", room=180)
     recording(
         [7], [(short_packet(1, 8, 6), (1, 1, 0)), (short_packet(1, 7, 6), (1, 0, 0))],
-        stores={0: 2, **zeros}, room=177, beside="layout",
-        after={0: 2, **at_places(91, [1, 0, 7])},
+        stores={0: 2, **zeros}, room=179, beside="layout",
+        after={0: 2, **at_places(92, [1, 0, 7])},
     )
-    not_made({0: 3}, "layout", ids=(7, 8), room=264)
+    not_made({0: 3}, "layout", ids=(7, 8), room=267)
     # The whole of a second record, but of words that were not stored.
-    broken = ("indicator", "unheld", "field", "state", "last")
-    not_made({0: 2}, *broken, room=177, probe=PATTERN)
-    neighbour({89: 7, 90: ONES}, "layout", room=177)
+    broken = ("choice", "indicator", "unheld", "field", "state", "last")
+    not_made({0: 2}, *broken, room=179, probe=PATTERN)
+    neighbour({90: 7, 91: ONES}, "layout", room=179)
 
 
 def wrong_lists():
@@ -986,7 +1276,7 @@ def wrong_unheld():
     everything = {**START_4, indicator_place(): HELD_BITS, **fields}
     neighbour(everything, "unheld", after={indicator_place(): HELD_BITS, **fields})
     # Field 10's word is the layout's last; the word past it is free.
-    neighbour({89: 5}, "unheld", after={88: 0})
+    neighbour({90: 5}, "unheld", after={89: 0})
 
 
 # For each field with a rule, words that break it and words just within it.
@@ -1172,17 +1462,24 @@ def random_ids(numbers, n):
     return found
 
 
-def random_play(numbers, ids, chance):
+def random_play(numbers, ids, chance, choices=None):
     """A packet of one of the streams, or one with no identifier; with a chance of
     one in so many it is of another identifier, or damaged, or followed by other
-    words, and with a smaller one there are no words."""
+    words, and with a smaller one there are no words.  Of type 1 it is mostly read as
+    its stream's choice says."""
     if numbers.below(10 * chance) == 0:
         return []
     words = random_packet(numbers)
     while words[0] >> 28 in (0, 2) and numbers.below(3):
         words = random_packet(numbers)
     if words[0] >> 28 in COUNTED:
-        words[1] = ids[numbers.below(len(ids))]
+        stream = numbers.below(len(ids))
+        if choices is not None and words[0] >> 28 == 1:
+            if numbers.below(chance) != 0 and choices[stream] == 1:
+                words = random_survey(numbers)
+            elif numbers.below(chance) == 0:
+                words = random_survey(numbers)
+        words[1] = ids[stream]
         if numbers.below(chance) == 0:
             words[1] ^= 1 << numbers.below(32)
     if numbers.below(chance) == 0:
@@ -1196,13 +1493,15 @@ def random_recordings():
     numbers = Numbers(4949)
     for n in range(1, 33):
         ids = random_ids(numbers, n)
-        packets = [(random_play(numbers, ids, 10), None) for _ in range(12 + 2 * n)]
-        recording(ids, packets, room=1 + 88 * n + numbers.below(3))
+        choices = [numbers.below(2) for _ in ids]
+        packets = [(random_play(numbers, ids, 10, choices), None) for _ in range(12 + 2 * n)]
+        recording(ids, packets, room=1 + 89 * n + numbers.below(3), choices=choices)
     for _ in range(24):
         n = 1 + numbers.below(4)
         ids = random_ids(numbers, n)
-        packets = [(random_play(numbers, ids, 6), None) for _ in range(40)]
-        recording(ids, packets, room=1 + 88 * n + numbers.below(90))
+        choices = [numbers.below(2) for _ in ids]
+        packets = [(random_play(numbers, ids, 6, choices), None) for _ in range(40)]
+        recording(ids, packets, room=1 + 89 * n + numbers.below(90), choices=choices)
     # A stream as a receiver sends it: data in order with a loss now and then, and
     # context of a few fields.
     for _ in range(6):
@@ -1225,11 +1524,13 @@ def random_recordings():
         ids = random_ids(numbers, n)
         stores = random_stores(numbers, n)
         if turn % 2:
-            place = numbers.below(1 + 88 * n)
+            place = numbers.below(1 + 89 * n)
             word = (numbers.below(20), 1 << numbers.below(32), numbers.word())[numbers.below(3)]
             stores[place] = word
-        packets = [(random_play(numbers, ids, 6), None) for _ in range(8)]
-        recording(ids, packets, stores=stores, broken=None if turn % 2 else ())
+        choices = [numbers.below(2) for _ in ids]
+        packets = [(random_play(numbers, ids, 6, choices), None) for _ in range(8)]
+        broken = None if turn % 2 else ()
+        recording(ids, packets, stores=stores, broken=broken, choices=choices)
 
 
 def random_few(numbers):
@@ -1341,6 +1642,7 @@ class Coverage:
         self.beside = {}
         self.past_2_32 = set()
         self.no_identifier = set()
+        self.choices = set()
 
     def add(self, label):
         self.tally[label] = self.tally.get(label, 0) + 1
@@ -1405,15 +1707,31 @@ def note_state(cover, old, word):
         cover.states.add("0 first" if old is None else "0 again")
 
 
+def note_choice(cover, lent, words, answer):
+    """What a packet covers, by the choice of the stream that it names."""
+    if len(words) < 4 or not words[0] >> 27 & 1:
+        return
+    kind = words[0] >> 28
+    place = 2 if kind in COUNTED else 1
+    choice = "undeclared"
+    for stream in range(lent[0]):
+        if kind in COUNTED and lent[record_place(stream)] == words[1]:
+            choice = lent[choice_place(stream)]
+    said = "played" if answer[0] == "played" else answer[1]
+    padded = "pad" if words[place] >> 27 else "no pad"
+    if words[place] & 0x07FFFFFF == OUI:
+        cover.choices.add((choice, kind, padded, said))
+
+
 def of_recording(k, one, cover):
     """The words of a recording in the input, and its lines."""
-    if one.room > MOST_ROOM or len(one.ids) > MOST_STREAMS:
+    if one.room > MOST_ROOM or max(len(one.ids), len(one.choices)) > MOST_STREAMS:
         sys.exit(f"recording {k} has a room or a list that is too large")
     if len(one.stores) > MOST_STORES or len(one.packets) > MOST_PACKETS:
         sys.exit(f"recording {k} has too many stores or packets")
     if len({place for place, _ in one.stores}) != len(one.stores):
         sys.exit(f"recording {k} stores twice at one place")
-    given = [one.room, len(one.ids), *one.ids, len(one.stores)]
+    given = [one.room, len(one.ids), *one.ids, len(one.choices), *one.choices, len(one.stores)]
     for place, word in one.stores:
         if place >= one.room:
             sys.exit(f"recording {k} stores past its room")
@@ -1424,12 +1742,16 @@ def of_recording(k, one, cover):
             sys.exit(f"recording {k} has a packet of over {MOST_WORDS} words")
         given += [len(words), *words]
     untouched = [PATTERN] * one.room
-    (answer, what), lent = table.start_lent(one.ids, untouched)
+    (answer, what), lent = table.start_lent(one.ids, one.choices, untouched)
     number = what if answer == "refused" else STARTED
     if number != one.answer:
         sys.exit(f"recording {k} is built for {one.answer}, the reference says {number}")
     cover.starts.add((number, "S", len(one.ids)))
-    cover.starts.add((number, "room", one.room - (1 + 88 * len(one.ids))))
+    cover.starts.add((number, "room", one.room - (1 + 89 * len(one.ids))))
+    right_ids = 1 <= len(one.ids) <= 32 and len(set(one.ids)) == len(one.ids)
+    cover.starts.add((number, right_ids, "more choices", len(one.choices) - len(one.ids)))
+    for choice in set(one.choices):
+        cover.starts.add((number, right_ids, "choice", choice))
     if number != STARTED:
         if lent != untouched:
             sys.exit(f"recording {k} is refused and has written")
@@ -1437,9 +1759,10 @@ def of_recording(k, one, cover):
         return given, [f"{k} refused {number}", f"  past {sum(lent) % 2**32}"]
     cover.add("started")
     length = what
-    if length != 1 + 88 * len(one.ids) or lent[length:] != untouched[length:]:
+    if length != 1 + 89 * len(one.ids) or lent[length:] != untouched[length:]:
         sys.exit(f"recording {k} has a layout of {length} words")
-    if table.broken_rules(lent) or sum(lent[:length]) != len(one.ids) + sum(one.ids):
+    listed = len(one.ids) + sum(one.ids) + sum(one.choices)
+    if table.broken_rules(lent) or sum(lent[:length]) != listed:
         sys.exit(f"recording {k} does not start well made, or not with zeros")
     for place, word in one.stores:
         lent[place] = word
@@ -1459,6 +1782,8 @@ def of_recording(k, one, cover):
     for j, (words, meant) in enumerate(one.packets):
         before = lent
         answer, lent = table.play_lent(before, words)
+        if not broken:
+            note_choice(cover, before, words, answer)
         if answer[0] == "refused":
             number = answer[1]
             if lent != before:
@@ -1475,7 +1800,7 @@ def of_recording(k, one, cover):
             sys.exit(f"recording {k} packet {j} is meant for {meant}, not {answer}")
         if not table.well_made(lent) or lent[0] != first[0] or size != words[0] & 0xFFFF:
             sys.exit(f"recording {k} packet {j} has a wrong size or leaves a broken table")
-        found = vrt49.read(words)[1]
+        found = vrt49.packet_of(words)
         played.append((stream, found, words))
         cover.add(f"played type {kind}")
         note_played(cover, before, lent, found, stream)
@@ -1513,10 +1838,18 @@ def build():
     other_parts()
     long_packets()
     refusals()
+    choices_of_lists()
+    survey_by_hand()
+    survey_counts()
+    survey_kinds()
+    survey_others()
+    survey_mixed()
+    long_surveys()
     every_refusal_after_table()
     wrong_numbers()
     wrong_layouts()
     wrong_lists()
+    wrong_choices()
     wrong_indicators()
     wrong_unheld()
     wrong_fields()
@@ -1533,7 +1866,7 @@ LEAST = {
     f"start refused {ROOM}": 12,
     "not well made": 25,
     **{f"played type {kind}": 300 for kind in COUNTED},
-    **{f"play refused {number}": 12 for number in (*READ_ORDER, STREAM, TABLE)},
+    **{f"play refused {number}": 12 for number in (*READ_ORDER, PAD, STREAM, TABLE)},
 }
 
 RULES = [name for name, _ in table.RULES_OF_WORDS + table.RULES_OF_RECORDS]
@@ -1553,7 +1886,7 @@ def check(cover):
         fail(found < n, f"{label}: {found} cases, fewer than {n}")
     # Where there are no words STREAM has nothing to apply to.
     pairs = [(number, STREAM) for number in READ_ORDER if number != EMPTY]
-    pairs += [(TABLE, number) for number in (*READ_ORDER, STREAM)]
+    pairs += [(TABLE, number) for number in (*READ_ORDER, PAD, STREAM)]
     for wanted, found in (
         ("streams", cover.streams == set(range(1, 33))),
         ("first counts", len(cover.firsts) == 4 * 16),
@@ -1581,8 +1914,26 @@ def check(cover):
         (STARTED, "S", 1), (STARTED, "S", 32), (ROOM, "S", 1), (ROOM, "S", 32),
         (STARTED, "room", 0), (STARTED, "room", 1), (ROOM, "room", -1), (LIST, "room", -1),
         (LIST, "room", 0),
+        *[(LIST, True, "more choices", more) for more in (-1, 1)],
+        *[(LIST, right, "choice", choice) for right in (True, False) for choice in (2, 1)],
+        (LIST, True, "choice", 3), (LIST, True, "choice", ONES), (LIST, False, "more choices", 1),
+        (LIST, False, "more choices", 0), (STARTED, True, "choice", 1),
+        (STARTED, True, "choice", 0), (ROOM, True, "choice", 1),
     ):
         fail(edge not in cover.starts, f"no case at the edge {edge}")
+    for edge in (
+        (1, 1, "pad", "played"), (1, 1, "no pad", "played"), (1, 1, "pad", PAD),
+        (1, 1, "no pad", PAD), (1, 1, "no pad", TIME), (1, 1, "no pad", CUT),
+        (1, 1, "no pad", SHORT), (1, 1, "no pad", BITS),
+        (0, 1, "pad", CLASS), (0, 1, "no pad", "played"),
+        ("undeclared", 1, "pad", CLASS), ("undeclared", 1, "no pad", STREAM),
+        ("undeclared", 0, "pad", CLASS), ("undeclared", 0, "no pad", STREAM),
+        *[(choice, kind, "pad", CLASS) for choice in (0, 1) for kind in (3, 4, 5)],
+        *[(choice, kind, "no pad", "played") for choice in (0, 1) for kind in (3, 4, 5)],
+    ):
+        fail(edge not in cover.choices, f"no packet at the edge {edge}")
+    for edge in ((1, 1, "pad", CLASS), (0, 1, "pad", "played"), (0, 1, "no pad", PAD)):
+        fail(edge in cover.choices, f"a packet at {edge}")
     for name in RULES:
         fail(cover.broken.get((name,), 0) < 2, f"rule {name}: fewer than 2 break it alone")
         fail(cover.beside.get(name, 0) < 2, f"rule {name}: fewer than 2 are beside it")
@@ -1602,8 +1953,8 @@ def main():
         expected += lines
     check(cover)
     text = "".join(line + "\n" for line in expected)
-    fail(len(given) > 650_000, f"the input has {len(given)} bytes, more than 650,000")
-    fail(len(text) > 1_000_000, f"the output has {len(text)} bytes, more than 1,000,000")
+    fail(len(given) > 845_000, f"the input has {len(given)} bytes, more than 845,000")
+    fail(len(text) > 1_300_000, f"the output has {len(text)} bytes, more than 1,300,000")
     with open(sys.argv[1], "wb") as file:
         file.write(given)
     with open(sys.argv[2], "w", encoding="ascii", newline="\n") as file:

@@ -11,8 +11,11 @@ import sys
 
 sys.dont_write_bytecode = True
 
+import payload
 import vrt49
-from vrt49 import BITS, CLASS, CUT, EMPTY, FIELD, INDICATOR, LAYOUT, SHORT, TIME, TYPE
+from vrt49 import (
+    BITS, CLASS, CUT, EMPTY, FIELD, INDICATOR, LAYOUT, PAD, SHORT, TIME, TYPE,
+)
 
 ACCEPTED = 0
 ONES = 0xFFFFFFFF
@@ -34,14 +37,23 @@ FIXED_BITS = 0x7FFFFC00
 # A format word whose rule is kept: link-efficient, complex, 16-bit signed.
 FORMAT = 0xA00003CF
 
+# The two ways to read.
+PLAIN = 0
+SURVEY = 1
+
 cases = []
 
 
-def case(words, answer=None):
+def case(words, answer=None, way=PLAIN):
     """One case, with the answer it is built for, if it is built for one."""
     for word in words:
         assert 0 <= word <= ONES
-    cases.append((list(words), answer))
+    cases.append((way, list(words), answer))
+
+
+def survey_case(words, answer=None):
+    """The same, to be read as a survey packet."""
+    case(words, answer, SURVEY)
 
 
 def packet(
@@ -818,10 +830,453 @@ def random_cases():
     no_words()
 
 
+# Spectrum-survey packets: C-13 of document 02, and table 4-4 and table 4-5 of source
+# document 004.
+
+OUI = 0x00FFFFFA
+
+# The bits of an item of each data type.
+ITEM_BITS = {
+    1: 4, 2: 8, 3: 16, 4: 32, 5: 64, 6: 32, 7: 64, 8: 1, 9: 4, 10: 8, 11: 16, 12: 32, 13: 64,
+}
+
+
+def survey_class(pad=0, data=8, rc=0, vector=1, high=0, low=0):
+    """The two words of a class; high and low name bits to be turned over besides."""
+    return (pad << 27 | OUI) ^ high, (rc << 20 | data << 16 | vector - 1) ^ low
+
+
+def survey(body=(), pad=0, data=8, rc=0, vector=1, high=0, low=0, c=1, t=1, **rest):
+    """A survey packet of type 1."""
+    oui, classes = survey_class(pad, data, rc, vector, high, low)
+    return packet(1, body, c=c, t=t, oui=oui, classes=classes, **rest)
+
+
+def has_survey_class(words):
+    """Whether words have the OUI of a survey packet where type 1 has its class."""
+    return len(words) > 3 and words[0] >> 28 == 1 and words[2] & 0x00FFFFFF == OUI
+
+
+def whole(n, pad, data, rc, vector):
+    """Whether n words, without the pad bits, are whole vectors."""
+    left = 32 * n - pad
+    return left >= 0 and left % (ITEM_BITS[data] * (1 + rc) * vector) == 0
+
+
+def sized(n, pad=0, data=8, rc=0, vector=1, **rest):
+    """A survey packet with a payload of n words, asked both ways; what is in the pad
+    bits is free."""
+    words = survey(counted(n, 0x5A5A0001), pad, data, rc, vector, **rest)
+    survey_case(words, ACCEPTED if whole(n, pad, data, rc, vector) else PAD)
+    case(words, CLASS if pad > 0 else ACCEPTED)
+
+
+# Two packets worked out by hand, each with its pad count, format and n, and with what it
+# is answered when it is read plainly.
+HANDS = (
+    (
+        (0x1C000007, 7, 0x00FFFFFA, 0x00130000, 0xABCDEF12, 0x30000000, 0),
+        (0, 0x200003CF, 0, 4),
+        ACCEPTED,
+    ),
+    (
+        (0x1C000006, 7, 0x40FFFFFA, 0x000A0002, 0x01020300, 0),
+        (8, 0x100001C7, 2, 3),
+        CLASS,
+    ),
+)
+
+
+def by_hand():
+    for words, _, plain_answer in HANDS:
+        survey_case(words, ACCEPTED)
+        case(words, plain_answer)
+
+
+def survey_vectors():
+    """Every data type, real and complex, in vectors of 1, 2, 3 and 7, with 0, 1, 2 and
+    5 of them, and the same payload with another pad count, or a word more."""
+    step = 0
+    for data, item in ITEM_BITS.items():
+        for rc in (0, 1):
+            for vector in (1, 2, 3, 7):
+                for vectors in (0, 1, 2, 5):
+                    length = item * (1 + rc) * vector * vectors
+                    n = (length + 31) // 32
+                    pad = 32 * n - length
+                    words = survey(
+                        counted(n, step << 8), pad, data, rc, vector, count=step % 16,
+                        tsi=step % 4, tsf=step // 4 % 4, trailer=0x5A5A0000 + step,
+                    )
+                    survey_case(words, ACCEPTED)
+                    other = (pad + 1 + step % 31) % 32
+                    more = step % 2
+                    sized(n + more, other, data, rc, vector)
+                    step += 1
+
+
+def pad_counts():
+    for pad in range(32):
+        # Every pad count leaves whole items of one bit.
+        sized(1, pad)
+        sized(2, pad)
+        sized(1, pad, rc=1)
+        sized(1, pad, vector=3)
+        for data in (9, 10, 11, 12, 13):
+            sized(2, pad, data)
+    # An empty payload.
+    for data in ITEM_BITS:
+        for rc in (0, 1):
+            sized(0, 0, data, rc)
+            sized(0, 1, data, rc, 2)
+    for pad in (4, 8, 16, 31):
+        sized(0, pad, 2)
+    # 64-bit items in an odd number of words, whatever the pad count.
+    for data in (5, 7, 13):
+        for n in (1, 2, 3, 4):
+            sized(n, 0, data)
+            sized(n, 0, data, 1)
+            sized(n, 31, data)
+        sized(3, 16, data)
+    # The largest vectors.
+    sized(0, 0, 5, 1, 65536)
+    sized(0, 1, 5, 1, 65536)
+    for n in (1, 2, 4, 64):
+        sized(n, 0, 5, 1, 65536)
+        sized(n, 0, 13, 0, 65535)
+    for n in (2047, 2048, 2049):
+        sized(n, 0, 8, 0, 65536)
+    sized(2048, 1, 8, 0, 65536)
+    sized(2048, 1, 8, 0, 65535)
+    sized(1, 0, 8, 0, 32)
+    sized(1, 0, 8, 0, 33)
+    # More words than are laid out item by item.
+    for n in (63, 64, 65, 66, 130):
+        sized(n, 0, 3, 1, 3)
+        sized(n, 16, 3, 0, 3)
+        sized(n, 0, 7, 0, 5)
+
+
+def class_bits():
+    """Each bit of the class that is fixed or reserved, alone."""
+    for bit in range(27):
+        words = survey([1, 2], high=1 << bit)
+        survey_case(words, PAD)
+        case(words, CLASS if bit >= 24 else ACCEPTED)
+        survey_case(survey([1, 2], pad=5, high=1 << bit), PAD)
+    for bit in range(22, 32):
+        words = survey([1, 2], low=1 << bit)
+        survey_case(words, PAD)
+        case(words, ACCEPTED)
+        survey_case(survey([], low=1 << bit), PAD)
+    for oui in (0, 0x00FFFFFB, 0x00FFFFFF, 0x00FFFEFA, 0x007FFFFA, 0x00123456):
+        survey_case(survey([1, 2], high=OUI ^ oui), PAD)
+    for rc in range(4):
+        for data in (0, 1, 8, 13, 14, 15):
+            right = rc < 2 and data in ITEM_BITS
+            for body in ([], [1, 2]):
+                words = survey(body, data=data, rc=rc)
+                survey_case(words, ACCEPTED if right and whole(len(body), 0, data, rc, 1) else PAD)
+                case(words, ACCEPTED)
+    for data in range(16):
+        survey_case(survey([1, 2, 3, 4], data=data), ACCEPTED if data in ITEM_BITS else PAD)
+    # The class of the No Data packet, FF-FF-FA:2011.0002.
+    no_data = packet(1, [], c=1, t=1, oui=OUI, classes=0x20110002)
+    survey_case(no_data, PAD)
+    case(no_data, ACCEPTED)
+    # The pad count is five bits; the bit below it is reserved.
+    survey_case(survey([1], pad=1), ACCEPTED)
+    survey_case(survey([1], pad=0, high=1 << 26), PAD)
+    survey_case(survey([1], pad=16), ACCEPTED)
+
+
+def absent():
+    """No class, no trailer, and neither."""
+    for c, t in ((0, 0), (0, 1), (1, 0), (1, 1)):
+        for tsi, tsf in ((0, 0), (1, 2), (3, 3)):
+            for body in ([], [1], [1, 2]):
+                words = survey(body, c=c, t=t, tsi=tsi, tsf=tsf)
+                survey_case(words, ACCEPTED if c and t else PAD)
+                case(words, ACCEPTED)
+    # Words that would be a class, or a trailer.
+    survey_case(packet(1, [*survey_class(), 1], t=1), PAD)
+    survey_case(survey([1, 0], t=0), PAD)
+    survey_case(survey([1], pad=9, t=0), PAD)
+
+
+# A survey packet for each reason to refuse it with PAD.
+PAD_FAULTS = {
+    "class absent": dict(c=0),
+    "trailer absent": dict(t=0),
+    "class does not fit": dict(low=1 << 31),
+    "data type": dict(data=14),
+    "negative": dict(body=[], pad=7),
+    "not whole": dict(pad=1, data=10),
+}
+
+
+def survey_order():
+    for fault in PAD_FAULTS.values():
+        given = {"body": [1, 2], **fault}
+        right = survey(**given, tsi=1, tsf=2)
+        survey_case(right, PAD)
+        survey_case(right + [ONES], PAD)
+        # TIME before PAD.
+        for fraction in (TERA, (1 << 64) - 1):
+            survey_case(survey(**given, tsf=2, fraction=fraction), TIME)
+        survey_case(survey(**given, tsf=3, fraction=TERA), PAD)
+        survey_case(survey(**given, tsf=2, fraction=TERA - 1), PAD)
+        # CUT before PAD, and before TIME.
+        survey_case(right[:-1], CUT)
+        survey_case(right[:1], CUT)
+        survey_case([right[0] + 1] + right[1:], CUT)
+        survey_case(survey(**given, tsf=2, fraction=TERA)[:-1], CUT)
+        # SHORT before PAD, the parts being those that the header says.
+        required = len(right) - len(given["body"])
+        survey_case([(right[0] >> 16 << 16) + required - 1] + right[1:], SHORT)
+        survey_case([right[0] >> 16 << 16] + right[1:], SHORT)
+        # BITS and TYPE before PAD.
+        for bit in (24, 25):
+            survey_case([right[0] | 1 << bit] + right[1:], BITS)
+        survey_case([0x60000000 | right[0] & 0x0FFFFFFF] + right[1:], TYPE)
+        # CLASS is not given, with any of the top eight bits of the class.
+        for bit in (24, 27, 31):
+            words = survey(**{**given, "high": 1 << bit})
+            survey_case(words)
+            case(words, CLASS if given.get("c", 1) and words[2] >> 24 else ACCEPTED)
+    # TIME, and nothing else wrong.
+    survey_case(survey([1, 2], pad=3, tsf=2, fraction=TERA), TIME)
+    survey_case(survey([1, 2], pad=3, tsf=2, fraction=TERA - 1), ACCEPTED)
+    survey_case(survey([1, 2], pad=3, tsf=1, fraction=TERA), ACCEPTED)
+    survey_case(survey([1, 2], pad=3)[:-1], CUT)
+    survey_case([0x1C000004, 7, OUI, 0x00080000, 0], SHORT)
+    survey_case([0x1C000005, 7, OUI, 0x00080000, 0], ACCEPTED)
+
+
+def survey_free():
+    """What is free: identifier, trailer, time, and what lies in the pad bits."""
+    for identifier in (0, 1, 0x7FFFFFFF, 0x80000000, ONES):
+        survey_case(survey([1], identifier=identifier), ACCEPTED)
+    for trailer in (0, ONES, 1 << 31, 0x00000080, 0x12345678):
+        survey_case(survey([1], pad=7, trailer=trailer), ACCEPTED)
+    for tsi in range(4):
+        for tsf in range(4):
+            survey_case(survey([1, 2], tsi=tsi, tsf=tsf, pad=tsi), ACCEPTED)
+    for word in (0, ONES, 0x0000FFFF):
+        survey_case(survey([word], pad=16, data=3), ACCEPTED)
+    survey_case(survey([1], pad=31) + [ONES, ONES], ACCEPTED)
+
+
+def other_types():
+    """The choice governs type 1 alone: the class of a survey packet in the other
+    types, with a pad count and without."""
+    for kind in (0, 2, 3, 4, 5):
+        body = [0] if kind == 4 else [1, 2]
+        t = 1 if kind in DATA_TYPES else 0
+        for pad in (0, 1, 8, 31):
+            oui, classes = survey_class(pad)
+            words = packet(kind, body, c=1, t=t, oui=oui, classes=classes)
+            for way in (PLAIN, SURVEY):
+                case(words, CLASS if pad else ACCEPTED, way)
+        for high in (1 << 24, 1 << 26, 1 << 27, 1 << 31, ONES ^ OUI):
+            oui, classes = survey_class(high=high)
+            survey_case(packet(kind, body, c=1, t=t, oui=oui, classes=classes), CLASS)
+        # Without a class, without a trailer, and with a class of no survey packet.
+        survey_case(packet(kind, body), ACCEPTED)
+        survey_case(packet(kind, body, c=1), ACCEPTED)
+        if kind in DATA_TYPES:
+            survey_case(packet(kind, body, t=1), ACCEPTED)
+            survey_case(packet(kind, [], c=1, t=1, oui=OUI, classes=0x20110002), ACCEPTED)
+
+
+def largest_survey():
+    """65,535 words: five of other parts, 65,530 of items of one bit."""
+    body = [i * 0x9E3779B1 & ONES for i in range(65530)]
+    words = survey(body)
+    assert len(words) == 65535
+    survey_case(words, ACCEPTED)
+
+
+def random_survey(numbers):
+    """A survey packet with whole vectors."""
+    data = 1 + numbers.below(13)
+    rc = numbers.below(2)
+    vector = 1 + numbers.below((1, 4, 12)[numbers.below(3)])
+    length = ITEM_BITS[data] * (1 + rc) * vector * numbers.below(5)
+    n = (length + 31) // 32
+    tsf = numbers.below(4)
+    fraction = numbers.word() << 32 | numbers.word()
+    return survey(
+        numbers.some(n),
+        32 * n - length,
+        data,
+        rc,
+        vector,
+        tsi=numbers.below(4),
+        tsf=tsf,
+        count=numbers.below(16),
+        identifier=numbers.word(),
+        seconds=numbers.word(),
+        fraction=fraction % TERA if tsf == 2 else fraction,
+        trailer=numbers.word(),
+    )
+
+
+def random_surveys():
+    numbers = Numbers(4913)
+    for _ in range(60):
+        words = random_survey(numbers)
+        survey_case(words + numbers.some(numbers.below(3)), ACCEPTED)
+    for _ in range(140):
+        words = random_survey(numbers)
+        survey_case(damaged(numbers, words) + numbers.some(numbers.below(3)))
+    for _ in range(40):
+        # A bit of the class turned over.
+        words = random_survey(numbers)
+        words[2 + numbers.below(2)] ^= 1 << numbers.below(32)
+        survey_case(words)
+
+
+def plain_as_survey():
+    """Every case from before, but the largest, read as a survey packet: of a type
+    other than 1 the answer is the same."""
+    for _, words, answer in list(cases):
+        if len(words) > 60000:
+            continue
+        if words and vrt49.type_of(words[0]) == 1:
+            # None of them has the OUI of a survey packet.
+            if answer in (ACCEPTED, CLASS):
+                answer = PAD if answer == ACCEPTED else None
+        survey_case(words, answer)
+
+
+def survey_edges():
+    """The names of the edges of C-13 that the cases have, with their answers."""
+    found = set()
+    twice = {}
+    for way, words, _ in cases:
+        verdict, what = (vrt49.read, vrt49.read_survey)[way](words)
+        answer = what if verdict == "refused" else ACCEPTED
+        twice.setdefault(tuple(words), {})[way] = answer
+        if way != SURVEY or not words:
+            continue
+        kind = vrt49.type_of(words[0])
+        c, t = vrt49.class_flag(words[0]), vrt49.trailer_flag(words[0])
+        if answer not in (ACCEPTED, PAD, TIME):
+            # Where a class or trailer is absent, PAD would be given next.
+            found.add((answer, "type 1" if kind == 1 else "another type"))
+            found.add((answer, kind, "class", c, "trailer", t))
+            continue
+        if kind != 1:
+            found.add((answer, "type", kind))
+            continue
+        if not (c and t):
+            found.add((answer, "class", c, "trailer", t))
+            continue
+        high, low = vrt49.class_of(words)
+        n = vrt49.body_length(words[0])
+        pad = high >> 27
+        data, rc, vector = low >> 16 & 15, low >> 20 & 3, (low & 0xFFFF) + 1
+        right_high = high & 0x07FFFFFF == OUI
+        if not right_high and low >> 22 == 0:
+            found.add((answer, "high", high & 0x07FFFFFF ^ OUI))
+        if right_high and low >> 22 != 0:
+            found.add((answer, "low", low >> 22))
+        if right_high and low == 0x20110002:
+            found.add((answer, "no data"))
+        if not right_high or low >> 22 != 0:
+            continue
+        if rc > 1 or data not in ITEM_BITS:
+            found.add((answer, "rc", rc, "data", data))
+            continue
+        found.add((answer, "rc", rc, "data", data))
+        size = ITEM_BITS[data] * (1 + rc) * vector
+        if (32 * n - pad) % size == 0:
+            found.add((answer, data, rc, vector, "vectors", (32 * n - pad) // size))
+        found.add((answer, "words", n, "pad", pad))
+        found.add((answer, "bits", ITEM_BITS[data], "pad", pad))
+        if ITEM_BITS[data] == 64:
+            found.add((answer, "64 bits", "odd" if n % 2 else "even"))
+        if vector == 65536:
+            found.add((answer, "largest vector", data, rc, "words", n))
+        if answer == ACCEPTED:
+            _, s = what
+            found.add(("items", s.items))
+            found.add(("by hand", tuple(words), tuple(s)))
+            # The one n: its items and the pad bits are the payload, and packed samples
+            # of this format have exactly its words.
+            if s.items * ITEM_BITS[data] + s.pad != 32 * n:
+                sys.exit(f"{s.items} items are not those of {words}")
+            if payload.words_needed(s.first, s.second, s.items) != ("words", n):
+                sys.exit(f"{s} does not need the payload of {words}")
+    for words, answers in twice.items():
+        if len(answers) == 2:
+            found.add(("both ways", answers[PLAIN], answers[SURVEY]))
+            found.add(("both ways", words, answers[PLAIN]))
+    return found
+
+
+def survey_wanted():
+    """The edges that have to be there."""
+    wanted = []
+    for data in ITEM_BITS:
+        for rc in (0, 1):
+            for vector in (1, 2, 3, 7):
+                for vectors in (0, 1, 2, 5):
+                    wanted.append((ACCEPTED, data, rc, vector, "vectors", vectors))
+    for pad in range(32):
+        wanted.append((ACCEPTED, "bits", 1, "pad", pad))
+    wanted += [(ACCEPTED, "words", 0, "pad", 0), (PAD, "words", 0, "pad", 1)]
+    wanted += [(PAD, "64 bits", "odd"), (ACCEPTED, "64 bits", "even")]
+    wanted.append((ACCEPTED, "largest vector", 5, 1, "words", 0))
+    wanted += [(PAD, "largest vector", 5, 1, "words", n) for n in (1, 2, 4)]
+    wanted += [(ACCEPTED, "largest vector", 8, 0, "words", 2048)]
+    for bit in range(27):
+        wanted.append((PAD, "high", 1 << bit))
+    for bit in range(10):
+        wanted.append((PAD, "low", 1 << bit))
+    for data in ITEM_BITS:
+        wanted += [(ACCEPTED, "rc", rc, "data", data) for rc in (0, 1)]
+    for data in (0, 14, 15):
+        wanted += [(PAD, "rc", rc, "data", data) for rc in range(4)]
+    wanted += [(PAD, "rc", rc, "data", data) for rc in (2, 3) for data in (1, 8, 13)]
+    wanted.append((PAD, "no data"))
+    for c, t in ((0, 0), (0, 1), (1, 0)):
+        wanted.append((PAD, "class", c, "trailer", t))
+        wanted.append((TIME, "class", c, "trailer", t))
+        wanted += [(answer, 1, "class", c, "trailer", t) for answer in (SHORT, CUT, BITS)]
+    for words, said, plain_answer in HANDS:
+        wanted += [("by hand", words, said), ("both ways", words, plain_answer)]
+    wanted += [(answer, "type 1") for answer in (BITS, SHORT, CUT)]
+    wanted += [(answer, "another type") for answer in (TYPE, BITS, SHORT, CUT, CLASS)]
+    wanted += [(answer, "another type") for answer in (INDICATOR, LAYOUT, FIELD)]
+    wanted += [(answer, "type", kind) for answer in (ACCEPTED, TIME) for kind in (0, 2, 3, 4, 5)]
+    wanted += [("both ways", CLASS, ACCEPTED), ("both ways", ACCEPTED, ACCEPTED)]
+    wanted += [("both ways", CLASS, PAD), ("both ways", ACCEPTED, PAD)]
+    wanted += [("both ways", CLASS, CLASS), ("both ways", TIME, TIME)]
+    wanted += [("items", n) for n in (0, 1, 3, 4, 65535, 65536, 32 * 65530)]
+    return wanted
+
+
+def check_survey():
+    found = survey_edges()
+    for edge in survey_wanted():
+        if edge not in found:
+            sys.exit(f"no case at the edge {edge}")
+    for edge in ((CLASS, "type 1"), (PAD, "type", 3), (ACCEPTED, "no data")):
+        if edge in found:
+            sys.exit(f"a case at {edge}")
+
+
 # The two files.
 
 
-def packet_lines(start, p):
+def survey_line(s):
+    """The line of a survey reading behind the second line of its packet."""
+    return f"  survey pad {s.pad} first {s.first} second {s.second} items {s.items}"
+
+
+def packet_lines(start, p, s=None):
     """The lines of an accepted packet, but for its fields; the first begins
     with start."""
     found = [
@@ -831,6 +1286,8 @@ def packet_lines(start, p):
         f" packet {p.packet} seconds {p.seconds} fraction {p.fraction}"
         f" body {p.body} length {p.length} word {p.trailer}",
     ]
+    if s is not None:
+        found.append(survey_line(s))
     if p.trailer_flag == 1:
         parts = vrt49.trailer_parts(p.trailer)
         found.append(
@@ -840,12 +1297,22 @@ def packet_lines(start, p):
     return found
 
 
-def lines(k, words):
-    answer, given = vrt49.read(words)
-    if answer == "refused":
-        return [f"{k} refused {given}"]
-    p = given
-    found = packet_lines(f"{k} ", p)
+def read(way, words):
+    """('refused', number) or ('accepted', packet, survey), which is None where the
+    packet is read plainly."""
+    if way == PLAIN:
+        answer, given = vrt49.read(words)
+        return (answer, given) if answer == "refused" else (answer, given, None)
+    answer, given = vrt49.read_survey(words)
+    return (answer, given) if answer == "refused" else (answer, *given)
+
+
+def lines(k, way, words):
+    given = read(way, words)
+    if given[0] == "refused":
+        return [f"{k} refused {given[1]}"]
+    _, p, s = given
+    found = packet_lines(f"{k} ", p, s)
     if p.type == 4:
         for bit, place, n in vrt49.fields(words[p.body : p.body + p.length]):
             found.append(f"  field {bit} at {place} words {n}")
@@ -880,6 +1347,21 @@ def build():
     trailers()
     largest()
     random_cases()
+    plain_as_survey()
+    by_hand()
+    survey_vectors()
+    pad_counts()
+    class_bits()
+    absent()
+    survey_order()
+    survey_free()
+    other_types()
+    largest_survey()
+    random_surveys()
+
+
+# The refusals of each way to read.
+NUMBERS = {PLAIN: tuple(range(1, 11)), SURVEY: (*range(1, 11), PAD)}
 
 
 def main():
@@ -888,28 +1370,33 @@ def main():
     build()
     given = bytearray()
     expected = []
-    tally = [0] * 11
-    for k, (words, answer) in enumerate(cases):
-        verdict, what = vrt49.read(words)
-        number = what if verdict == "refused" else ACCEPTED
+    tally = {}
+    for k, (way, words, answer) in enumerate(cases):
+        said = read(way, words)
+        number = said[1] if said[0] == "refused" else ACCEPTED
         if answer is not None and number != answer:
             sys.exit(f"case {k} is built for {answer}, the reference says {number}")
-        tally[number] += 1
-        for word in [len(words), *words]:
+        tally[way, number] = tally.get((way, number), 0) + 1
+        for word in [way, len(words), *words]:
             given += word.to_bytes(4, "big")
-        expected += lines(k, words)
-    for number in range(1, 11):
-        if tally[number] < 10:
-            sys.exit(f"refusal {number} has {tally[number]} cases, fewer than 10")
-    if len(cases) < 450:
-        sys.exit(f"{len(cases)} cases, fewer than 450")
+        expected += lines(k, way, words)
+    for way, numbers in NUMBERS.items():
+        for number in numbers:
+            if tally.get((way, number), 0) < 10:
+                sys.exit(f"refusal {number}, asked {way}, has fewer than 10 cases")
+        if sum(n for (other, _), n in tally.items() if other == way) < 450:
+            sys.exit(f"fewer than 450 cases are asked {way}")
+    check_survey()
+    if len(given) > 1_000_000:
+        sys.exit(f"the input has {len(given)} bytes, more than 1,000,000")
     with open(sys.argv[1], "wb") as file:
         file.write(given)
     with open(sys.argv[2], "w", encoding="ascii", newline="\n") as file:
         file.write("".join(line + "\n" for line in expected))
-    print(f"accepted {tally[ACCEPTED]}")
-    for number in range(1, 11):
-        print(f"refused {number} {tally[number]}")
+    for way, name in ((PLAIN, "plain"), (SURVEY, "survey")):
+        print(f"{name} accepted {tally[way, ACCEPTED]}")
+        for number in NUMBERS[way]:
+            print(f"{name} refused {number} {tally[way, number]}")
     print(f"cases {len(cases)}")
 
 

@@ -28,13 +28,14 @@ def stream_at(lent, stream):
 
 
 def identity(lent, stream):
-    """('refused', number) or ('declared', identifier, held indicator)."""
+    """('refused', number) or ('declared', identifier, choice, held indicator)."""
     # The order: TABLE, STREAM.
     answer, found = stream_at(lent, stream)
     if answer == "refused":
         return (answer, found)
     # Bit b of the indicator is set exactly where the field of bit b is held.
-    return ("declared", found["identifier"], sum(2**bit for bit in found["held"]))
+    held = sum(2**bit for bit in found["held"])
+    return ("declared", found["identifier"], found["choice"], held)
 
 
 def counts(lent, stream, kind):

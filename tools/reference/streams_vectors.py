@@ -17,18 +17,18 @@ import play_vectors
 import streams
 import table
 from panel import VALUE
-from panel_vectors import broken_tables, fresh, of_fields, refused, stored
+from panel_vectors import broken_tables, choice_for, fresh, of_fields, refused, stored
 from play_vectors import (
     ALL_OFF, ALL_ON, COUNTED, FIELD_EDGES, HELD, HELD_BITS, MOST_ROOM, PATTERN, SIZES,
-    WRONG_STATES, at_places, count_place, first_held, indicator_place, other, random_few,
-    random_held, random_ids, random_stores, record_place, short_packet, slot_place,
+    WRONG_STATES, at_places, choice_place, count_place, first_held, indicator_place, other,
+    random_few, random_held, random_ids, random_stores, record_place, short_packet, slot_place,
     state_together,
 )
-from read_vectors import FIXED, ONES, Numbers, context
+from read_vectors import FIXED, ONES, Numbers, context, survey
 from table import ROOM, STREAM, TABLE
 
 MOST_OUT = 200
-OWN = 89
+OWN = 90
 
 # What is asked.
 IDENTITY, COUNTS, OWN_TABLE, CHANGED = 1, 2, 3, 4
@@ -129,7 +129,7 @@ def played_tables():
     for one in play_vectors.recordings:
         if one.answer != play_vectors.STARTED or one.stores or not 1 <= len(one.ids) <= 3:
             continue
-        lent = table.start_lent(one.ids, [PATTERN] * one.room)[1]
+        lent = table.start_lent(one.ids, one.choices, [PATTERN] * one.room)[1]
         before, last = lent, None
         for words, _ in one.packets:
             answer, after = table.play_lent(lent, words)
@@ -145,25 +145,33 @@ def played_tables():
 
 def identities():
     for identifier in (0, 1, 7, 89, 0x7FFFFC00, 1 << 31, PATTERN, ONES):
-        identify(fresh((identifier,)), 0, ("declared", identifier, 0))
+        identify(fresh((identifier,)), 0, ("declared", identifier, identifier % 2, 0))
+        # The other choice, and words that are none.
+        other_choice = {choice_place(): 1 - identifier % 2}
+        answer = ("declared", identifier, 1 - identifier % 2, 0)
+        identify(stored(fresh((identifier,)), other_choice), 0, answer)
+    for wrong in (2, 3, 256, 1 << 31, ONES):
+        identify(stored(fresh(), {choice_place(): wrong}), 0, refused(TABLE))
+        for stream in (0, 1):
+            identify(stored(fresh((7, 8)), {choice_place(1): wrong}), stream, refused(TABLE))
     for bit, n in HELD:
         # Alone, with zero words, all the others, and in the other stream.
-        identify(holding({bit: OTHERS[bit]}), 0, ("declared", 7, 1 << bit))
-        identify(holding({bit: [0] * n}, past=1), 0, ("declared", 7, 1 << bit))
+        identify(holding({bit: OTHERS[bit]}), 0, ("declared", 7, 1, 1 << bit))
+        identify(holding({bit: [0] * n}, (8,), past=1), 0, ("declared", 8, 0, 1 << bit))
         rest = holding(without(EVERY, bit))
-        identify(rest, 0, ("declared", 7, HELD_BITS - (1 << bit)))
-    identify(holding(EVERY), 0, ("declared", 7, HELD_BITS))
+        identify(rest, 0, ("declared", 7, 1, HELD_BITS - (1 << bit)))
+    identify(holding(EVERY), 0, ("declared", 7, 1, HELD_BITS))
     two = holding({24: [5], 10: [6]}, (7, 8), 1)
-    identify(two, 0, ("declared", 7, 0))
-    identify(two, 1, ("declared", 8, 1 << 24 | 1 << 10))
+    identify(two, 0, ("declared", 7, 1, 0))
+    identify(two, 1, ("declared", 8, 0, 1 << 24 | 1 << 10))
     # Type 4 has started and nothing is held.
-    identify(stored(fresh(), at_places(count_place(4), [5, 6, 7])), 0, ("declared", 7, 0))
+    identify(stored(fresh(), at_places(count_place(4), [5, 6, 7])), 0, ("declared", 7, 1, 0))
     for n in (1, 2, 5):
         lent = table_of_streams(n, past=n % 2)
         for stream in range(n):
             indicator = lent[indicator_place(stream)]
-            answer = ("declared", 0xC0000000 + 0x01010101 * stream, indicator)
-            identify(lent, stream, answer)
+            identifier = 0xC0000000 + 0x01010101 * stream
+            identify(lent, stream, ("declared", identifier, choice_for(identifier), indicator))
         for stream in (n, n + 1, *(FAR_STREAMS if n < 5 else ())):
             identify(lent, stream, refused(STREAM))
     lent = table_of_streams(32)
@@ -175,7 +183,7 @@ def identities():
     one = stored(two, {0: 1})
     identify(two, 1)
     identify(one, 1, refused(STREAM))
-    identify(one, 0, ("declared", 0xC0000000, two[indicator_place(0)]))
+    identify(one, 0, ("declared", 0xC0000000, 0, two[indicator_place(0)]))
 
 
 # Counts.
@@ -235,7 +243,7 @@ def counts():
 
 # Own tables.
 
-ROOMS = (0, 1, 87, 88, 89, 90, 150, MOST_OUT)
+ROOMS = (0, 1, 88, 89, 90, 91, 150, MOST_OUT)
 
 
 def own_tables():
@@ -245,24 +253,24 @@ def own_tables():
     for n in (2, 5):
         lent = table_of_streams(n, past=n % 3)
         for stream in range(n):
-            for room in (88, 89, 90, 150):
+            for room in (89, 90, 91, 150):
                 own(lent, stream, room, ("table", OWN) if room >= OWN else refused(ROOM))
-    lent = table_of_streams(32, past=83)
+    lent = table_of_streams(32, past=51)
     for stream in (0, 17, 31):
-        own(lent, stream, 90, ("table", OWN))
-    own(lent, 31, 88, refused(ROOM))
-    own(lent, 32, 90, refused(STREAM))
+        own(lent, stream, 91, ("table", OWN))
+    own(lent, 31, 89, refused(ROOM))
+    own(lent, 32, 91, refused(STREAM))
     for bit, n in HELD:
-        own(holding({bit: OTHERS[bit]}, (7, 8), 1), 1, 89, ("table", OWN))
-        own(holding({bit: [0] * n}, (7, 8), 0), 1, 89, ("table", OWN))
+        own(holding({bit: OTHERS[bit]}, (7, 8), 1), 1, 90, ("table", OWN))
+        own(holding({bit: [0] * n}, (8, 7), 0), 1, 90, ("table", OWN))
     # STREAM alone, and before ROOM.
     lent = table_of_streams(2)
     for stream in (2, 3, *FAR_STREAMS):
-        for room in (0, 88, 89):
+        for room in (0, 89, 90):
             own(lent, stream, room, refused(STREAM))
     one = stored(lent, {0: 1})
-    own(one, 0, 89, ("table", OWN))
-    own(one, 1, 89, refused(STREAM))
+    own(one, 0, 90, ("table", OWN))
+    own(one, 1, 90, refused(STREAM))
 
 
 # Changed fields.
@@ -326,10 +334,10 @@ def changed_together():
     one = holding({30: [1], 29: [2, 3], 24: [4], 10: [5]})
     two = holding({29: [2, 3], 24: [5], 23: [6], 10: [5]}, (8, 9))
     differ(one, two, 30, 24, 23)
-    # What is no field: the identifier, counts, words past the layout.
+    # What is no field: the identifier, counts, the choice, words past the layout.
     lent = holding(EVERY, past=3)
     for stores in (
-        {1: 8}, {1: ONES}, {89: 0}, {90: 1}, {91: ONES},
+        {1: 8}, {1: ONES}, {90: 0}, {91: 1}, {92: ONES}, {choice_place(): 0},
         at_places(count_place(1), [5, 6, 7]), at_places(count_place(3), [0, 0, 1]),
         at_places(count_place(4), [ONES, ONES, 16]), at_places(count_place(5), [1, 1, 1]),
     ):
@@ -403,6 +411,7 @@ def changed_by_packets():
     play(context(1 << 31, [], identifier=7), [])
     for kind in (1, 3, 5):
         play(short_packet(kind, 7, 3), [])
+    play(survey([1], pad=3, identifier=7), [])
     play(carry(EVERY, identifier=6), [])
     play(carry({29: [1 << 31, 0], 30: [1]}), [])
     play([], [])
@@ -413,8 +422,8 @@ def changed_by_packets():
     play(carry({22: [5]}), [])
     play(carry({22: [6]}), [])
     play(carry({22: [6], 21: held[21], 19: [9]}), [19])
-    identify(lent, 1, ("declared", 7, HELD_BITS))
-    own(lent, 1, 89, ("table", OWN))
+    identify(lent, 1, ("declared", 7, 1, HELD_BITS))
+    own(lent, 1, 90, ("table", OWN))
     held[19] = [9]
     # State words: those that leave what is held, and those that do not.
     for word, fields in (
@@ -459,7 +468,7 @@ def orders():
                 identify(words, stream, refused(TABLE))
                 for kind in (1, 2):
                     count(words, stream, kind, refused(TABLE))
-                for room in (89, 88):
+                for room in (90, 89):
                     own(words, stream, room, refused(TABLE))
             compare(words, 0, one, 0, refused(TABLE))
             compare(one, 0, words, 0, refused(TABLE))
@@ -478,19 +487,19 @@ def orders():
     # Tables that break a field's rule, and those just within it.
     for bit, (wrong, right) in FIELD_EDGES.items():
         identify(holding({bit: wrong[0]}), 0, refused(TABLE))
-        identify(holding({bit: right[0]}), 0, ("declared", 7, 1 << bit))
+        identify(holding({bit: right[0]}), 0, ("declared", 7, 1, 1 << bit))
         compare(holding({bit: right[0]}), 0, holding({bit: wrong[0]}), 0, refused(TABLE))
         if len(right) > 1:
             compare(holding({bit: right[0]}), 0, holding({bit: right[1]}), 0, ("changed", 1 << bit))
     # Tables that hold field 22, or a state word that cannot be held.
     for lent in (holding({22: [0]}), holding({22: [5]}), stored(fresh(), {slot_place(22): 5})):
         identify(lent, 0, refused(TABLE))
-        own(lent, 0, 89, refused(TABLE))
+        own(lent, 0, 90, refused(TABLE))
         compare(lent, 0, one, 0, refused(TABLE))
         compare(one, 0, lent, 0, refused(TABLE))
     for word in WRONG_STATES[::3]:
         identify(holding({16: [word]}), 0, refused(TABLE))
-        own(holding({16: [word]}), 0, 89, refused(TABLE))
+        own(holding({16: [word]}), 0, 90, refused(TABLE))
         compare(holding({16: [word]}), 0, one, 0, refused(TABLE))
     # 32 streams: one word too few, 33 of them, and a last record that is not good.
     many = table_of_streams(32)
@@ -508,7 +517,7 @@ def after_packets():
         identify(after, stream)
         for kind in (COUNTED[turn % 4], COUNTED[(turn + 1) % 4]):
             count(after, stream, kind)
-        own(after, stream, (89, 90, 150)[turn % 3])
+        own(after, stream, (90, 91, 150)[turn % 3])
         compare(before, stream, after, stream)
 
 
@@ -519,7 +528,7 @@ def random_tables():
         n = 1 + numbers.below(3)
         lent = stored(fresh(random_ids(numbers, n), numbers.below(3)), random_stores(numbers, n))
         if numbers.below(9) == 0:
-            lent[numbers.below(1 + 88 * n)] ^= 1 << numbers.below(32)
+            lent[numbers.below(1 + 89 * n)] ^= 1 << numbers.below(32)
         return lent, numbers.below(n) if numbers.below(8) else numbers.below(40)
 
     for turn in range(56):
@@ -557,6 +566,7 @@ class Coverage:
         self.rooms = set()
         self.changed = set()
         self.words = set()
+        self.choices = set()
 
     def add(self, label):
         self.tally[label] = self.tally.get(label, 0) + 1
@@ -583,7 +593,7 @@ def faults_of(one):
     applies = set(places[0]) | set(places[-1])
     if one.what == COUNTS and one.more not in (1, 3, 4, 5):
         applies.add(VALUE)
-    if one.what == OWN_TABLE and one.more < 89:
+    if one.what == OWN_TABLE and one.more < 90:
         applies.add(ROOM)
     return [number for number in ORDERS[one.what] if number in applies], places
 
@@ -613,7 +623,7 @@ def by_words(one):
     words, stream = one.tables[0]
     place = record_place(stream)
     if one.what == IDENTITY:
-        return ("declared", words[place], words[place + 1])
+        return ("declared", words[place], words[place + 14], words[place + 1])
     if one.what == COUNTS:
         seen, missing, last_plus_one = words[count_place(one.more, stream) :][:3]
         return ("started", seen, missing, last_plus_one - 1) if last_plus_one else ("not started",)
@@ -628,7 +638,7 @@ def by_words(one):
 def text_of(k, one, found, after):
     """The lines of a case."""
     if found[0] == "declared":
-        return [f"{k} identifier {found[1]} held {found[2]}"]
+        return [f"{k} identifier {found[1]} choice {found[2]} held {found[3]}"]
     if found[0] == "started":
         return [f"{k} started seen {found[1]} missing {found[2]} last {found[3]}"]
     lines = [" ".join(str(part) for part in (k, *found))]
@@ -646,7 +656,7 @@ def check_own(k, one, found, after):
         return
     words, stream = one.tables[0]
     place = record_place(stream)
-    if after != [1, *words[place : place + 88], *untouched[OWN:]] or not table.well_made(after):
+    if after != [1, *words[place : place + 89], *untouched[OWN:]] or not table.well_made(after):
         sys.exit(f"case {k} has not the words of the record")
 
 
@@ -661,6 +671,8 @@ def note(one, found, faults, places, cover):
         cover.rooms.add((one.more, found[0]))
     if not faults:
         cover.streams.update((one.what, words[0], stream) for words, stream in one.tables)
+        choices = [words[choice_place(stream)] for words, stream in one.tables]
+        cover.choices.add((one.what, *choices))
     if found[0] == "changed":
         cover.changed.add(found[1])
         for bit in range(10, 31):
@@ -777,7 +789,12 @@ def check_values(cover):
             fail((kind, answer) not in cover.types, f"no case of type {kind}, {answer}")
     for kind in WRONG_TYPES:
         fail(kind in COUNTED, f"type {kind} is counted")
-    for room in (0, 88, 89, 90, 150, MOST_OUT):
+    for edge in [(what, choice) for what in (IDENTITY, COUNTS, OWN_TABLE) for choice in (0, 1)]:
+        fail(edge not in cover.choices, f"{NAMES[edge[0]]}: no stream of choice {edge[1]}")
+    for choices in ((0, 0), (0, 1), (1, 0), (1, 1)):
+        seen = (CHANGED, *choices) in cover.choices
+        fail(not seen, f"changed: no streams of the choices {choices}")
+    for room in (0, 89, 90, 91, 150, MOST_OUT):
         answer = "table" if room >= OWN else "refused"
         fail((room, answer) not in cover.rooms, f"no own table into {room} words")
     fail(0 not in cover.changed, "no case where nothing changed")

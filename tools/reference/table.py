@@ -1,21 +1,23 @@
 """A reference table of streams: it starts, plays packets and is well made or not.
 
 It is written from document 01, from C-11 of document 02, which corrects it on
-fields 16 and 22, and from nothing else.  Reading a packet, its fields and the field
-rules are those of vrt49.py.  Words are whole numbers from 0 to 2^32 - 1 in a list;
-the sentences in quotation marks are document 01's own, or C-11's where it is named.
+fields 16 and 22, from C-13, which has a choice for each stream, and from nothing else.
+Reading a packet, its fields and the field rules are those of vrt49.py.  Words are
+whole numbers from 0 to 2^32 - 1 in a list; the sentences in quotation marks are
+document 01's own, or C-11's or C-13's where they are named.
 
 A table is a list of dictionaries, one for each stream in the order of the list:
 
     identifier  the stream's identifier
+    choice      0 for plain packets, 1 for survey packets
     counts      for each of the types 1, 3, 4 and 5 a dictionary of seen, missing
                 and last, which is None while the count has not started
     held        for each field that is held, by its bit, the field's words
 
-The words of a table are word 0, the number of streams S, and S records of 88
+The words of a table are word 0, the number of streams S, and S records of 89
 words: identifier; held indicator; for types 1, 3, 4, 5 in this order three words
-each, seen, missing, and the last count plus one or 0 if it has not started; then
-74 words, the fields 30 to 10 in this order, zero where a field is not held, as field
+each, seen, missing, and the last count plus one or 0 if it has not started; the choice;
+then 74 words, the fields 30 to 10 in this order, zero where a field is not held, as field
 22 always is.
 """
 
@@ -39,8 +41,15 @@ FIELD_BITS = tuple(range(30, 9, -1))
 HELD_BITS = tuple(bit for bit in FIELD_BITS if bit != 22)
 STATE_BIT = 16
 
-# identifier, held indicator, four counts of three words, 74 words of fields
-RECORD_WORDS = 2 + 3 * len(COUNTED_TYPES) + sum(FIXED_WORDS.values())
+# C-13: "plain 49.0 (word 0) or 49A (1)"
+CHOICES = (0, 1)
+
+# identifier, held indicator, four counts of three words, then the choice
+CHOICE_PLACE = 2 + 3 * len(COUNTED_TYPES)
+SLOTS_PLACE = CHOICE_PLACE + 1
+
+# all these, and 74 words of fields
+RECORD_WORDS = SLOTS_PLACE + sum(FIXED_WORDS.values())
 
 
 def layout_length(streams):
@@ -106,33 +115,58 @@ def state_good(word):
 # Starting.
 
 
-def fresh_stream(identifier):
-    # "it starts as zeroed words apart from the list"
+def fresh_stream(identifier, choice):
+    # "it starts as zeroed words apart from the list"; C-13: "Demands 2 and 3 count it as
+    # part of the list."
     return {
         "identifier": identifier,
+        "choice": choice,
         "counts": {kind: {"seen": 0, "missing": 0, "last": None} for kind in COUNTED_TYPES},
         "held": {},
     }
 
 
-def list_refused(ids):
+def list_refused(ids, choices):
     # "0 or over 32 identifiers, or one twice"
-    return len(ids) == 0 or len(ids) > 32 or len(set(ids)) != len(ids)
+    if len(ids) == 0 or len(ids) > 32 or len(set(ids)) != len(ids):
+        return True
+    # C-13: "The caller chooses plain 49.0 (word 0) or 49A (1) for each stream in the list
+    # ...  Another word, or choices unlike the identifiers in number, is LIST."
+    return len(choices) != len(ids) or any(choice not in CHOICES for choice in choices)
 
 
-def start(ids, room):
+def start(ids, choices, room):
     """('refused', number) or ('started', table), for a lent table of so many
     words."""
     # "Start: LIST, ROOM."
-    if list_refused(ids):
+    if list_refused(ids, choices):
         return ("refused", LIST)
     # "a buffer to be written is too short"
     if room < layout_length(len(ids)):
         return ("refused", ROOM)
-    return ("started", [fresh_stream(identifier) for identifier in ids])
+    return ("started", [fresh_stream(*pair) for pair in zip(ids, choices)])
 
 
 # Playing.
+
+
+def choice_of(table, words):
+    """How the words of a packet are read."""
+    # C-13: "The choice governs type 1 only; other types, packets of no declared stream
+    # ... stay plain."  The identifier of type 1 is word 1.
+    if len(words) >= 2 and vrt49.type_of(words[0]) == 1:
+        for stream in table:
+            if stream["identifier"] == words[1]:
+                return stream["choice"]
+    return 0
+
+
+def read(table, words):
+    """The answer of reading, by the choice of the packet's stream."""
+    if choice_of(table, words) == 0:
+        return vrt49.read(words)
+    answer, found = vrt49.read_survey(words)
+    return (answer, found) if answer == "refused" else (answer, found[0])
 
 
 def stream_of(table, packet):
@@ -161,7 +195,7 @@ def play(table, words):
     packet that is played changes the table."""
     # "Play: TABLE, read order, STREAM."  These dictionaries are those of a
     # well-made table.
-    answer, packet = vrt49.read(words)
+    answer, packet = read(table, words)
     if answer == "refused":
         return ("refused", packet)
     place = stream_of(table, packet)
@@ -194,13 +228,14 @@ def play(table, words):
 
 
 def record_of(stream):
-    """The 88 words of one stream."""
+    """The 89 words of one stream."""
     words = [stream["identifier"], sum(2**bit for bit in stream["held"])]
     for kind in COUNTED_TYPES:
         count = stream["counts"][kind]
         # "seen, missing, last plus one or 0 if not started"
         words += [count["seen"], count["missing"]]
         words.append(0 if count["last"] is None else count["last"] + 1)
+    words.append(stream["choice"])
     for bit in FIELD_BITS:
         words += stream["held"].get(bit, [0] * FIXED_WORDS[bit])
     return words
@@ -235,7 +270,7 @@ def slots(record):
     """The words of each of the fields 30 to 10 of a record, held or not, by
     bit."""
     found = {}
-    place = 2 + 3 * len(COUNTED_TYPES)
+    place = SLOTS_PLACE
     for bit in FIELD_BITS:
         found[bit] = record[place : place + FIXED_WORDS[bit]]
         place = place + FIXED_WORDS[bit]
@@ -263,6 +298,11 @@ def right_number(words):
 def different_identifiers(found):
     # "a valid list": not "one twice"
     return len({record[0] for record in found}) == len(found)
+
+
+def right_choices(found):
+    # "a valid list"; C-13: "plain 49.0 (word 0) or 49A (1) for each stream in the list"
+    return all(record[CHOICE_PLACE] in CHOICES for record in found)
 
 
 def only_fields_held(found):
@@ -334,6 +374,7 @@ RULES_OF_WORDS = (
 )
 RULES_OF_RECORDS = (
     ("identifiers", different_identifiers),
+    ("choice", right_choices),
     ("indicator", only_fields_held),
     ("unheld", unheld_zero),
     ("field", held_kept),
@@ -368,17 +409,19 @@ def table_of(words):
             last = None if last_plus_one == 0 else last_plus_one - 1
             counts[kind] = {"seen": seen, "missing": missing, "last": last}
         held = {bit: field for bit, field in slots(record).items() if held_bit(record, bit)}
-        table.append({"identifier": record[0], "counts": counts, "held": held})
+        choice = record[CHOICE_PLACE]
+        stream = {"identifier": record[0], "choice": choice, "counts": counts, "held": held}
+        table.append(stream)
     return table
 
 
 # The same with the words of a lent table.
 
 
-def start_lent(ids, lent):
+def start_lent(ids, choices, lent):
     """('refused', number) or ('started', words of the layout), and the lent
     table afterwards."""
-    answer, what = start(ids, len(lent))
+    answer, what = start(ids, choices, len(lent))
     # "A refusal returns its number alone and writes nothing."
     if answer == "refused":
         return (answer, what), list(lent)

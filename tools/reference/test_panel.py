@@ -15,7 +15,7 @@ ONES = 0xFFFFFFFF
 
 def holding(bit, *words, identifier=7):
     """The words of a table of one stream that holds one field."""
-    found = table.start([identifier], 89)[1]
+    found = table.start([identifier], [0], 90)[1]
     header = 0x40000003 + len(words)
     answer = table.play(found, [header, identifier, 1 << bit, *words])
     assert answer[0] == "played", answer
@@ -79,7 +79,7 @@ class OtherAndAbsent(unittest.TestCase):
         self.assertEqual(read(10, 0), ("other",))
 
     def test_absent(self):
-        fresh = table.layout(table.start([7], 89)[1])
+        fresh = table.layout(table.start([7], [1], 90)[1])
         for bit in range(10, 31):
             self.assertEqual(panel.reading(fresh, 0, bit), ("absent",))
         self.assertEqual(panel.reading(holding(24, 5), 0, 23), ("absent",))
@@ -107,13 +107,13 @@ class Readings(unittest.TestCase):
     # "Bits 30 to 10 are 21 fields": entry i is of bit 30 - i.
 
     def test_none_held(self):
-        fresh = table.layout(table.start([7, 8], 177)[1])
+        fresh = table.layout(table.start([7, 8], [1, 0], 179)[1])
         for stream in (0, 1):
             self.assertEqual(panel.readings(fresh, stream), [("absent",)] * 21)
 
     def test_places(self):
         # Bits 30, 29, 24, 23, 18 and 10 are the entries 0, 1, 6, 7, 12 and 20.
-        found = table.start([7, 8], 177)[1]
+        found = table.start([7, 8], [0, 1], 179)[1]
         indicator = 1 << 30 | 1 << 29 | 1 << 24 | 1 << 23 | 1 << 18 | 1 << 10
         words = [5, 0, 0x00180001, 0xFF80, 0x0080FF80, 0xFFE0, 6]
         self.assertEqual(table.play(found, [0x4000000A, 8, indicator, *words])[0], "played")

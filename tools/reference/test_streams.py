@@ -1,8 +1,8 @@
 """The answers about single streams, held against the samples and sentences of document 01, the
 sentences of C-11 of document 02, and words laid out by hand.  Each number is worked out on
-paper from docs/LAYOUT.md: word 1 + 88 s has the identifier of stream s, the next word its
-held indicator, then come three words for each of the types 1, 3, 4 and 5, and then the
-slots."""
+paper from C-13: word 1 + 89 s has the identifier of stream s, the next word its held
+indicator, then come three words for each of the types 1, 3, 4 and 5, then the choice, and
+then the slots."""
 
 import unittest
 
@@ -15,16 +15,18 @@ PATTERN = 0xA5A5A5A5
 ONES = 0xFFFFFFFF
 
 # Document 01's example: two packets of type 1, counts 15 and 2.
-EXAMPLE = [1, 7, 0, 2, 2, 3] + [0] * 83
+EXAMPLE = [1, 7, 0, 2, 2, 3] + [0] * 84
 
 # Document 01's Context packet: bandwidth 0 1, level 2, sample rate 0 3; count 5.  The
-# slots of 29, 24 and 21 are 15, 25 and 28 words from the record's start.
-TUNED = [0] * 89
+# slots of 29, 24 and 21 are 16, 26 and 29 words from the record's start; the choice, 1, is
+# 14 words from it.
+TUNED = [0] * 90
 TUNED[0:3] = [1, 7, 0x21200000]
 TUNED[9:12] = [1, 0, 6]
-TUNED[16:18] = [0, 1]
-TUNED[26] = 2
-TUNED[29:31] = [0, 3]
+TUNED[15] = 1
+TUNED[17:19] = [0, 1]
+TUNED[27] = 2
+TUNED[30:32] = [0, 3]
 
 # Both, for the identifiers 5 and 9.
 TWO = [2, 5, *EXAMPLE[2:], 9, *TUNED[2:]]
@@ -41,35 +43,36 @@ class Laid(unittest.TestCase):
     """The words above are those that the reference plays."""
 
     def test_example(self):
-        lent = table.layout(table.start([7], 89)[1])
+        lent = table.layout(table.start([7], [0], 90)[1])
         lent = table.play_lent(lent, [0x140F0005, 7, 0xABCDEF12, 0x30000000, 0])[1]
         lent = table.play_lent(lent, [0x14020005, 7, 0, 0, 0])[1]
         self.assertEqual(lent, EXAMPLE)
 
     def test_tuned(self):
-        lent = table.layout(table.start([7], 89)[1])
+        lent = table.layout(table.start([7], [1], 90)[1])
         words = [0x4065000B, 7, 100, 0, 200, 0x21200000, 0, 1, 2, 0, 3]
         self.assertEqual(table.play_lent(lent, words), (("played", 11, 4, 0, 0), TUNED))
 
     def test_lengths(self):
-        self.assertEqual((len(EXAMPLE), len(TUNED), len(TWO)), (89, 89, 177))
+        self.assertEqual((len(EXAMPLE), len(TUNED), len(TWO)), (90, 90, 179))
         self.assertEqual(table.broken_rules(TWO), [])
 
 
 class Identity(unittest.TestCase):
     def test_declared(self):
-        self.assertEqual(streams.identity(EXAMPLE, 0), ("declared", 7, 0))
-        self.assertEqual(streams.identity(TUNED, 0), ("declared", 7, 0x21200000))
-        self.assertEqual(streams.identity(TWO, 0), ("declared", 5, 0))
-        self.assertEqual(streams.identity(TWO, 1), ("declared", 9, 0x21200000))
+        self.assertEqual(streams.identity(EXAMPLE, 0), ("declared", 7, 0, 0))
+        self.assertEqual(streams.identity(TUNED, 0), ("declared", 7, 1, 0x21200000))
+        self.assertEqual(streams.identity(TWO, 0), ("declared", 5, 0, 0))
+        self.assertEqual(streams.identity(TWO, 1), ("declared", 9, 1, 0x21200000))
 
     def test_edges(self):
         # Any identifier may be declared, 0 too; 0x7FBFFC00 has the bits 30 to 10 without
         # 22: "field 22, which is now checked and never held".
-        self.assertEqual(streams.identity([1] + [0] * 88, 0), ("declared", 0, 0))
-        self.assertEqual(streams.identity([1, ONES] + [0] * 87, 0), ("declared", ONES, 0))
-        every = with_words([1] + [0] * 88, {2: 0x7FBFFC00, 11: 1})
-        self.assertEqual(streams.identity(every, 0), ("declared", 0, 0x7FBFFC00))
+        self.assertEqual(streams.identity([1] + [0] * 89, 0), ("declared", 0, 0, 0))
+        self.assertEqual(streams.identity([1, ONES] + [0] * 88, 0), ("declared", ONES, 0, 0))
+        every = with_words([1] + [0] * 89, {2: 0x7FBFFC00, 11: 1, 15: 1})
+        self.assertEqual(streams.identity(every, 0), ("declared", 0, 1, 0x7FBFFC00))
+        self.assertEqual(streams.identity(with_words(every, {15: 2}), 0), ("refused", TABLE))
         every = with_words(every, {2: 0x7FFFFC00})
         self.assertEqual(streams.identity(every, 0), ("refused", TABLE))
 
@@ -77,10 +80,10 @@ class Identity(unittest.TestCase):
         # With the sample rate as it is held; 0x00600000 has the bits 22 and 21.
         answer, after = table.play_lent(TUNED, [0x40060006, 7, 0x00600000, 9, 0, 3])
         self.assertEqual(answer, ("played", 6, 4, 0, 0))
-        self.assertEqual(streams.identity(after, 0), ("declared", 7, 0x21200000))
+        self.assertEqual(streams.identity(after, 0), ("declared", 7, 1, 0x21200000))
         self.assertEqual(streams.changed(TUNED, 0, after, 0), ("changed", 0))
         own = with_words(TUNED, {9: 2, 11: 7})
-        self.assertEqual(streams.own_table(after, 0, [0] * 89), (("table", 89), own))
+        self.assertEqual(streams.own_table(after, 0, [0] * 90), (("table", 90), own))
 
     def test_refused(self):
         for stream in (2, 3, 32, ONES):
@@ -89,13 +92,13 @@ class Identity(unittest.TestCase):
         broken = with_words(TWO, {5: 17})
         for stream in (0, 1, 2, ONES):
             self.assertEqual(streams.identity(broken, stream), ("refused", TABLE))
-        for words in ([], TWO[:-1], with_words(TWO, {0: 0}), with_words(TWO, {89: 5})):
+        for words in ([], TWO[:-1], with_words(TWO, {0: 0}), with_words(TWO, {90: 5})):
             self.assertEqual(streams.identity(words, 0), ("refused", TABLE))
 
     def test_past_the_layout(self):
         # "words past it are neither read nor changed"
-        one = with_words(TWO, {0: 1, 89: 5})
-        self.assertEqual(streams.identity(one, 0), ("declared", 5, 0))
+        one = with_words(TWO, {0: 1, 90: 5, 104: 2})
+        self.assertEqual(streams.identity(one, 0), ("declared", 5, 0, 0))
         self.assertEqual(streams.identity(one, 1), ("refused", STREAM))
 
 
@@ -141,18 +144,18 @@ class Counts(unittest.TestCase):
 
 class OwnTable(unittest.TestCase):
     def test_words(self):
-        out = [PATTERN] * 91
+        out = [PATTERN] * 92
         first, second = [1, 5, *EXAMPLE[2:]], [1, 9, *TUNED[2:]]
-        self.assertEqual(streams.own_table(TWO, 0, out), (("table", 89), first + out[89:]))
-        self.assertEqual(streams.own_table(TWO, 1, out), (("table", 89), second + out[89:]))
-        self.assertEqual(streams.own_table(TUNED, 0, out[:89]), (("table", 89), TUNED))
-        self.assertEqual(out, [PATTERN] * 91)
+        self.assertEqual(streams.own_table(TWO, 0, out), (("table", 90), first + out[90:]))
+        self.assertEqual(streams.own_table(TWO, 1, out), (("table", 90), second + out[90:]))
+        self.assertEqual(streams.own_table(TUNED, 0, out[:90]), (("table", 90), TUNED))
+        self.assertEqual(out, [PATTERN] * 92)
 
     def test_refused(self):
-        for room in (0, 1, 88):
+        for room in (0, 1, 89):
             out = [PATTERN] * room
             self.assertEqual(streams.own_table(TWO, 1, out), (("refused", ROOM), out))
-        for room in (0, 88, 89, 100):
+        for room in (0, 89, 90, 100):
             out = [PATTERN] * room
             self.assertEqual(streams.own_table(TWO, 2, out), (("refused", STREAM), out))
             for stream in (0, 1, 2):
@@ -174,11 +177,11 @@ class Changed(unittest.TestCase):
 
     def test_words(self):
         # One word of a field is enough, and either of two.
-        self.assertEqual(self.fields(TUNED, with_words(TUNED, {16: 1})), 1 << 29)
-        self.assertEqual(self.fields(TUNED, with_words(TUNED, {17: 0})), 1 << 29)
-        self.assertEqual(self.fields(TUNED, with_words(TUNED, {26: 3})), 1 << 24)
-        self.assertEqual(self.fields(TUNED, with_words(TUNED, {30: 4})), 1 << 21)
-        after = with_words(TUNED, {17: 2, 30: 2})
+        self.assertEqual(self.fields(TUNED, with_words(TUNED, {17: 1})), 1 << 29)
+        self.assertEqual(self.fields(TUNED, with_words(TUNED, {18: 0})), 1 << 29)
+        self.assertEqual(self.fields(TUNED, with_words(TUNED, {27: 3})), 1 << 24)
+        self.assertEqual(self.fields(TUNED, with_words(TUNED, {31: 4})), 1 << 21)
+        after = with_words(TUNED, {18: 2, 31: 2})
         self.assertEqual(self.fields(TUNED, after), 1 << 29 | 1 << 21)
 
     def test_absent(self):
@@ -186,12 +189,12 @@ class Changed(unittest.TestCase):
         self.assertEqual(self.fields(EXAMPLE, TUNED), 0x21200000)
         after = with_words(TUNED, {2: 0x21200400})
         self.assertEqual(self.fields(TUNED, after), 1 << 10)
-        before = with_words(TUNED, {2: 0x01200000, 17: 0})
-        self.assertEqual(self.fields(before, with_words(TUNED, {17: 0})), 1 << 29)
+        before = with_words(TUNED, {2: 0x01200000, 18: 0})
+        self.assertEqual(self.fields(before, with_words(TUNED, {18: 0})), 1 << 29)
 
     def test_nothing_else(self):
-        # The identifier, the counts and words past the layout are no fields.
-        after = with_words(TUNED, {1: 8, 3: 1, 5: 2, 9: 77, 10: 6, 11: 1}) + [PATTERN]
+        # The identifier, the counts, the choice and words past the layout are no fields.
+        after = with_words(TUNED, {1: 8, 3: 1, 5: 2, 9: 77, 10: 6, 11: 1, 15: 0}) + [PATTERN]
         self.assertEqual(self.fields(TUNED, after), 0)
 
     def test_a_packet(self):
@@ -199,7 +202,7 @@ class Changed(unittest.TestCase):
         words = [0x40060006, 7, 0x21000000, 0, 1, 5]
         answer, after = table.play_lent(TUNED, words)
         self.assertEqual(answer, ("played", 6, 4, 0, 0))
-        own = streams.own_table(TUNED, 0, [0] * 89)[1]
+        own = streams.own_table(TUNED, 0, [0] * 90)[1]
         self.assertEqual(streams.changed(own, 0, after, 0), ("changed", 1 << 24))
 
     def test_state(self):
@@ -224,7 +227,7 @@ class Changed(unittest.TestCase):
             answer, lent = table.play_lent(before, packet)
             self.assertEqual(answer, ("played", 4, 4, 0, 0))
             self.assertEqual(streams.changed(before, 0, lent, 0), ("changed", fields))
-        self.assertEqual(lent[37], 0x60000000)
+        self.assertEqual(lent[38], 0x60000000)
         # Held as zero and absent.
         zero = with_words(TUNED, {2: 0x21210000})
         self.assertEqual(self.fields(TUNED, zero), 1 << 16)

@@ -1,7 +1,8 @@
 """Document 01's "Samples from the bench" that concern the table, and its
 sentences on starting, playing and what is well made, held against the reference; and
-the sentences of C-11 of document 02 on the state word and field 22.  The expectations
-are document 01's own, or worked out on paper from C-11's."""
+the sentences of C-11 of document 02 on the state word and field 22, and of C-13 on the
+choice of each stream.  The expectations are document 01's own, or worked out on paper
+from those of C-11 and C-13."""
 
 import copy
 import unittest
@@ -13,8 +14,9 @@ PATTERN = 0xA5A5A5A5
 ONES = 0xFFFFFFFF
 
 
-def started(*ids):
-    answer, found = table.start(list(ids), table.layout_length(len(ids)))
+def started(*ids, choices=None):
+    choices = [0] * len(ids) if choices is None else choices
+    answer, found = table.start(list(ids), choices, table.layout_length(len(ids)))
     assert answer == "started", (answer, found)
     return found
 
@@ -37,51 +39,71 @@ class List(unittest.TestCase):
     # "32 identifiers pass; 33 is LIST."
 
     def test_32_and_33(self):
-        answer, found = table.start(list(range(32)), 2900)
+        answer, found = table.start(list(range(32)), [0] * 32, 2900)
         self.assertEqual((answer, len(found)), ("started", 32))
-        self.assertEqual(table.start(list(range(33)), 2900), ("refused", table.LIST))
+        answer = table.start(list(range(33)), [0] * 33, 2900)
+        self.assertEqual(answer, ("refused", table.LIST))
 
     def test_none_and_one_twice(self):
         # "0 or over 32 identifiers, or one twice"
         for ids in ([], [7, 7], [1, 2, 3, 1], [0, 5, 0]):
-            self.assertEqual(table.start(ids, 2900), ("refused", table.LIST))
+            answer = table.start(ids, [0] * len(ids), 2900)
+            self.assertEqual(answer, ("refused", table.LIST))
 
     def test_list_before_room(self):
         # "Start: LIST, ROOM."
         for ids in ([], [7, 7], list(range(33))):
-            self.assertEqual(table.start(ids, 0), ("refused", table.LIST))
-        self.assertEqual(table.start([7], 0), ("refused", table.ROOM))
+            self.assertEqual(table.start(ids, [0] * len(ids), 0), ("refused", table.LIST))
+        self.assertEqual(table.start([7], [2], 0), ("refused", table.LIST))
+        self.assertEqual(table.start([7], [1], 0), ("refused", table.ROOM))
+
+    def test_choices(self):
+        # C-13: "plain 49.0 (word 0) or 49A (1) for each stream in the list ...  Another
+        # word, or choices unlike the identifiers in number, is LIST."
+        for ids, choices in (
+            ([7], []), ([7], [0, 0]), ([7], [1, 1]), ([7, 8], [1]), ([7, 8], [0, 1, 0]),
+            ([7], [2]), ([7], [ONES]), ([7, 8], [0, 2]), ([7, 8], [2, 1]), ([], [0]),
+            ([7, 7], [0, 1]), (list(range(32)), [0] * 31), (list(range(32)), [0] * 33),
+            (list(range(33)), [0] * 32), (list(range(32)), [1] * 31 + [256]),
+        ):
+            self.assertEqual(table.start(ids, choices, 2900), ("refused", table.LIST))
+        for choices in ([0, 0], [0, 1], [1, 0], [1, 1]):
+            answer, found = table.start([7, 8], choices, 179)
+            self.assertEqual(answer, "started")
+            self.assertEqual([stream["choice"] for stream in found], choices)
 
 
 class Room(unittest.TestCase):
     # "at most 2,900 words"
 
     def test_lengths(self):
-        self.assertEqual(table.RECORD_WORDS, 88)
-        self.assertEqual(table.layout_length(1), 89)
-        self.assertEqual(table.layout_length(32), 2817)
+        self.assertEqual(table.RECORD_WORDS, 89)
+        self.assertEqual(table.layout_length(1), 90)
+        self.assertEqual(table.layout_length(32), 2849)
         self.assertLessEqual(table.layout_length(32), 2900)
 
     def test_edges(self):
         for n in range(1, 33):
             ids = list(range(100, 100 + n))
-            need = 1 + 88 * n
-            self.assertEqual(table.start(ids, need - 1), ("refused", table.ROOM))
-            self.assertEqual(table.start(ids, need)[0], "started")
-            self.assertEqual(table.start(ids, need + 1)[0], "started")
+            need = 1 + 89 * n
+            choices = [1] * n
+            self.assertEqual(table.start(ids, choices, need - 1), ("refused", table.ROOM))
+            self.assertEqual(table.start(ids, choices, need)[0], "started")
+            self.assertEqual(table.start(ids, choices, need + 1)[0], "started")
 
     def test_lent_words(self):
         # "it starts as zeroed words apart from the list"; "words past it are
         # neither read nor changed"
-        answer, after = table.start_lent([5, 9], [PATTERN] * 180)
-        self.assertEqual(answer, ("started", 177))
+        answer, after = table.start_lent([5, 9], [0, 1], [PATTERN] * 182)
+        self.assertEqual(answer, ("started", 179))
         self.assertEqual(after[0], 2)
-        self.assertEqual((after[1], after[89]), (5, 9))
-        self.assertEqual(sum(after[:177]), 2 + 5 + 9)
-        self.assertEqual(after[177:], [PATTERN] * 3)
-        answer, after = table.start_lent([5, 9], [PATTERN] * 176)
+        self.assertEqual((after[1], after[90]), (5, 9))
+        self.assertEqual((after[15], after[104]), (0, 1))
+        self.assertEqual(sum(after[:179]), 2 + 5 + 9 + 1)
+        self.assertEqual(after[179:], [PATTERN] * 3)
+        answer, after = table.start_lent([5, 9], [0, 1], [PATTERN] * 178)
         self.assertEqual(answer, ("refused", table.ROOM))
-        self.assertEqual(after, [PATTERN] * 176)
+        self.assertEqual(after, [PATTERN] * 178)
 
 
 class Missing(unittest.TestCase):
@@ -182,7 +204,7 @@ class Held(unittest.TestCase):
         found = started(7)
         table.play(found, context(0, 1 << 30 | 1 << 10, [3, 4]))
         words = table.layout(found)
-        self.assertEqual((len(words), words[15], words[88]), (89, 3, 4))
+        self.assertEqual((len(words), words[16], words[89]), (90, 3, 4))
         self.assertEqual(sum(words[15:]), 7)
 
 
@@ -207,10 +229,10 @@ class State(unittest.TestCase):
             self.assertEqual(answer, ("played", 4, 4, 0, 0))
             self.assertEqual(list(found[0]["held"]), [16])
         words = table.layout(found)
-        # Bit 16 is held, its word is word 36 of the record, and no other is.
-        self.assertEqual((words[2], words[37]), (1 << 16, sum(words[15:])))
+        # Bit 16 is held, its word is word 37 of the record, and no other is.
+        self.assertEqual((words[2], words[38]), (1 << 16, sum(words[15:])))
         self.assertTrue(table.well_made(words))
-        return words[37]
+        return words[38]
 
     def test_pairs(self):
         self.assertEqual(sum(SIX), ALL_ON)
@@ -291,7 +313,7 @@ class OverRangeCount(unittest.TestCase):
         found = started(7)
         self.assertEqual(table.play(found, context(0, 1 << 22, [ONES])), ("played", 4, 4, 0, 0))
         self.assertEqual(found[0]["held"], {})
-        self.assertEqual(table.layout(found), [1, 7] + [0] * 7 + [1, 0, 1] + [0] * 77)
+        self.assertEqual(table.layout(found), [1, 7] + [0] * 7 + [1, 0, 1] + [0] * 78)
 
     def test_checked(self):
         # Its word is one of the packet.
@@ -311,7 +333,7 @@ class OverRangeCount(unittest.TestCase):
         held = {23: [9], 21: [0, 3], 18: [0x1F], 16: [VALID], 10: [6]}
         self.assertEqual(found[0]["held"], held)
         self.assertEqual(table.layout(found)[2], indicator - (1 << 22))
-        self.assertEqual(table.layout(found)[27:31], [9, 0, 0, 3])
+        self.assertEqual(table.layout(found)[28:32], [9, 0, 0, 3])
 
     def test_what_is_held_stays(self):
         found = started(7)
@@ -348,6 +370,64 @@ class Refusals(unittest.TestCase):
             self.assertEqual(table.play_lent(lent, words), (("refused", table.TABLE), lent))
 
 
+class Choice(unittest.TestCase):
+    # C-13: "The choice governs type 1 only; other types, packets of no declared stream and
+    # `vrtplay` stay plain."
+
+    def packet(self, identifier, pad=0, kind=1, count=0):
+        """A survey packet of one word, its items of one bit."""
+        header = kind * 2**28 + 0x0C000006 + count * 2**16
+        return [header, identifier, pad * 2**27 + 0xFFFFFA, 0x00080000, 5, 0]
+
+    def test_by_stream(self):
+        for choices in ([0, 1], [1, 0]):
+            found = started(7, 8, choices=choices)
+            for place, identifier in enumerate((7, 8)):
+                padded = table.play(found, self.packet(identifier, 3))
+                bare = table.play(found, self.packet(identifier, count=1))
+                plain = table.play(found, data(2, identifier))
+                if choices[place]:
+                    self.assertEqual(padded, ("played", 6, 1, place, 0))
+                    self.assertEqual(bare, ("played", 6, 1, place, 0))
+                    self.assertEqual(plain, ("refused", vrt49.PAD))
+                else:
+                    self.assertEqual(padded, ("refused", vrt49.CLASS))
+                    self.assertEqual(bare, ("played", 6, 1, place, 0))
+                    self.assertEqual(plain, ("played", 2, 1, place, 0))
+
+    def test_not_declared(self):
+        for choice in (0, 1):
+            found = started(7, choices=[choice])
+            self.assertEqual(table.play(found, self.packet(9)), ("refused", table.STREAM))
+            self.assertEqual(table.play(found, self.packet(9, 3)), ("refused", vrt49.CLASS))
+            self.assertEqual(table.play(found, data(0, 9)), ("refused", table.STREAM))
+            self.assertEqual(found, started(7, choices=[choice]))
+
+    def test_other_types(self):
+        for choice in (0, 1):
+            found = started(7, choices=[choice])
+            self.assertEqual(table.play(found, self.packet(7, 0, 3)), ("played", 6, 3, 0, 0))
+            self.assertEqual(table.play(found, self.packet(7, 3, 3)), ("refused", vrt49.CLASS))
+            self.assertEqual(table.play(found, data(1, kind=3)), ("played", 2, 3, 0, 0))
+            self.assertEqual(table.play(found, data(1, kind=5)), ("played", 2, 5, 0, 0))
+            self.assertEqual(table.play(found, context(0, 1 << 30, [5])), ("played", 4, 4, 0, 0))
+
+    def test_kept(self):
+        found = started(7, 8, choices=[1, 0])
+        for words in (self.packet(7, 3), data(4, 8), context(0, 0)):
+            self.assertEqual(table.play(found, words)[0], "played")
+        self.assertEqual([stream["choice"] for stream in found], [1, 0])
+        words = table.layout(found)
+        self.assertEqual((words[15], words[104]), (1, 0))
+
+    def test_few_words(self):
+        # No word 1, or none at all.
+        found = started(7, choices=[1])
+        self.assertEqual(table.play(found, []), ("refused", vrt49.EMPTY))
+        self.assertEqual(table.play(found, [0x1C000005]), ("refused", vrt49.CUT))
+        self.assertEqual(table.play(found, [0x10000001]), ("refused", vrt49.SHORT))
+
+
 class WellMade(unittest.TestCase):
     # "Well made: the whole layout is there; a valid list; unheld fields and
     # words of no stated meaning zero; held fields obey their rules; a count not
@@ -373,28 +453,35 @@ class WellMade(unittest.TestCase):
 
     def test_list(self):
         self.assertEqual(self.broken({0: 0}), ["number"])
-        self.assertEqual(self.broken({0: 33}, past=2816), ["number"])
-        self.assertEqual(self.broken({89: 7}, (7, 8)), ["identifiers"])
-        self.assertEqual(self.broken({89: 6}, (7, 8)), [])
+        self.assertEqual(self.broken({0: 33}, past=2848), ["number"])
+        self.assertEqual(self.broken({90: 7}, (7, 8)), ["identifiers"])
+        self.assertEqual(self.broken({90: 6}, (7, 8)), [])
+
+    def test_choice(self):
+        # "a valid list": C-13 has 0 or 1 for each stream, in word 14 of its record.
+        for place, ids in ((15, (7,)), (15, (7, 8)), (104, (7, 8))):
+            self.assertEqual(self.broken({place: 1}, ids), [])
+            for wrong in (2, 3, 256, 1 << 31, ONES):
+                self.assertEqual(self.broken({place: wrong}, ids), ["choice"])
 
     def test_fields(self):
         # Type 4 has started with the last count 0.
-        self.assertEqual(self.broken({11: 1, 15: 1}), ["unheld"])
-        self.assertEqual(self.broken({11: 1, 2: 1 << 30, 15: 1}), [])
-        self.assertEqual(self.broken({2: 1 << 30, 15: 1}), ["type 4"])
-        self.assertEqual(self.broken({11: 1, 2: 1 << 24, 26: 0x10000}), ["field"])
-        self.assertEqual(self.broken({11: 1, 2: 1 << 24, 26: 0xFFFF}), [])
+        self.assertEqual(self.broken({11: 1, 16: 1}), ["unheld"])
+        self.assertEqual(self.broken({11: 1, 2: 1 << 30, 16: 1}), [])
+        self.assertEqual(self.broken({2: 1 << 30, 16: 1}), ["type 4"])
+        self.assertEqual(self.broken({11: 1, 2: 1 << 24, 27: 0x10000}), ["field"])
+        self.assertEqual(self.broken({11: 1, 2: 1 << 24, 27: 0xFFFF}), [])
         for bit in (31, 22, 9, 8, 7, 0):
             self.assertEqual(self.broken({11: 1, 2: 1 << bit}), ["indicator"])
 
     def test_over_range_count(self):
         # C-11: "a page that holds field 22 ... is PAGE, a table likewise TABLE"; its
-        # word is word 27 of a record.
-        self.assertEqual(self.broken({28: 1}), ["unheld"])
-        self.assertEqual(self.broken({11: 1, 28: 1 << 31}), ["unheld"])
-        self.assertEqual(self.broken({116: 1}, (7, 8)), ["unheld"])
+        # word is word 28 of a record.
+        self.assertEqual(self.broken({29: 1}), ["unheld"])
+        self.assertEqual(self.broken({11: 1, 29: 1 << 31}), ["unheld"])
+        self.assertEqual(self.broken({118: 1}, (7, 8)), ["unheld"])
         self.assertEqual(self.broken({2: 1 << 22}), ["indicator"])
-        self.assertEqual(self.broken({11: 1, 2: 1 << 22, 28: 5}), ["indicator", "unheld"])
+        self.assertEqual(self.broken({11: 1, 2: 1 << 22, 29: 5}), ["indicator", "unheld"])
         self.assertEqual(self.broken({11: 1, 2: 0x7FFFFC00}), ["indicator"])
         self.assertEqual(self.broken({11: 1, 2: 0x7FBFFC00}), [])
 
@@ -402,7 +489,7 @@ class WellMade(unittest.TestCase):
         # C-11: "those bits or a value without its enable"; document 01: "state (16) has
         # zero in 23-20 and 11-8".
         def broken(word):
-            return self.broken({11: 1, 2: 1 << 16, 37: word})
+            return self.broken({11: 1, 2: 1 << 16, 38: word})
 
         for word in (0, 0xFF, ALL_ON, ALL_OFF, ALL_ON | 0xFF, *SIX):
             self.assertEqual(broken(word), [])
@@ -432,7 +519,7 @@ class WellMade(unittest.TestCase):
             self.assertEqual(self.broken({place + 1: 9, place + 2: 1}), [])
 
     def test_words_and_back(self):
-        found = started(7, 8)
+        found = started(7, 8, choices=[0, 1])
         table.play(found, data(3))
         table.play(found, context(15, 1 << 29 | 1 << 12, [1, 2, *range(13)], 8))
         words = table.layout(found)

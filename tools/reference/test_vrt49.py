@@ -1,9 +1,11 @@
-"""Document 01's "Samples from the bench" that concern reading, held against
-the reference.  The expectations are document 01's own."""
+"""Document 01's "Samples from the bench" that concern reading, and C-13's sentences on
+spectrum-survey packets, held against the reference.  The expectations are theirs."""
 
 import unittest
 
+import payload
 import vrt49
+from vrt49 import PAD
 
 
 def accepted(words):
@@ -122,6 +124,192 @@ class Table(unittest.TestCase):
         self.assertEqual(sorted(vrt49.FIXED_WORDS), list(range(10, 31)))
         self.assertEqual(len(vrt49.FIXED_WORDS), 21)
         self.assertEqual(sum(vrt49.FIXED_WORDS.values()), 74)
+
+
+class ByHand(unittest.TestCase):
+    """Two survey packets worked out by hand."""
+
+    # 16-bit signed complex items in two words, and three 8-bit unsigned items as one
+    # vector in a word with 8 pad bits.
+    COMPLEX = [0x1C000007, 7, 0x00FFFFFA, 0x00130000, 0xABCDEF12, 0x30000000, 0]
+    VECTOR = [0x1C000006, 7, 0x40FFFFFA, 0x000A0002, 0x01020300, 0]
+
+    def test_survey(self):
+        _, (packet, survey) = vrt49.read_survey(self.COMPLEX)
+        self.assertEqual(survey, (0, 0x200003CF, 0, 4))
+        self.assertEqual((packet.body, packet.length), (4, 2))
+        self.assertEqual((packet.oui, packet.information, packet.packet), (0xFFFFFA, 0x13, 0))
+        _, (packet, survey) = vrt49.read_survey(self.VECTOR)
+        self.assertEqual(survey, (8, 0x100001C7, 2, 3))
+
+    def test_plain(self):
+        self.assertEqual(
+            vrt49.read(self.COMPLEX), ("accepted", vrt49.read_survey(self.COMPLEX)[1][0])
+        )
+        self.assertEqual(vrt49.read(self.VECTOR), ("refused", vrt49.CLASS))
+
+    def test_unpacked(self):
+        for words in (self.COMPLEX, self.VECTOR):
+            packet, survey = vrt49.read_survey(words)[1]
+            body = words[packet.body : packet.body + packet.length]
+            n = survey.items
+            answer, found = payload.unpack(survey.first, survey.second, n, body, (n, n, n))
+            self.assertEqual(answer, "unpacked")
+            items = [0xABCD, 0xEF12, 0x3000, 0] if n == 4 else [1, 2, 3]
+            self.assertEqual(found[0], items)
+
+
+def survey(high=0x00FFFFFA, low=0x00080000, body=(1,), header=0x1C000000, trailer=(0,)):
+    """A survey packet; items are of one bit and real if nothing else is asked for."""
+    words = [header, 7]
+    if header >> 27 & 1:
+        words += [high, low]
+    words += body
+    if header >> 26 & 1:
+        words += trailer
+    words[0] += len(words)
+    return words
+
+
+class SurveyTable(unittest.TestCase):
+    # Table 4-4: "31-27 Pad Bit Count", "26-24 Reserved", "23-0 OUI: FF-FF-FA"; "31-24
+    # Fixed Value bits set to zero", "23-22 Reserved", "21-20 R/C 0x00: Real, 0x01:
+    # Complex Cartesian", "19-16 Data Type 0x1 - 0xD", "15-0 Vector Size".
+
+    def refused(self, **given):
+        self.assertEqual(vrt49.read_survey(survey(**given)), ("refused", PAD))
+
+    def test_each_bit(self):
+        for bit in range(27):
+            self.refused(high=0x00FFFFFA ^ 1 << bit)
+        for bit in range(22, 32):
+            self.refused(low=0x00080000 | 1 << bit)
+        for bit in range(27, 32):
+            self.assertEqual(
+                vrt49.read_survey(survey(high=0x00FFFFFA | 1 << bit))[0], "accepted"
+            )
+
+    def test_kinds(self):
+        for low in range(0x40):
+            right = low >> 4 < 2 and 1 <= low & 15 <= 13
+            answer = vrt49.read_survey(survey(low=low << 16, body=[1, 2, 3, 4]))
+            self.assertEqual(answer[0] == "accepted", right, low)
+            if not right:
+                self.assertEqual(answer, ("refused", PAD))
+
+    def test_types(self):
+        # Table 4-5, left column and right column.
+        left = ["4 signed", "8 signed", "16 signed", "32 signed", "64 signed"]
+        left += ["32 single", "64 double"]
+        right = ["1 unsigned", "4 unsigned", "8 unsigned", "16 unsigned", "32 unsigned"]
+        right += ["64 unsigned"]
+        codes = {"signed": 0, "single": 14, "double": 15, "unsigned": 16}
+        self.assertEqual(sorted(vrt49.SURVEY_TYPES), list(range(1, 14)))
+        for data, text in enumerate(left + right, 1):
+            size, code = text.split()
+            self.assertEqual(vrt49.SURVEY_TYPES[data], (codes[code], int(size)))
+
+    def test_formats(self):
+        # Each format is one that packed samples have, processing-efficient.
+        for data, (code, item) in vrt49.SURVEY_TYPES.items():
+            for rc in (0, 1):
+                first, second = vrt49.survey_format(rc << 20 | data << 16 | 0x1234)
+                self.assertEqual(first >> 31, 0)
+                self.assertEqual(first >> 29 & 3, rc)
+                self.assertEqual(first >> 24 & 31, code)
+                self.assertEqual(first >> 12 & 0xFFF, 0)
+                self.assertEqual((first >> 6 & 63, first & 63), (item - 1, item - 1))
+                self.assertEqual(second, 0x1234)
+                self.assertTrue(vrt49.format_kept([first, second]))
+
+    def test_no_data(self):
+        self.refused(low=0x20110002, body=[])
+
+
+class SurveyParts(unittest.TestCase):
+    # "20 PAD, after FIELD, when class or trailer is absent"
+
+    def test_absent(self):
+        for header in (0x10000000, 0x14000000, 0x18000000):
+            words = survey(header=header)
+            self.assertEqual(vrt49.read_survey(words), ("refused", PAD))
+            self.assertEqual(vrt49.read(words)[0], "accepted")
+
+    def test_earlier_refusals(self):
+        words = survey(low=0, header=0x1C200000, body=[0xE8, 0xD4A51000, 1])
+        self.assertEqual(vrt49.read_survey(words), ("refused", vrt49.TIME))
+        self.assertEqual(vrt49.read_survey(words[:-1]), ("refused", vrt49.CUT))
+        words[0] -= 5
+        self.assertEqual(vrt49.read_survey(words), ("refused", vrt49.SHORT))
+
+    def test_other_types(self):
+        # "The choice governs type 1 only"
+        for kind in (0, 2, 3, 4, 5):
+            trailer = 4 if kind < 4 else 0
+            identifier = [7] if kind in (1, 3, 4, 5) else []
+            for high in (0x00FFFFFA, 0x40FFFFFA, 0x00123456, 0x01FFFFFA):
+                words = [kind << 28 | (8 + trailer) << 24] + identifier + [high, 0x00080000, 0]
+                words += [0] * (trailer // 4)
+                words[0] += len(words)
+                answer, what = vrt49.read_survey(words)
+                if high >> 24:
+                    self.assertEqual((answer, what), ("refused", vrt49.CLASS))
+                else:
+                    self.assertEqual((answer, what[0]), vrt49.read(words))
+                    self.assertEqual(what[1], (0, 0, 0, 0))
+
+
+class SurveyItems(unittest.TestCase):
+    # "or the payload less its padding is negative or not a whole number of sample
+    # vectors"
+
+    def shapes(self):
+        for data in vrt49.SURVEY_TYPES:
+            for rc in (0, 1):
+                for vector in (1, 2, 3, 5, 7, 8, 33, 65536):
+                    yield rc << 20 | data << 16 | vector - 1
+
+    def test_laid_out_and_divided(self):
+        for low in self.shapes():
+            shape = vrt49.vector_shape(low)
+            for length in [*range(0, 140), 256, 448, 640, 1024, 2048]:
+                self.assertEqual(
+                    vrt49.items_laid_out(length, shape), vrt49.items_divided(length, shape)
+                )
+
+    def test_negative(self):
+        for pad in range(32):
+            n = vrt49.survey_items(pad << 27 | 0xFFFFFA, 0x00080000, 0)
+            self.assertEqual(n, 0 if pad == 0 else None)
+
+    def test_one_n(self):
+        # "An accepted 49A packet has one n."
+        for low in self.shapes():
+            first, second = vrt49.survey_format(low)
+            item, _, _ = vrt49.vector_shape(low)
+            for length in range(9):
+                for pad in range(32):
+                    n = vrt49.survey_items(pad << 27 | 0xFFFFFA, low, length)
+                    if n is None:
+                        continue
+                    fitting = [m for m in range(300) if m * item + pad == 32 * length]
+                    self.assertEqual(fitting, [n])
+                    self.assertEqual(
+                        payload.words_needed(first, second, n), ("words", length)
+                    )
+
+    def test_odd_number_of_words(self):
+        for data in (5, 7, 13):
+            for length in range(1, 9, 2):
+                for pad in range(32):
+                    self.assertIsNone(
+                        vrt49.survey_items(pad << 27 | 0xFFFFFA, data << 16, length)
+                    )
+
+    def test_largest(self):
+        words = survey(body=[0] * 65530)
+        self.assertEqual(len(words), 65535)
+        self.assertEqual(vrt49.read_survey(words)[1][1].items, 2_096_960)
 
 
 if __name__ == "__main__":

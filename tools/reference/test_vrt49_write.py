@@ -1,6 +1,6 @@
-"""Document 01's "Samples from the bench" that concern writing, and its sentences
-on what writing refuses, held against the reference.  The expectations are
-document 01's own."""
+"""Document 01's "Samples from the bench" that concern writing, its sentences on what
+writing refuses, and C-13's on spectrum-survey packets, held against the reference.  The
+expectations are theirs."""
 
 import unittest
 
@@ -178,6 +178,67 @@ class Trailer(unittest.TestCase):
             self.assertEqual(
                 vrt49_write.trailer_word(*numbers), ("refused", vrt49_write.VALUE)
             )
+
+
+class Survey(unittest.TestCase):
+    """C-13: what is written as a survey packet."""
+
+    COMPLEX = parts(
+        type=1, class_flag=1, trailer_flag=1, identifier=7, oui=0xFFFFFA, information=0x13
+    )
+    VECTOR = parts(
+        type=1, class_flag=1, trailer_flag=1, identifier=7, oui=0xFFFFFA, information=0x0A,
+        packet=2,
+    )
+
+    def survey(self, given, pad, body, room=20, at=2):
+        answer, found = vrt49_write.write_survey(given, pad, body, [PATTERN] * room, at)
+        if answer[0] == "refused":
+            self.assertEqual(found, [PATTERN] * room)
+            return answer[1]
+        end = at + answer[1]
+        self.assertEqual(found[:at] + found[end:], [PATTERN] * (room - answer[1]))
+        return found[at:end]
+
+    def test_by_hand(self):
+        self.assertEqual(
+            self.survey(self.COMPLEX, 0, [0xABCDEF12, 0x30000000]),
+            [0x1C000007, 7, 0x00FFFFFA, 0x00130000, 0xABCDEF12, 0x30000000, 0],
+        )
+        self.assertEqual(
+            self.survey(self.VECTOR, 8, [0x01020300]),
+            [0x1C000006, 7, 0x40FFFFFA, 0x000A0002, 0x01020300, 0],
+        )
+
+    def test_pad_counts(self):
+        ones = parts(**{**self.VECTOR.__dict__, "information": 8, "packet": 0})
+        for pad in range(32):
+            words = self.survey(ones, pad, [5])
+            self.assertEqual(words[2], pad * 2**27 + 0xFFFFFA)
+            _, (packet, survey) = vrt49.read_survey(words)
+            self.assertEqual(vrt49_write.parts_of(packet), ones)
+            self.assertEqual((survey.pad, survey.items), (pad, 32 - pad))
+        for pad in (32, 2**27, 2**32 - 1):
+            self.assertEqual(self.survey(ones, pad, [5]), vrt49_write.VALUE)
+
+    def test_pad_of_others(self):
+        # Neither another type nor a packet without a class has one.
+        for kind in (0, 2, 3, 5):
+            other = parts(**{**self.VECTOR.__dict__, "type": kind, "trailer_flag": 0})
+            for pad in (0, 31, 32, 2**32 - 1):
+                self.assertEqual(self.survey(other, pad, [5]), written(other, [5]))
+        bare = parts(type=1, trailer_flag=1, identifier=7)
+        for pad in (0, 32):
+            self.assertEqual(self.survey(bare, pad, [5]), vrt49.PAD)
+
+    def test_order(self):
+        # "20 PAD, after FIELD", and before ROOM
+        late = parts(**{**self.VECTOR.__dict__, "tsf": 2, "fraction": 10**12})
+        self.assertEqual(self.survey(late, 7, [5]), vrt49.TIME)
+        self.assertEqual(self.survey(self.VECTOR, 7, [5], room=0, at=1), vrt49.PAD)
+        self.assertEqual(self.survey(self.VECTOR, 8, [5], room=5, at=0), vrt49_write.ROOM)
+        self.assertEqual(self.survey(self.VECTOR, 32, [0] * 65531), vrt49_write.VALUE)
+        self.assertEqual(self.survey(self.VECTOR, 7, [0] * 65531), vrt49_write.SIZE)
 
 
 if __name__ == "__main__":

@@ -1,5 +1,5 @@
 """Document 01's example of the program vrtplay, and its sentences on it, held
-against the reference.  The expectations are document 01's own."""
+against the reference.  The expectations are document 01's own, and C-13's."""
 
 import unittest
 
@@ -88,6 +88,25 @@ class Refusals(unittest.TestCase):
         ):
             lines = vrtplay.play(given(f"00000001 00000007 {word} 00000007 10000002"))
             self.assertEqual(lines, [f"at 2 refused {number}", "end 2 tail 0"])
+
+
+class Plain(unittest.TestCase):
+    # C-13: "`vrtplay` stay plain": a pad count is CLASS, and a packet without a class is
+    # played.
+
+    def test_surveys(self):
+        bare = "1C000006 00000007 00FFFFFA 00080000 00000005 00000000"
+        padded = "1C010006 00000007 40FFFFFA 000A0002 01020300 00000000"
+        lines = vrtplay.play(given(f"00000001 00000007 {bare} 10010002 00000007 {padded}"))
+        self.assertEqual(
+            lines,
+            [
+                "at 2 type 1 stream 0 missing 0",
+                "at 8 type 1 stream 0 missing 0",
+                "at 10 refused 6",
+                "end 10 tail 0",
+            ],
+        )
 
 
 class MostBytes(unittest.TestCase):

@@ -1,8 +1,9 @@
-"""A reference reader of VITA 49.0 packets.
+"""A reference reader of VITA 49.0 packets, and of spectrum-survey packets (49A).
 
-It is written from document 01 and from nothing else.  Words are whole numbers
-from 0 to 2^32 - 1 in a list; the sentences in quotation marks are document
-01's own.
+It is written from document 01, from C-13 of document 02, from tables 4-4 and 4-5 of
+source document 004, which C-13 names, and from nothing else.  Words are whole numbers
+from 0 to 2^32 - 1 in a list; the sentences in quotation marks are document 01's own,
+or C-13's where it is named.
 """
 
 from collections import namedtuple
@@ -19,6 +20,9 @@ TIME = 7
 INDICATOR = 8
 LAYOUT = 9
 FIELD = 10
+
+# C-13: "20 PAD"
+PAD = 20
 
 
 def bits(word, high, low):
@@ -457,6 +461,173 @@ def read(words):
         if applies(words):
             return ("refused", number)
     return ("accepted", packet_of(words))
+
+
+# Spectrum-survey packets.
+
+# Table 4-5 of source document 004: for each data type the item code, as the format
+# field has it, and the bits of one item.  The codes are those of source document 003:
+# 0 signed fixed point, 14 IEEE 754 single, 15 IEEE 754 double, 16 unsigned fixed point.
+SURVEY_TYPES = {
+    0b0001: (0, 4),  # 4-bit Signed Fixed Point
+    0b0010: (0, 8),  # 8-bit Signed Fixed Point
+    0b0011: (0, 16),  # 16-bit Signed Fixed Point
+    0b0100: (0, 32),  # 32-bit Signed Fixed Point
+    0b0101: (0, 64),  # 64-bit Signed Fixed Point
+    0b0110: (14, 32),  # 32-bit IEEE 754 Single Precision
+    0b0111: (15, 64),  # 64-bit IEEE 754 Double Precision
+    0b1000: (16, 1),  # 1-bit Unsigned Fixed Point
+    0b1001: (16, 4),  # 4-bit Unsigned Fixed Point
+    0b1010: (16, 8),  # 8-bit Unsigned Fixed Point
+    0b1011: (16, 16),  # 16-bit Unsigned Fixed Point
+    0b1100: (16, 32),  # 32-bit Unsigned Fixed Point
+    0b1101: (16, 64),  # 64-bit Unsigned Fixed Point
+}
+
+# Table 4-4, word 1: "OUI: FF-FF-FA"
+SURVEY_OUI = 0xFFFFFA
+
+# Table 4-4, word 2: "0x00: Real, 0x01: Complex Cartesian"; the items of one sample
+SURVEY_COMPONENTS = {0: 1, 1: 2}
+
+# Payloads of at most so many words are laid out item by item, longer ones are
+# divided.  The tests hold one to the other.
+LAID_OUT_WORDS = 64
+
+
+def governed(words):
+    # C-13: "The choice governs type 1 only; other types ... stay plain."
+    return type_of(words[0]) == 1
+
+
+def pad_count(high):
+    # C-13: "bits 31-27 of the class's first word are a pad count"
+    return bits(high, 31, 27)
+
+
+def class_fits(high, low):
+    """Whether the two words of a class fit table 4-4."""
+    # "26-24 Reserved", "23-0 OUI 0xFFFFFA"
+    if bits(high, 26, 24) != 0 or bits(high, 23, 0) != SURVEY_OUI:
+        return False
+    # "31-24 Fixed Value bits set to zero", "23-22 Reserved"
+    if bits(low, 31, 24) != 0 or bits(low, 23, 22) != 0:
+        return False
+    # "21-20 R/C", "19-16 Data Type 0x1 - 0xD"; any pad count and any vector size fits
+    return bits(low, 21, 20) in SURVEY_COMPONENTS and bits(low, 19, 16) in SURVEY_TYPES
+
+
+def vector_shape(low):
+    """The bits of one item, the items of one sample, and the samples of one vector, for
+    the second word of a class that fits."""
+    _, item = SURVEY_TYPES[bits(low, 19, 16)]
+    components = SURVEY_COMPONENTS[bits(low, 21, 20)]
+    # "15-0 Vector Size: Unsigned that is one less than actual Vector Size"
+    return item, components, bits(low, 15, 0) + 1
+
+
+def items_laid_out(length, shape):
+    """The items of a payload of so many bits, vector by vector, or None if the last
+    vector is not whole."""
+    item, components, vector = shape
+    place, items = 0, 0
+    while place < length:
+        for _ in range(vector):
+            for _ in range(components):
+                place, items = place + item, items + 1
+                if place > length:
+                    return None
+    return items
+
+
+def items_divided(length, shape):
+    """The same by division."""
+    item, components, vector = shape
+    vectors, left = divmod(length, item * components * vector)
+    return None if left != 0 else vectors * components * vector
+
+
+def survey_items(high, low, words):
+    """The n of a payload of so many words, or None if it has none."""
+    # C-13: "the payload less its padding is negative or not a whole number of sample
+    # vectors"
+    length = 32 * words - pad_count(high)
+    if length < 0:
+        return None
+    laid_out = items_laid_out if words <= LAID_OUT_WORDS else items_divided
+    return laid_out(length, vector_shape(low))
+
+
+def survey_format(low):
+    """The two words of the payload format that a class says."""
+    # "Format word: link-efficient 31 (0 is processing-efficient), component repeat 23,
+    # event size 22-20, channel size 19-16, packing field minus one 11-6, item minus one
+    # 5-0.  Second word: repeat minus one 31-16, vector minus one 15-0."  "real/complex
+    # (30-29)", "item code (28-24)"
+    code, item = SURVEY_TYPES[bits(low, 19, 16)]
+    first = bits(low, 21, 20) * 2**29 + code * 2**24 + (item - 1) * 2**6 + (item - 1)
+    return first, bits(low, 15, 0)
+
+
+def class_of(words):
+    place = class_place(words[0])
+    return words[place], words[place + 1]
+
+
+def pad_refused(words):
+    if not governed(words):
+        return False
+    # C-13: "when class or trailer is absent"
+    if class_words(words[0]) == 0 or trailer_words(words[0]) == 0:
+        return True
+    # C-13: "the class does not fit the table"
+    high, low = class_of(words)
+    if not class_fits(high, low):
+        return True
+    return survey_items(high, low, body_length(words[0])) is None
+
+
+def survey_class_refused(words):
+    # C-13: "CLASS is not given for 49A"
+    return not governed(words) and class_refused(words)
+
+
+# C-13: "CLASS is not given for 49A; 20 PAD, after FIELD"
+SURVEY_REFUSALS = (
+    (EMPTY, empty),
+    (TYPE, type_refused),
+    (BITS, bits_refused),
+    (SHORT, short),
+    (CUT, cut),
+    (CLASS, survey_class_refused),
+    (TIME, time_refused),
+    (INDICATOR, indicator_refused),
+    (LAYOUT, layout_refused),
+    (FIELD, field_refused),
+    (PAD, pad_refused),
+)
+
+# The pad count, the two words of the payload format, and n.
+Survey = namedtuple("Survey", "pad first second items")
+
+NO_SURVEY = Survey(0, 0, 0, 0)
+
+
+def survey_of(words):
+    if not governed(words):
+        return NO_SURVEY
+    high, low = class_of(words)
+    first, second = survey_format(low)
+    items = survey_items(high, low, body_length(words[0]))
+    return Survey(pad_count(high), first, second, items)
+
+
+def read_survey(words):
+    """('refused', number) or ('accepted', (packet, survey))."""
+    for number, applies in SURVEY_REFUSALS:
+        if applies(words):
+            return ("refused", number)
+    return ("accepted", (packet_of(words), survey_of(words)))
 
 
 TrailerParts = namedtuple("TrailerParts", "enables indicators e associated")

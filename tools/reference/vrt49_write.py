@@ -1,15 +1,15 @@
-"""A reference writer of VITA 49.0 packets.
+"""A reference writer of VITA 49.0 packets, and of spectrum-survey packets (49A).
 
-It is written from document 01 and from nothing else.  The places of the parts,
-the time rule, the layout and the field rules are those of vrt49.py.  Words are
-whole numbers from 0 to 2^32 - 1 in a list; the sentences in quotation marks are
-document 01's own.
+It is written from document 01, from C-13 of document 02 and from nothing else.  The
+places of the parts, the time rule, the layout, the field rules and what PAD is given
+for are those of vrt49.py.  Words are whole numbers from 0 to 2^32 - 1 in a list; the
+sentences in quotation marks are document 01's own, or C-13's where it is named.
 """
 
 from dataclasses import dataclass
 
 import vrt49
-from vrt49 import FIELD, INDICATOR, LAYOUT, SHORT, TIME, TYPE
+from vrt49 import FIELD, INDICATOR, LAYOUT, PAD, SHORT, TIME, TYPE
 
 # "Numbers given back", those of writing that reading does not give.
 ROOM = 13
@@ -210,6 +210,63 @@ def write(parts, body, out, at):
     # buffer that starts at the caller's chosen word."  "Only words needed by an
     # accepted answer change."
     words = packet_words(parts, body)
+    after = out[:at] + words + out[at + len(words) :]
+    return ("written", len(words)), after
+
+
+# Spectrum-survey packets.
+
+
+def pad_written(parts):
+    # C-13: "The choice governs type 1 only", and the pad count is one of the class.
+    return parts.type == 1 and parts.class_flag == 1
+
+
+def survey_words(parts, pad, body):
+    words = packet_words(parts, body)
+    if pad_written(parts):
+        # C-13: "bits 31-27 of the class's first word are a pad count"
+        words[vrt49.class_place(words[0])] += pad * 2**27
+    return words
+
+
+def survey_value_refused(parts, pad, body, out, at):
+    if value_refused(parts, body, out, at):
+        return True
+    # "absent parts are ignored"
+    return pad_written(parts) and not fits(pad, 5)
+
+
+def pad_refused(parts, pad, body, out, at):
+    return vrt49.pad_refused(survey_words(parts, pad, body))
+
+
+def plainly(applies):
+    """A refusal of writing, which the pad count does not touch."""
+    return lambda parts, pad, body, out, at: applies(parts, body, out, at)
+
+
+# C-13: "20 PAD, after FIELD"
+SURVEY_REFUSALS = (
+    (TYPE, plainly(type_refused)),
+    (VALUE, survey_value_refused),
+    (SHORT, plainly(short)),
+    (SIZE, plainly(size_refused)),
+    (TIME, plainly(time_refused)),
+    (INDICATOR, plainly(indicator_refused)),
+    (LAYOUT, plainly(layout_refused)),
+    (FIELD, plainly(field_refused)),
+    (PAD, pad_refused),
+    (ROOM, plainly(room_refused)),
+)
+
+
+def write_survey(parts, pad, body, out, at):
+    """('refused', number) or ('written', words), and the buffer afterwards."""
+    for number, applies in SURVEY_REFUSALS:
+        if applies(parts, pad, body, out, at):
+            return ("refused", number), list(out)
+    words = survey_words(parts, pad, body)
     after = out[:at] + words + out[at + len(words) :]
     return ("written", len(words)), after
 

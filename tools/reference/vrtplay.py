@@ -3,8 +3,9 @@ each packet.
 
     python3 tools/reference/vrtplay.py <RECORDING
 
-It is written from document 01 and from nothing else; the sentences in quotation
-marks are document 01's own.  Starting and playing are those of table.py.
+It is written from document 01, from C-13 of document 02 and from nothing else; the
+sentences in quotation marks are document 01's own.  Starting and playing are those of
+table.py.
 """
 
 import sys
@@ -32,7 +33,8 @@ def started(words):
     if streams > len(words) - 1:
         return None
     ids = words[1 : 1 + streams]
-    answer, found = table.start(ids, table.layout_length(streams))
+    # C-13: "other types, packets of no declared stream and `vrtplay` stay plain"
+    answer, found = table.start(ids, [0] * streams, table.layout_length(streams))
     return found if answer == "started" else None
 
 

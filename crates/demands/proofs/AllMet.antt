@@ -15,6 +15,7 @@ use Rattle.demands.proofs.WellMade.{judged}
 use Rattle.demands.proofs.FieldFound.{fields-found}
 use Rattle.demands.proofs.Again.{written-again}
 use Rattle.demands.proofs.Back.{written-back}
+use Rattle.demands.proofs.Survey.{one-n, others-plain, unlisted-plain, survey-samples}
 use Rattle.demands.proofs.RoundTrip.{pack-then-unpack, unpack-then-pack}
 use Rattle.demands.proofs.Packings.{packed-as, unpacked-as}
 use Rattle.demands.proofs.ItemsNumbered.{numbered, as-figures}
@@ -49,15 +50,21 @@ demand-1 = record {
 pub demand-2 : Demand2 ours
 demand-2 = record {
   reads = λ ws. refl;
+  reads-survey = λ ws. refl;
   finds = λ b body. refl;
   writes = λ p body out at. refl;
+  writes-survey = λ pad p body out at. refl;
   trailers = λ w. refl;
   trailer-words = λ enables indicators e associated. refl;
   packs = λ first second items events channels out. refl;
+  words-needed = λ first second n. refl;
   unpacks = λ first second n ws b. refl;
   fields = fields-found;
   again = written-again;
   back = written-back;
+  one-n = one-n;
+  others-plain = others-plain;
+  survey-samples = survey-samples;
   trailer-again = trailer-again;
   trailer-back = trailer-back;
   unpacked = pack-then-unpack;
@@ -75,9 +82,10 @@ demand-2 = record {
 pub demand-3 : Demand3 ours
 demand-3 = record {
   starts = start-accepts;
-  right = λ ids t d e packets. right-on ids [] packets (d .leaves) (right-start ids t d e);
-  answers = λ ids t d e packets. answers-on ids [] packets (d .leaves) (right-start ids t d e);
-  past = λ ids t d e packets. past-on ids packets (d .leaves) (right-start ids t d e .streams) ∙ start-well-made ids t d e .past;
+  right = λ list t d e packets. right-on list [] packets (d .leaves) (right-start list t d e);
+  answers = λ list t d e packets. answers-on list [] packets (d .leaves) (right-start list t d e);
+  past = λ list t d e packets. past-on list packets (d .leaves) (right-start list t d e .streams) ∙ start-well-made (list .ids) (list .choices) t d e .past;
+  unlisted-plain = unlisted-plain;
   lights-out = lights-out;
   shows = shows;
   changes = changes;
@@ -85,9 +93,9 @@ demand-3 = record {
   runs = runs;
   unread = past-unread;
   saves = saves;
-  resumes = λ ids first rest t r buffer saved s lent room. resumes ids first t r buffer saved s lent rest room;
+  resumes = λ list first rest t r buffer saved s lent room. resumes list first t r buffer saved s lent rest room;
   no-room = no-room;
-  days = λ ids first packets t last answers stops r d. days ids first t r packets last answers stops d;
-  apart = λ ids t u d e x y s h ps qs a. apart ids (d .leaves) (e .leaves) (right-start ids t d x) (right-start ids u e y) s h ps qs a;
+  days = λ list first packets t last answers stops r d. days list first t r packets last answers stops d;
+  apart = λ list t u d e x y s h ps qs a. apart list (d .leaves) (e .leaves) (right-start list t d x) (right-start list u e y) s h ps qs a;
   refused-apart = refused-apart;
 }

@@ -14,7 +14,10 @@ use Rattle.fields.specs.Answers.{foundPaper}
 use Rattle.fields.specs.Layout.{indicatorOf, placeOf, insideOf, foundOf}
 use Rattle.packet.specs.declared.Packet.{Packet}
 use Rattle.packet.specs.declared.Parsed.the-variants as parsed
+use Rattle.packet.specs.declared.Survey.{Survey}
+use Rattle.packet.specs.declared.ParsedSurvey.the-variants as surveyed
 use Rattle.packet.specs.Read.{parsedPaper}
+use Rattle.packet.specs.Survey.{surveyPaper}
 use Rattle.packet_trailer.specs.declared.TrailerWord.the-variants as trailer
 use Rattle.packet_trailer.specs.Trailer.{trailerPaper}
 use Rattle.payload_format.specs.declared.signs.Shown.the-variants as shown
@@ -58,6 +61,10 @@ says-parsed : (o : Outcome Packet) → Says parsedPaper o
 says-parsed (refused n) = (parsed.Refused n, refl)
 says-parsed (accepted p) = (parsed.Accepted p, refl)
 
+says-survey : (o : Outcome Survey) → Says surveyPaper o
+says-survey (refused n) = (surveyed.Refused n, refl)
+says-survey (accepted s) = (surveyed.Accepted s, refl)
+
 says-trailer : (o : Outcome ℕ) → Says trailerPaper o
 says-trailer (refused n) = (trailer.Refused n, refl)
 says-trailer (accepted w) = (trailer.Accepted w, refl)
@@ -96,7 +103,7 @@ says-readings (o ∷ os) =
 
 says-identity : (o : Outcome Declared) → Says identityPaper o
 says-identity (refused n) = (named.Refused n, refl)
-says-identity (accepted d) = (named.Declared (d .identifier) (d .held), refl)
+says-identity (accepted d) = (named.Declared (d .identifier) (d .choice) (d .held), refl)
 
 says-counts : (o : Outcome Count) → Says typeCountsPaper o
 says-counts (refused n) = (counting.Refused n, refl)
@@ -134,6 +141,8 @@ some-outcome =
     and (λ h. says-checked _)
     and (λ h. says-found (h .0) (h .1))
     and (λ h. says-parsed _)
+    and (λ h. says-survey _)
+    and lent-says _ _ _ says-measured
     and lent-says _ _ _ says-measured
     and (λ h. says-plain _)
     and (λ h. says-trailer _)

@@ -1,32 +1,41 @@
--- What was written reads back as the same parts and body, absent parts zero. The idea: the header that was written says the same again
--- (HeaderLaws), so each part is looked for where it was laid (`found-one`, `found-two`), whatever words follow the packet.
-use Rattle.words.proofs.Kit.{_≡_, refl, sym, ap, _∙_, Bool, true, false, List, [], _∷_, _++_, ℕ, _+_, _-_, _/_, _%_, _^_, _≤_, _<_, arith, le-ltb}
+-- What was written reads back by the same choice as the same parts, pad count and body, absent parts zero. The idea: the header that was written says the same
+-- again (HeaderLaws), so each part is looked for where it was laid (`found-one`, `found-two`), whatever words follow the packet.
+use Rattle.words.proofs.Kit.{_≡_, refl, sym, ap, _∙_, Bool, true, false, ⊎-elim, List, [], _∷_, _++_, ℕ, _+_, _-_, _/_, _%_, _^_, _≤_, _<_, arith, le-ltb}
 use Rattle.words.proofs.Kit.{eqb, ltb, length, getD, take, drop}
 use mathlib.Core.List.{append-assoc}
 use borrow.Author.Tests.{ltb-true}
 use lib.ListN.{length-append}
 use lib.Seq.{getD-at, drop-at, take-at, length-take-le}
-use Rattle.words.specs.Tests.{when}
+use Rattle.words.specs.Tests.{when, both}
 use Rattle.words.specs.Word.{bits, highFirst, join}
 use Rattle.words.specs.Part.{part}
 use Rattle.words.specs.Outcome.{accepted, Done}
-use Rattle.words.proofs.Cases.{both-left, both-right, both-no, accepted-same}
+use Rattle.words.specs.Refusals.{onlyWhere}
+use Rattle.words.proofs.Cases.{true-or-false, both-left, both-right, both-no, accepted-same}
 use Rattle.words.proofs.RefusalLaws.{first-passed, none-given}
+use Rattle.packet_survey.specs.Class.{padOf}
+use Rattle.packet_survey.specs.Payload.{padBad}
+use Rattle.packet_survey.proofs.PayloadLaws.{pad-classed}
 use Rattle.packet.specs.declared.Parts.{Parts}
 use Rattle.packet.specs.Header.{classed, trailed, sizeOf}
 use Rattle.packet.specs.Parts.{streamed, hasSeconds, hasFraction, classAt, secondsAt, fractionAt, bodyAt, requiredOf, bodyLength, wordIf, classHigh, classLow}
 use Rattle.packet.specs.Parts.{fractionOf, partsOf, bodyOf, packetOf}
-use Rattle.packet.specs.Read.{timeOver, classBad, readOf}
-use Rattle.packet.specs.inner.Steps.{headerChecks, sizeChecks, prologueChecks}
-use Rattle.packet_write.specs.Write.{headerWord, sizeFor, given, classWord, leadingWords}
+use Rattle.packet.specs.Read.{timeOver, classBad, governed, readBy}
+use Rattle.packet.specs.Survey.{surveyOf}
+use Rattle.packet.specs.inner.Steps.{headerChecks, sizeChecks, prologueChecks, padChecks}
+use Rattle.packet_write.specs.Write.{headerWord, sizeFor, given, classFirst, classWord, leadingWords}
 use Rattle.packet_write.specs.Write.{classWords, timeWords, prologueWords, trailerWords, packetWords, plainParts}
-use Rattle.packet_write.specs.Write.{classFits, writeList, writeOf}
+use Rattle.packet_write.specs.Write.{classFits, governs, padFor, padFits, padList, writeListBy, writeBy}
+use Rattle.packet_write.specs.inner.Given.{Layable}
+use Rattle.packet_write.specs.inner.Steps as written
 use Rattle.packet_write.specs.inner.Steps.{writeChecks}
-use Rattle.packet_write.proofs.FitLaws.{Fits, parts-fit, Writable, writable}
+use Rattle.packet_write.proofs.FitLaws.{Fits, parts-fit, Writable, writable, layable}
 use Rattle.packet.proofs.RoomLaws.{body-past}
-use Rattle.packet.proofs.ReadLaws.{Passed, accepts-read}
+use Rattle.packet.proofs.ReadLaws.{Passed, accepts-read, read-accepts}
+use Rattle.packet.proofs.FrontLaws.{survey-same}
 use Rattle.packet_write.proofs.HeaderLaws.{type-is, classed-is, trailed-is, tsm-is, tsi-is, tsf-is, count-is, size-is, reserved-is, size-for-is, required-is}
 use Rattle.packet_write.proofs.LayLaws.{length-given, head-length, class-length, prologue-length, packet-length}
+use Rattle.demands.specs.Program.{ours, readsBy, writesBy}
 
 -- ---- an optional part, found where it was laid
 
@@ -53,17 +62,30 @@ found-last ws before rest false x size e l = refl
 
 -- ---- the numbers of two words, back from the words
 
-class-back : (t : Bool) (oui information code : ℕ) → classFits t oui information code ≡ true
-    → (bits 31 24 (when t oui) ≡ 0) × (bits 23 0 (when t oui) ≡ when t oui)
+class-back : (t : Bool) (pad oui information code : ℕ) → classFits t oui information code ≡ true
+    → (bits 23 0 (when t (classFirst pad oui)) ≡ when t oui)
     × (bits 31 16 (when t (classWord information code)) ≡ when t information) × (bits 15 0 (when t (classWord information code)) ≡ when t code)
-unfolding classFits classWord join
-class-back true oui information code e =
+unfolding classFits classFirst classWord join
+class-back true pad oui information code e =
     let o = ltb-true oui (2 ^ 24) (both-left (ltb oui (2 ^ 24)) _ e) in
     let rest = both-right (ltb oui (2 ^ 24)) _ e in
     let i = ltb-true information (2 ^ 16) (both-left (ltb information (2 ^ 16)) _ rest) in
     let k = ltb-true code (2 ^ 16) (both-right (ltb information (2 ^ 16)) _ rest) in
-    (omega arith, omega arith, omega arith, omega arith)
-class-back false oui information code e = (refl, refl, refl, refl)
+    (omega arith, omega arith, omega arith)
+class-back false pad oui information code e = (refl, refl, refl)
+
+-- a plain class has no pad count, and that of 49A comes back
+plain-back : (t : Bool) (oui information code : ℕ) → classFits t oui information code ≡ true → bits 31 24 (when t (classFirst 0 oui)) ≡ 0
+unfolding classFits classFirst join
+plain-back true oui information code e = let o = ltb-true oui (2 ^ 24) (both-left (ltb oui (2 ^ 24)) _ e) in omega arith
+plain-back false oui information code e = refl
+
+pad-back : (t : Bool) (oui information code pad : ℕ) → classFits t oui information code ≡ true → t ≡ true → pad < 32
+    → padOf (when t (classFirst pad oui)) ≡ pad
+unfolding classFits classFirst join
+pad-back t oui information code pad e y h =
+    let o = ltb-true oui (2 ^ 24) (both-left (ltb oui (2 ^ 24)) _ (rw y at e)) in
+    rw y (omega arith)
 
 fraction-back : (t : Bool) (fraction : ℕ) → highFirst (when t (fraction / 2 ^ 32)) (when t (fraction % 2 ^ 32)) ≡ when t fraction
 fraction-back true fraction = omega arith
@@ -77,7 +99,11 @@ time-back true tsf fraction e = e
 time-back false tsf fraction e = both-no (eqb tsf 2)
 
 -- ---- a packet that may be written, followed by any words
-module _ (p : Parts) (body more : List ℕ) (room at : ℕ) (may : Writable p body room at) where
+module _ (survey : Bool) (count : ℕ) (p : Parts) (body more : List ℕ) (room at : ℕ) (may : Writable survey count p body room at) where
+  -- the pad count that is written
+  abbrev pad : ℕ
+  pad = padFor survey count p
+
   abbrev size : ℕ
   size = sizeFor p (length body)
 
@@ -85,7 +111,10 @@ module _ (p : Parts) (body more : List ℕ) (room at : ℕ) (may : Writable p bo
   W = headerWord p size
 
   abbrev Ws : List ℕ
-  Ws = packetWords p body ++ more
+  Ws = packetWords pad p body ++ more
+
+  can : Layable pad p body room at
+  can = layable survey count p body room at may
 
   fits : Fits p
   fits = parts-fit p (may .fit)
@@ -100,40 +129,41 @@ module _ (p : Parts) (body more : List ℕ) (room at : ℕ) (may : Writable p bo
   identifier-back : wordIf (streamed W) 1 Ws ≡ when (streamed W) (p .identifier)
   unfolding packetWords prologueWords leadingWords
   identifier-back =
-      found-one Ws (W ∷ []) (classWords W p ++ (timeWords W p ++ (body ++ (trailerWords W p ++ more)))) (streamed W) (p .identifier) 1 (simp append-assoc) refl
+      found-one Ws (W ∷ []) (classWords pad W p ++ (timeWords W p ++ (body ++ (trailerWords W p ++ more))))
+      (streamed W) (p .identifier) 1 (simp append-assoc) refl
 
   head-at : length (leadingWords W p) ≡ classAt W
   unfolding classAt
   head-at = head-length W p
 
-  class-words-back : (classHigh W Ws ≡ when (classed W) (p .oui)) × (classLow W Ws ≡ when (classed W) (classWord (p .information) (p .code)))
+  class-words-back : (classHigh W Ws ≡ when (classed W) (classFirst pad (p .oui))) × (classLow W Ws ≡ when (classed W) (classWord (p .information) (p .code)))
   unfolding classHigh classLow packetWords prologueWords classWords
   class-words-back =
-      found-two Ws (leadingWords W p) (timeWords W p ++ (body ++ (trailerWords W p ++ more))) (classed W) (p .oui) (classWord (p .information) (p .code))
-      (classAt W) (simp append-assoc) head-at
+      found-two Ws (leadingWords W p) (timeWords W p ++ (body ++ (trailerWords W p ++ more))) (classed W) (classFirst pad (p .oui))
+      (classWord (p .information) (p .code)) (classAt W) (simp append-assoc) head-at
 
-  class-at : length (leadingWords W p ++ classWords W p) ≡ secondsAt W
+  class-at : length (leadingWords W p ++ classWords pad W p) ≡ secondsAt W
   unfolding secondsAt
-  class-at = simp length-append (omega (arith, head-at, class-length W p))
+  class-at = simp length-append (omega (arith, head-at, class-length W p pad))
 
   seconds-back : wordIf (hasSeconds W) (secondsAt W) Ws ≡ when (hasSeconds W) (p .seconds)
   unfolding packetWords prologueWords timeWords
   seconds-back =
-      found-one Ws (leadingWords W p ++ classWords W p)
+      found-one Ws (leadingWords W p ++ classWords pad W p)
       (given (hasFraction W) (p .fraction / 2 ^ 32 ∷ p .fraction % 2 ^ 32 ∷ []) ++ (body ++ (trailerWords W p ++ more)))
       (hasSeconds W) (p .seconds) (secondsAt W) (simp append-assoc) class-at
 
-  seconds-at : length (leadingWords W p ++ classWords W p ++ given (hasSeconds W) (p .seconds ∷ [])) ≡ fractionAt W
+  seconds-at : length (leadingWords W p ++ classWords pad W p ++ given (hasSeconds W) (p .seconds ∷ [])) ≡ fractionAt W
   unfolding fractionAt
   seconds-at =
-      length-append (leadingWords W p ++ classWords W p) (given (hasSeconds W) (p .seconds ∷ []))
+      length-append (leadingWords W p ++ classWords pad W p) (given (hasSeconds W) (p .seconds ∷ []))
       ∙ omega (arith, class-at, length-given (hasSeconds W) (p .seconds ∷ []))
 
   fraction-words-back : (wordIf (hasFraction W) (fractionAt W) Ws ≡ when (hasFraction W) (p .fraction / 2 ^ 32))
       × (wordIf (hasFraction W) (fractionAt W + 1) Ws ≡ when (hasFraction W) (p .fraction % 2 ^ 32))
   unfolding packetWords prologueWords timeWords
   fraction-words-back =
-      found-two Ws (leadingWords W p ++ classWords W p ++ given (hasSeconds W) (p .seconds ∷ [])) (body ++ (trailerWords W p ++ more))
+      found-two Ws (leadingWords W p ++ classWords pad W p ++ given (hasSeconds W) (p .seconds ∷ [])) (body ++ (trailerWords W p ++ more))
       (hasFraction W) (p .fraction / 2 ^ 32) (p .fraction % 2 ^ 32) (fractionAt W) (simp append-assoc) seconds-at
 
   fraction-is : fractionOf W Ws ≡ when (hasFraction W) (p .fraction)
@@ -149,16 +179,16 @@ module _ (p : Parts) (body more : List ℕ) (room at : ℕ) (may : Writable p bo
   trailer-back : wordIf (trailed W) (sizeOf W - 1) Ws ≡ when (trailed W) (p .trailer)
   unfolding packetWords trailerWords
   trailer-back =
-      found-last Ws (prologueWords W p ++ body) more (trailed W) (p .trailer) (sizeOf W) (simp append-assoc)
-      (rw (length-append (prologueWords W p) body, prologue-length W p, size-of) (sym size-parts))
+      found-last Ws (prologueWords pad W p ++ body) more (trailed W) (p .trailer) (sizeOf W) (simp append-assoc)
+      (rw (length-append (prologueWords pad W p) body, prologue-length W p pad, size-of) (sym size-parts))
 
   parts-back : partsOf W Ws ≡ plainParts W p
   unfolding partsOf plainParts
   parts-back =
-      let c = class-back (classed W) (p .oui) (p .information) (p .code) class-fits in
+      let c = class-back (classed W) pad (p .oui) (p .information) (p .code) class-fits in
       let k = may .kind in
       let z = may .small in
-      rw (identifier-back, class-words-back .0, class-words-back .1, c .1, c .2, c .3, seconds-back, fraction-is, trailer-back)
+      rw (identifier-back, class-words-back .0, class-words-back .1, c .0, c .1, c .2, seconds-back, fraction-is, trailer-back)
       (rw (type-is p size k fits z, trailed-is p size k fits z, tsm-is p size k fits z, tsi-is p size k fits z)
       (rw (tsf-is p size k fits z, count-is p size k fits z, classed-is p size k fits z)))
 
@@ -170,8 +200,9 @@ module _ (p : Parts) (body more : List ℕ) (room at : ℕ) (may : Writable p bo
   pub body-back : part (bodyAt W) (length body) Ws ≡ body
   unfolding part packetWords
   body-back =
-      ap (λ (l : List ℕ). take (length body) (drop (bodyAt W) l)) {x = Ws} {y = prologueWords W p ++ (body ++ (trailerWords W p ++ more))} (simp append-assoc)
-      ∙ ap (take (length body)) (drop-at (prologueWords W p) (body ++ (trailerWords W p ++ more)) (bodyAt W) (prologue-length W p))
+      ap (λ (l : List ℕ). take (length body) (drop (bodyAt W) l)) {x = Ws}
+      {y = prologueWords pad W p ++ (body ++ (trailerWords W p ++ more))} (simp append-assoc)
+      ∙ ap (take (length body)) (drop-at (prologueWords pad W p) (body ++ (trailerWords W p ++ more)) (bodyAt W) (prologue-length W p pad))
       ∙ take-at body (trailerWords W p ++ more) (length body) refl
 
   -- nothing refuses it
@@ -184,46 +215,123 @@ module _ (p : Parts) (body more : List ℕ) (room at : ℕ) (may : Writable p bo
   unfolding sizeChecks
   size-passes =
       let whole : requiredOf W ≤ size = omega (arith, required-is p size (may .kind) fits (may .small), may .whole) in
-      let long : size ≤ length Ws = omega (arith, length-append (packetWords p body) more, packet-length p body room at may) in
+      let long : size ≤ length Ws = omega (arith, length-append (packetWords pad p body) more, packet-length pad p body room at can) in
       rw (size-of, le-ltb size (requiredOf W) whole, le-ltb (length Ws) size long)
 
-  prologue-passes : prologueChecks false W Ws ≡ accepted tt
-  unfolding prologueChecks classBad
+  governed-is : governed survey W ≡ governs survey p
+  governed-is = rw (type-is p size (may .kind) fits (may .small))
+
+  class-by : (t : Bool) → classBad t (when (classed W) (classFirst (when t count) (p .oui))) ≡ false
+  unfolding classBad
+  class-by true = refl
+  class-by false = rw (plain-back (classed W) (p .oui) (p .information) (p .code) class-fits)
+
+  class-passes : classBad (governed survey W) (classHigh W Ws) ≡ false
+  class-passes = rw (governed-is, class-words-back .0) (class-by (governs survey p))
+
+  prologue-passes : prologueChecks (governed survey W) W Ws ≡ accepted tt
+  unfolding prologueChecks
   prologue-passes =
-      let c = class-back (classed W) (p .oui) (p .information) (p .code) class-fits in
-      rw (class-words-back .0, c .0, fraction-is, tsf-is p size (may .kind) fits (may .small), time-back (hasFraction W) (p .tsf) (p .fraction) (may .time))
+      rw (class-passes, fraction-is, tsf-is p size (may .kind) fits (may .small), time-back (hasFraction W) (p .tsf) (p .fraction) (may .time))
+
+  -- where 49A governs, the class is there, and the pad count fits
+  module _ (g : governs survey p ≡ true) where
+    not-pad : padBad (p .classed) (p .trailed) (classFirst count (p .oui)) (classWord (p .information) (p .code)) (length body) ≡ false
+    unfolding written.padChecks
+    not-pad = rw g at (first-passed (onlyWhere (governs survey p) (padList count p body)) _ tt (may .payload) .0 .0)
+
+    class-there : classed W ≡ true
+    class-there = classed-is p size (may .kind) fits (may .small) ∙ pad-classed _ _ _ _ _ not-pad
+
+    count-small : count < 32
+    unfolding padFits
+    count-small = ltb-true count 32 (rw (g, pad-classed _ _ _ _ _ not-pad) at (may .pad-fit))
+
+    pad-found : padBad (classed W) (trailed W) (classHigh W Ws) (classLow W Ws) (bodyLength W) ≡ false
+    pad-found =
+        rw (class-words-back .0, class-words-back .1, class-there, g, length-back, trailed-is p size (may .kind) fits (may .small))
+        (rw (pad-classed _ _ _ _ _ not-pad) at not-pad)
+
+  pad-by : (t : Bool) → governs survey p ≡ t → both t (padBad (classed W) (trailed W) (classHigh W Ws) (classLow W Ws) (bodyLength W)) ≡ false
+  pad-by true g = pad-found g
+  pad-by false g = refl
+
+  pad-passes : padChecks survey W Ws ≡ accepted tt
+  unfolding padChecks
+  pad-passes = rw (governed-is, pad-by (governs survey p) refl)
+
+  -- the pad count is read back
+  pub count-back : when (governed survey W) (padOf (classHigh W Ws)) ≡ pad
+  count-back =
+      rw (governed-is, class-words-back .0)
+      (⊎-elim
+      (λ (g : governs survey p ≡ true). rw g (pad-back (classed W) (p .oui) (p .information) (p .code) count class-fits (class-there g) (count-small g)))
+      (λ (g : governs survey p ≡ false). rw g) (true-or-false (governs survey p)))
 
   body-is : bodyOf W Ws ≡ body
   unfolding bodyOf
   body-is = rw length-back body-back
 
-  pub checks-back : Passed false W Ws
+  pub checks-back : Passed survey W Ws
   checks-back = record {
     header = header-passes;
     size = size-passes;
     prologue = prologue-passes;
     body = rw (body-is, type-is p size (may .kind) fits (may .small)) (may .context);
+    pad = pad-passes;
   }
 
   -- it is read back, absent parts zero
-  pub read-back : readOf Ws ≡ accepted (record { parts = plainParts W p; size = size; place = bodyAt W; length = length body })
+  pub read-back : readBy survey Ws ≡ accepted (record { parts = plainParts W p; size = size; place = bodyAt W; length = length body })
   unfolding packetOf
   read-back =
-      let some : 0 < length Ws = omega (arith, length-append (packetWords p body) more, packet-length p body room at may, size-parts, body-past W) in
-      accepts-read false Ws _ some (rw first-is checks-back) (rw (first-is, parts-back, size-of, length-back))
+      let some : 0 < length Ws = omega (
+        arith,
+        length-append (packetWords pad p body) more,
+        packet-length pad p body room at can,
+        size-parts,
+        body-past W,
+      ) in
+      accepts-read survey Ws _ some (rw first-is checks-back) (rw (first-is, parts-back, size-of, length-back))
 
 -- ---- what writing leaves, read from its place on
-pub written-back : (p : Parts) (body out : List ℕ) (at : ℕ) (d : Done ℕ (List ℕ)) → writeOf p body out at ≡ accepted d
+back-by : (survey : Bool) (count : ℕ) (p : Parts) (body out : List ℕ) (at : ℕ) (d : Done ℕ (List ℕ)) → writeBy survey count p body out at ≡ accepted d
     → let w = headerWord p (sizeFor p (length body)) in
-    (readOf (drop at (d .leaves)) ≡ accepted (record { parts = plainParts w p; size = d .says; place = bodyAt w; length = length body }))
-    × (part (bodyAt w) (length body) (drop at (d .leaves)) ≡ body)
-unfolding writeOf writeChecks
-written-back p body out at d e =
+    let ws = drop at (d .leaves) in
+    (readBy survey ws ≡ accepted (record { parts = plainParts w p; size = d .says; place = bodyAt w; length = length body }))
+    × (getD ws 0 0 ≡ w) × (when (governed survey w) (padOf (classHigh w ws)) ≡ padFor survey count p)
+    × (part (bodyAt w) (length body) ws ≡ body)
+unfolding writeBy writeChecks
+back-by survey count p body out at d e =
     let size = sizeFor p (length body) in
-    let k = first-passed (writeList p body (length out) at) _ d e in
-    let may = writable p body (length out) at (none-given (writeList p body (length out) at) _ (k .0)) in
+    let words = packetWords (padFor survey count p) p body in
+    let more = drop (at + size) out in
+    let k = first-passed (writeListBy survey count p body (length out) at) _ d e in
+    let may = writable survey count p body (length out) at (none-given (writeListBy survey count p body (length out) at) _ (k .0)) in
     let done = accepted-same (k .1) in
-    let past : drop at (take at out ++ packetWords p body ++ drop (at + size) out) ≡ packetWords p body ++ drop (at + size) out =
-    ap (drop at) (append-assoc (take at out) (packetWords p body) (drop (at + size) out))
-    ∙ drop-at (take at out) (packetWords p body ++ drop (at + size) out) at (length-take-le at out (omega (arith, may .inside))) in
-    rw (← done, past) (read-back p body (drop (at + size) out) (length out) at may, body-back p body (drop (at + size) out) (length out) at may)
+    let past : drop at (take at out ++ words ++ more) ≡ words ++ more =
+    ap (drop at) (append-assoc (take at out) words more) ∙ drop-at (take at out) (words ++ more) at (length-take-le at out (omega (arith, may .inside))) in
+    rw (← done, past) (
+      read-back survey count p body more (length out) at may,
+      first-is survey count p body more (length out) at may,
+      count-back survey count p body more (length out) at may,
+      body-back survey count p body more (length out) at may,
+    )
+
+-- ---- by either choice
+
+pub written-back : (survey : Bool) (pad : ℕ) (p : Parts) (body out : List ℕ) (at : ℕ) (d : Done ℕ (List ℕ))
+    → writesBy ours survey pad p body out at ≡ accepted d
+    → let w = headerWord p (sizeFor p (length body)) in
+    (readsBy ours survey (drop at (d .leaves))
+    ≡ accepted (record { parts = plainParts w p; size = d .says; place = bodyAt w; length = length body }, padFor survey pad p))
+    × (part (bodyAt w) (length body) (drop at (d .leaves)) ≡ body)
+unfolding surveyOf
+written-back false pad p body out at d e =
+    let k = back-by false 0 p body out at d e in
+    (rw (k .0), k .3)
+written-back true pad p body out at d e =
+    let k = back-by true pad p body out at d e in
+    let ws = drop at (d .leaves) in
+    let read = read-accepts true ws _ (k .0) .says in
+    (rw (survey-same ws, k .0, read, k .1, k .2), k .3)

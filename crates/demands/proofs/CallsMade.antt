@@ -8,6 +8,7 @@ use Rattle.table.specs.Well.{wellMade}
 use Rattle.play.specs.declared.Played.{Played}
 use Rattle.play.specs.Play.{playedPaper}
 use Rattle.page.specs.PutBack.{putBackOf}
+use Rattle.demands.specs.Listing.{Listing}
 use Rattle.demands.specs.Program.{ours, playAll, saidAll}
 use Rattle.demands.specs.Right.{Right, layoutOf}
 use Rattle.demands.specs.Resumed.{SavesAs, Resumes, Stop, Day, SamePages}
@@ -20,10 +21,10 @@ use Rattle.demands.proofs.Separate.{apart}
 
 -- ---- outcomes
 
-started : (ids lent t : List ℕ) → StartMade ids lent t → Right ids [] t
-started ids lent t m =
+started : (list : Listing) (lent t : List ℕ) → StartMade list lent t → Right list [] t
+started list lent t m =
     let k = meets-accepted (m .meets) (m .accepts) in
-    rw (k .leaves) (right-start ids lent (k .done) (k .wants))
+    rw (k .leaves) (right-start list lent (k .done) (k .wants))
 
 played : {t last : List ℕ} {packets : List (List ℕ)} {rs : List Played} → PlaysMade t packets rs last
     → (last ≡ playAll ours t packets) × (map playedPaper rs ≡ saidAll ours t packets)
@@ -32,11 +33,11 @@ played (next {t} {ws} {after} {last} {packets} {r} {rs} m p) =
     let k = played p in
     (k .0 ∙ ap (λ (u : List ℕ). playAll ours u packets) (m .buffer), rw (m .answer, k .1, m .buffer))
 
-ruled : (ids t last : List ℕ) (before packets : List (List ℕ)) (answers : List Played) → Right ids before t → PlaysMade t packets answers last
-    → Ruled ids before packets answers last
-ruled ids t last before packets answers r p =
+ruled : (list : Listing) (t last : List ℕ) (before packets : List (List ℕ)) (answers : List Played) → Right list before t → PlaysMade t packets answers last
+    → Ruled list before packets answers last
+ruled list t last before packets answers r p =
     let k = played p in
-    record { table = rw (k .0) (right-on ids before packets t r); said = k .1 ∙ answers-on ids before packets t r }
+    record { table = rw (k .0) (right-on list before packets t r); said = k .1 ∙ answers-on list before packets t r }
 
 -- ---- a day
 
@@ -62,27 +63,27 @@ page-saved t page words w f m =
     let k = meets-accepted (m .meets) (m .accepts) in
     saved t words m ∙ page-words t (m .lent) w (k .done) (k .wants) ∙ saved-page t page w f
 
-same-pages : (ids t : List ℕ) → Right ids [] t → (stops : List Stop) → SamePages ours t stops → SamePagesMade t stops
-same-pages ids t r [] k = tt
-same-pages ids t r (s ∷ later) k = (
-  λ u page heard p m. page-saved u (s .page) page (rw (played p .0) (right-on ids [] (s .after) t r .made)) (rw (played p .0) (k .0)) m,
-  same-pages ids t r later (k .1),
+same-pages : (list : Listing) (t : List ℕ) → Right list [] t → (stops : List Stop) → SamePages ours t stops → SamePagesMade t stops
+same-pages list t r [] k = tt
+same-pages list t r (s ∷ later) k = (
+  λ u page heard p m. page-saved u (s .page) page (rw (played p .0) (right-on list [] (s .after) t r .made)) (rw (played p .0) (k .0)) m,
+  same-pages list t r later (k .1),
 )
 
 pub demand-3-made : Demand3Made
 demand-3-made = record {
-  plays = λ ids lent t last packets answers a p. ruled ids t last [] packets answers (started ids lent t a) p;
-  puts-back = λ ids packets t page room back r q m h b.
+  plays = λ list lent t last packets answers a p. ruled list t last [] packets answers (started list lent t a) p;
+  puts-back = λ list packets t page room back r q m h b.
       let k = meets-accepted (m .meets) (m .accepts) in
-      let again : Resumes ours ids t packets [] page room = rw (saved t page m) (resumes ids packets t q (m .lent) (k .done) (k .wants) room [] h) in
+      let again : Resumes ours list t packets [] page room = rw (saved t page m) (resumes list packets t q (m .lent) (k .done) (k .wants) room [] h) in
       b .answer ∙ ap saidOf (again .accepts) ∙ ap accepted (again .says);
-  days = λ ids lent t last packets answers stops a d.
-      let k = days ids [] t (started ids lent t a) packets last (map playedPaper answers) stops (day d) in
-      (record { table = k .right; said = k .ruled }, same-pages ids t (started ids lent t a) stops (k .same-pages));
-  unbroken = λ ids lent t last whole packets answers all stops a d p.
-      let k = days ids [] t (started ids lent t a) packets last (map playedPaper answers) stops (day d) in
-      (k .same-table ∙ ap (layoutOf ids) (sym (played p .0)), k .same-answers ∙ sym (played p .1));
-  apart = λ ids lent room t u last other ps qs answers others s a x b y h alter.
-      let k = apart ids t u (started ids lent t a) (started ids room u b) s h ps qs alter in
+  days = λ list lent t last packets answers stops a d.
+      let k = days list [] t (started list lent t a) packets last (map playedPaper answers) stops (day d) in
+      (record { table = k .right; said = k .ruled }, same-pages list t (started list lent t a) stops (k .same-pages));
+  unbroken = λ list lent t last whole packets answers all stops a d p.
+      let k = days list [] t (started list lent t a) packets last (map playedPaper answers) stops (day d) in
+      (k .same-table ∙ ap (layoutOf list) (sym (played p .0)), k .same-answers ∙ sym (played p .1));
+  apart = λ list lent room t u last other ps qs answers others s a x b y h alter.
+      let k = apart list t u (started list lent t a) (started list room u b) s h ps qs alter in
       (rw (played x .0, played y .0) (k .0), rw (played x .1, played y .1) (k .1));
 }

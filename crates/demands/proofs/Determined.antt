@@ -1,4 +1,4 @@
--- The rules leave nothing open. The idea: a good record is fixed by its identifier, its counts and what it holds (`record-by`): the fields by their things
+-- The rules leave nothing open. The idea: a good record is fixed by its identifier, choice, counts and what it holds (`record-by`): the fields by their things
 -- (`field-held`), the held indicator bit by bit, a held slot by its value, an unheld one since it is zero. A layout is fixed by its records.
 use Rattle.words.proofs.Kit.{_≡_, refl, sym, ap, _∙_, Bool, true, false, ⊎-elim, List, _++_, ℕ, _+_, _≤_, _<_, arith, length, getD}
 use mathlib.Core.Option.{none, some, Option·none-ne-some, Option·some-injective}
@@ -10,7 +10,7 @@ use Rattle.words.proofs.Cases.{true-or-false}
 use Rattle.words.proofs.BitLaws.{word-same}
 use Rattle.words.proofs.PartLaws.{part-length, getD-part, part-whole}
 use Rattle.record.specs.Held.{slotMask, slotted, slotBits, slotAt}
-use Rattle.record.specs.Layout.{headWords, slotWords, recordWords, identifierOf, heldOf, countedTypes, orderOf, countWords, slotIn, slotsOf, slotOf}
+use Rattle.record.specs.Layout.{headWords, slotWords, recordWords, identifierOf, heldOf, choiceOf, countedTypes, orderOf, countWords, slotIn, slotsOf, slotOf}
 use Rattle.record.specs.Good.{recordGood, Good}
 use Rattle.record.proofs.SlotLaws.{in-order-same, in-order-parts, slots-whole}
 use Rattle.record.proofs.GoodLaws.{good-of}
@@ -20,6 +20,7 @@ use Rattle.table.proofs.WellLaws.{well-whole, well-record}
 use Rattle.page.specs.Layout.{tableFrom}
 use Rattle.words.proofs.PieceLaws.{part-join}
 use Rattle.page.proofs.LayoutLaws.{table-same, table-again}
+use Rattle.demands.specs.Listing.{Listing, streamsIn}
 use Rattle.demands.specs.Things.{Thing}
 use Rattle.demands.specs.Trace.{traceOf, own, lastCarried, countsOf, countRule}
 use Rattle.demands.specs.Right.{heldIn, Right, layoutOf, Determined}
@@ -91,50 +92,53 @@ module _ (r q : List ℕ) (lr : length r ≡ recordWords) (lq : length q ≡ rec
       ∙ in-order-same 31 slotMask _ _ (λ b h o. same-slot b o)
       ∙ in-order-parts 31 slotMask (slotsOf q) (slots-sized q lq ∙ sym slots-whole)
 
-  pub record-by : identifierOf r ≡ identifierOf q
+  pub record-by : identifierOf r ≡ identifierOf q → choiceOf r ≡ choiceOf q
       → ((kind : ℕ) → among kind countedTypes ≡ true → countWords (orderOf kind) r ≡ countWords (orderOf kind) q) → r ≡ q
   unfolding countWords orderOf slotsOf
-  record-by i counts =
+  record-by i choice counts =
       let words = same-join 0 1 1 r q (same-word 0 r q (omega arith) (omega arith) i) (same-word 1 r q (omega arith) (omega arith) same-held) in
       let first = same-join 0 2 3 r q words (counts 1 refl) in
       let second = same-join 0 5 3 r q first (counts 3 refl) in
       let third = same-join 0 8 3 r q second (counts 4 refl) in
-      let head = same-join 0 11 3 r q third (counts 5 refl) in
+      let fourth = same-join 0 11 3 r q third (counts 5 refl) in
+      let head = same-join 0 14 1 r q fourth (same-word 14 r q (omega arith) (omega arith) choice) in
       let replaced : part 0 recordWords r ≡ part 0 recordWords q = same-join 0 headWords slotWords r q head same-slots in
       sym (part-whole r) ∙ ap (λ (n : ℕ). part 0 n r) lr ∙ replaced ∙ ap (λ (n : ℕ). part 0 n q) (sym lq) ∙ part-whole q
 
 -- ---- a table
 
 -- where the rules say the same of a stream, two right tables have the same record
-records-alike : (ids : List ℕ) (ps qs : List (List ℕ)) (t u : List ℕ) (p : Right ids ps t) (q : Right ids qs u) (s : ℕ) (h : s < length ids)
-    → ((x : Thing) → lastCarried x (own s (traceOf ids ps)) ≡ lastCarried x (own s (traceOf ids qs)))
-    → ((kind : ℕ) → countsOf kind (own s (traceOf ids ps)) ≡ countsOf kind (own s (traceOf ids qs))) → recordAt s t ≡ recordAt s u
-records-alike ids ps qs t u p q s h last counts =
-    record-by (recordAt s t) (recordAt s u) (record-whole ids t (right-listed p) s h) (record-whole ids u (right-listed q) s h)
+records-alike : (list : Listing) (ps qs : List (List ℕ)) (t u : List ℕ) (p : Right list ps t) (q : Right list qs u) (s : ℕ) (h : s < streamsIn list)
+    → ((x : Thing) → lastCarried x (own s (traceOf list ps)) ≡ lastCarried x (own s (traceOf list qs)))
+    → ((kind : ℕ) → countsOf kind (own s (traceOf list ps)) ≡ countsOf kind (own s (traceOf list qs))) → recordAt s t ≡ recordAt s u
+records-alike list ps qs t u p q s h last counts =
+    record-by (recordAt s t) (recordAt s u) (record-whole list t (right-listed p) s h) (record-whole list u (right-listed q) s h)
     (well-record t (p .made) s (rw (p .streams) h)) (well-record u (q .made) s (rw (q .streams) h))
     (λ x. p .held s h x ∙ last x ∙ sym (q .held s h x))
-    (record-identifier s t ∙ p .list s h ∙ sym (q .list s h) ∙ sym (record-identifier s u))
+    (record-identifier s t ∙ p .identifiers s h ∙ sym (q .identifiers s h) ∙ sym (record-identifier s u))
+    (p .choices s h ∙ sym (q .choices s h))
     (λ kind k. p .counts s h kind k ∙ ap countRule (counts kind) ∙ sym (q .counts s h kind k))
 
 -- they look at a stream's own packets alone
-pub records-same : (ids : List ℕ) (ps qs : List (List ℕ)) (t u : List ℕ) (p : Right ids ps t) (q : Right ids qs u) (s : ℕ) (h : s < length ids)
-    → own s (traceOf ids ps) ≡ own s (traceOf ids qs) → recordAt s t ≡ recordAt s u
-records-same ids ps qs t u p q s h o = records-alike ids ps qs t u p q s h (λ x. ap (lastCarried x) o) (λ kind. ap (countsOf kind) o)
+pub records-same : (list : Listing) (ps qs : List (List ℕ)) (t u : List ℕ) (p : Right list ps t) (q : Right list qs u) (s : ℕ) (h : s < streamsIn list)
+    → own s (traceOf list ps) ≡ own s (traceOf list qs) → recordAt s t ≡ recordAt s u
+records-same list ps qs t u p q s h o = records-alike list ps qs t u p q s h (λ x. ap (lastCarried x) o) (λ kind. ap (countsOf kind) o)
 
-pub layout-is : {ids : List ℕ} {packets : List (List ℕ)} {t : List ℕ} → Right ids packets t → tableFrom (length ids) (λ s. recordAt s t) ≡ layoutOf ids t
-layout-is {ids} {packets} {t} p = rw (p .streams) at (table-again t (well-whole t (p .made)))
+pub layout-is : {list : Listing} {packets : List (List ℕ)} {t : List ℕ} → Right list packets t
+    → tableFrom (streamsIn list) (λ s. recordAt s t) ≡ layoutOf list t
+layout-is {list} {packets} {t} p = rw (p .streams) at (table-again t (well-whole t (p .made)))
 
-pub layouts-alike : (ids : List ℕ) (ps qs : List (List ℕ)) (t u : List ℕ) → Right ids ps t → Right ids qs u
-    → ((s : ℕ) (x : Thing) → lastCarried x (own s (traceOf ids ps)) ≡ lastCarried x (own s (traceOf ids qs)))
-    → ((s kind : ℕ) → countsOf kind (own s (traceOf ids ps)) ≡ countsOf kind (own s (traceOf ids qs))) → layoutOf ids t ≡ layoutOf ids u
-layouts-alike ids ps qs t u p q last counts =
+pub layouts-alike : (list : Listing) (ps qs : List (List ℕ)) (t u : List ℕ) → Right list ps t → Right list qs u
+    → ((s : ℕ) (x : Thing) → lastCarried x (own s (traceOf list ps)) ≡ lastCarried x (own s (traceOf list qs)))
+    → ((s kind : ℕ) → countsOf kind (own s (traceOf list ps)) ≡ countsOf kind (own s (traceOf list qs))) → layoutOf list t ≡ layoutOf list u
+layouts-alike list ps qs t u p q last counts =
     sym (layout-is p)
-    ∙ table-same (length ids) (λ s. recordAt s t) (λ s. recordAt s u) (λ s h. records-alike ids ps qs t u p q s h (last s) (counts s))
+    ∙ table-same (streamsIn list) (λ s. recordAt s t) (λ s. recordAt s u) (λ s h. records-alike list ps qs t u p q s h (last s) (counts s))
     ∙ layout-is q
 
-pub layouts-same : (ids : List ℕ) (ps qs : List (List ℕ)) (t u : List ℕ) → Right ids ps t → Right ids qs u
-    → ((s : ℕ) → own s (traceOf ids ps) ≡ own s (traceOf ids qs)) → layoutOf ids t ≡ layoutOf ids u
-layouts-same ids ps qs t u p q o = layouts-alike ids ps qs t u p q (λ s x. ap (lastCarried x) (o s)) (λ s kind. ap (countsOf kind) (o s))
+pub layouts-same : (list : Listing) (ps qs : List (List ℕ)) (t u : List ℕ) → Right list ps t → Right list qs u
+    → ((s : ℕ) → own s (traceOf list ps) ≡ own s (traceOf list qs)) → layoutOf list t ≡ layoutOf list u
+layouts-same list ps qs t u p q o = layouts-alike list ps qs t u p q (λ s x. ap (lastCarried x) (o s)) (λ s kind. ap (countsOf kind) (o s))
 
 pub determined : Determined
-determined ids packets t u p q = layouts-same ids packets packets t u p q (λ s. refl)
+determined list packets t u p q = layouts-same list packets packets t u p q (λ s. refl)

@@ -2,8 +2,9 @@
 use mathlib.Core.Path.{refl}
 use Rattle.fields.specs.Layout.{contextOf}
 use Rattle.packet.specs.Read.{readBy}
+use Rattle.packet.specs.Survey.{readSurveyOf}
 use Rattle.packet_trailer.specs.Trailer.{trailerWordOf}
-use Rattle.packet_write.specs.Write.{writeOf}
+use Rattle.packet_write.specs.Write.{padFits, writeBy}
 use Rattle.payload_format.specs.Count.{neededOf}
 use Rattle.payload_order.specs.Numbering.{coordinatesOf, itemOf}
 use Rattle.payload_pack.specs.Pack.{packOf}
@@ -24,12 +25,15 @@ use Rattle.panel_streams.specs.Changed.{changedOf}
 use Rattle.demands.specs.Refusals.{InOrder}
 
 pub in-order : InOrder
-unfolding readBy writeOf startOf playOf saveOf putBackOf readingOf packOf unpackOf signedOf coordinatesOf itemOf contextOf neededOf trailerWordOf runOf lengthOf
+unfolding readBy readSurveyOf padFits writeBy startOf playOf saveOf putBackOf readingOf packOf unpackOf signedOf coordinatesOf
+    itemOf contextOf neededOf trailerWordOf runOf lengthOf
     readingsOf heldWordsOf identityOf typeCountsOf ownTableOf changedOf
 in-order = record {
   read = λ ws. record { order = refl; first = refl };
   write = λ p body out at. record { order = refl; first = refl };
-  start = λ ids t. record { order = refl; first = refl };
+  readSurvey = λ ws. record { order = refl; first = refl };
+  writeSurvey = λ pad p body out at. record { order = refl; first = refl };
+  start = λ ids choices t. record { order = refl; first = refl };
   play = λ t ws. record { order = refl; first = refl };
   save = λ t page. record { order = refl; first = refl };
   putBack = λ p t. record { order = refl; first = refl };

@@ -14,6 +14,8 @@ pub mod FieldFound
 -- an accepted packet written again gives the same words, and what was written reads back
 pub mod Again
 pub mod Back
+-- 49A packets: one n, and packets that stay plain
+pub mod Survey
 -- packed and unpacked again, unpacked and packed again
 pub mod RoundTrip
 -- what the definition of packing says of each packing, in document 01's words

@@ -1,7 +1,7 @@
 -- Overload lights go out. The idea: two packets that differ in these bits and in field 22 alone tell the same of every thing (`told-alike`), so the rules say
 -- the same of all streams after the one and after the other, and leave nothing else open (`layouts-alike`).
 use Rattle.words.proofs.Kit.{_≡_, refl, sym, ap, ap₂, _∙_, Bool, true, false, not, ⊎-elim, List, [], _∷_, _++_, ℕ, _+_, _-_, _%_, _^_, _≤_, _<_, arith}
-use Rattle.words.proofs.Kit.{eq-eqb, eqb, leb, length, getD}
+use Rattle.words.proofs.Kit.{eq-eqb, eqb, leb, getD}
 use mathlib.Core.Option.{Option, none}
 use native.Mathlib.Nat.{mod-lt}
 use borrow.Author.Tests.{leb-true}
@@ -17,6 +17,7 @@ use Rattle.record.specs.Layout.{heldOf}
 use Rattle.table.specs.Layout.{streamsOf, layoutWords, recordAt}
 use Rattle.table.specs.Well.{wellMade}
 use Rattle.play.specs.Play.{playOf}
+use Rattle.demands.specs.Listing.{Listing, streamsIn}
 use Rattle.demands.specs.Things.{Thing, wholeField, stateIndicator, userBits, kept, replaced, persistent, passing, tellsOf}
 use Rattle.demands.specs.Trace.{Arrival, heardBy, traceOf, own, valueCarried, orElse, lastCarried, countsOf}
 use Rattle.demands.specs.Program.{ours}
@@ -33,7 +34,7 @@ not-passing i n =
     ⊎-elim (λ (p : passing i ≡ true).
     absurd (n (leb-true 24 i (both-left (leb 24 i) (leb i 25) p)) (leb-true i 25 (both-right (leb 24 i) (leb i 25) p)))) (λ f. f) (true-or-false (passing i))
 
-module _ (ids ws vs : List ℕ) (p : SameButLights ids ws vs) where
+module _ (list : Listing) (ws vs : List ℕ) (p : SameButLights list ws vs) where
   abbrev one : Arrival
   one = p .one
 
@@ -109,34 +110,34 @@ module _ (ids ws vs : List ℕ) (p : SameButLights ids ws vs) where
   counts-alike false kind before = refl
 
   module _ (packets : List (List ℕ)) where
-    own-with : (us : List ℕ) (a : Arrival) → heardBy ids us ≡ accepted a → (s : ℕ)
-        → own s (traceOf ids (packets ++ (us ∷ []))) ≡ own s (traceOf ids packets) ++ pick (eqb (a .stream) s) (a ∷ []) []
+    own-with : (us : List ℕ) (a : Arrival) → heardBy list us ≡ accepted a → (s : ℕ)
+        → own s (traceOf list (packets ++ (us ∷ []))) ≡ own s (traceOf list packets) ++ pick (eqb (a .stream) s) (a ∷ []) []
     own-with us a e s =
-        ap (own s) (trace-append ids packets (us ∷ [])) ∙ own-append s (traceOf ids packets) (heardBy ids us ∷ []) ∙ rw e
+        ap (own s) (trace-append list packets (us ∷ [])) ∙ own-append s (traceOf list packets) (heardBy list us ∷ []) ∙ rw e
 
-    last-same : (s : ℕ) (x : Thing) → lastCarried x (own s (traceOf ids (packets ++ (ws ∷ [])))) ≡ lastCarried x (own s (traceOf ids (packets ++ (vs ∷ []))))
+    last-same : (s : ℕ) (x : Thing) → lastCarried x (own s (traceOf list (packets ++ (ws ∷ [])))) ≡ lastCarried x (own s (traceOf list (packets ++ (vs ∷ []))))
     last-same s x =
         ap (lastCarried x) (own-with ws one (p .hears-one) s)
-        ∙ last-alike (eqb (one .stream) s) x (own s (traceOf ids packets))
-        ∙ ap (λ (n : ℕ). lastCarried x (own s (traceOf ids packets) ++ pick (eqb n s) (other ∷ []) [])) (p .stream)
+        ∙ last-alike (eqb (one .stream) s) x (own s (traceOf list packets))
+        ∙ ap (λ (n : ℕ). lastCarried x (own s (traceOf list packets) ++ pick (eqb n s) (other ∷ []) [])) (p .stream)
         ∙ ap (lastCarried x) (sym (own-with vs other (p .hears-other) s))
 
-    counts-same : (s kind : ℕ) → countsOf kind (own s (traceOf ids (packets ++ (ws ∷ [])))) ≡ countsOf kind (own s (traceOf ids (packets ++ (vs ∷ []))))
+    counts-same : (s kind : ℕ) → countsOf kind (own s (traceOf list (packets ++ (ws ∷ [])))) ≡ countsOf kind (own s (traceOf list (packets ++ (vs ∷ []))))
     counts-same s kind =
         ap (countsOf kind) (own-with ws one (p .hears-one) s)
-        ∙ counts-alike (eqb (one .stream) s) kind (own s (traceOf ids packets))
-        ∙ ap (λ (n : ℕ). countsOf kind (own s (traceOf ids packets) ++ pick (eqb n s) (other ∷ []) [])) (p .stream)
+        ∙ counts-alike (eqb (one .stream) s) kind (own s (traceOf list packets))
+        ∙ ap (λ (n : ℕ). countsOf kind (own s (traceOf list packets) ++ pick (eqb n s) (other ∷ []) [])) (p .stream)
         ∙ ap (countsOf kind) (sym (own-with vs other (p .hears-other) s))
 
 -- the layout is the same, and so are the words past it, which stay
 pub lights-out : LightsOut ours
-lights-out ids packets t r ws vs p =
+lights-out list packets t r ws vs p =
     let layout =
-    layouts-alike ids _ _ _ _ (right-more ids packets t r ws) (right-more ids packets t r vs) (last-same ids ws vs p packets)
-    (counts-same ids ws vs p packets) in
-    let past = past-on ids (ws ∷ []) t (r .streams) ∙ sym (past-on ids (vs ∷ []) t (r .streams)) in
-    sym (take-append-drop (layoutWords (length ids)) (leftOf (playOf t ws) t)) ∙ ap₂ (λ (x y : List ℕ). x ++ y) layout past
-    ∙ take-append-drop (layoutWords (length ids)) (leftOf (playOf t vs) t)
+    layouts-alike list _ _ _ _ (right-more list packets t r ws) (right-more list packets t r vs) (last-same list ws vs p packets)
+    (counts-same list ws vs p packets) in
+    let past = past-on list (ws ∷ []) t (r .streams) ∙ sym (past-on list (vs ∷ []) t (r .streams)) in
+    sym (take-append-drop (layoutWords (streamsIn list)) (leftOf (playOf t ws) t)) ∙ ap₂ (λ (x y : List ℕ). x ++ y) layout past
+    ∙ take-append-drop (layoutWords (streamsIn list)) (leftOf (playOf t vs) t)
 
 -- of a well-made table field 22 is not held, and a held state word has neither over-range nor sample loss, neither enable nor value
 pub never-lit : (t : List ℕ) → wellMade t ≡ true → (s : ℕ) → s < streamsOf t → let r = recordAt s t in

@@ -5,7 +5,7 @@ use Rattle.words.proofs.MeetLaws.{said-refused}
 use Rattle.words.proofs.Once.{measured-once, lent-once}
 use Rattle.fields.proofs.Uniqueness.{field-count-once, check-body-once, find-once}
 use Rattle.packet_trailer.proofs.Uniqueness.{trailer-parts-once, trailer-word-once}
-use Rattle.packet.proofs.Uniqueness.{read-once}
+use Rattle.packet.proofs.Uniqueness.{read-once, read-survey-once}
 use Rattle.payload_format.proofs.Uniqueness.{signed-once}
 use Rattle.payload_order.proofs.Uniqueness.{coordinates-once}
 use Rattle.play.proofs.Uniqueness.{play-once, play-run-once}
@@ -23,6 +23,8 @@ one-outcome =
     and check-body-once
     and (λ h. find-once (h .0) (h .1))
     and (λ ws r s. read-once ws)
+    and (λ ws r s. read-survey-once ws)
+    and (λ h r s after after′. lent-once)
     and (λ h r s after after′. lent-once)
     and (λ word r s. trailer-parts-once word)
     and (λ h r s. trailer-word-once (h .0) (h .1) (h .2) (h .3))

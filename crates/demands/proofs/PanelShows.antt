@@ -35,6 +35,7 @@ use Rattle.panel.proofs.AllReadingLaws.{map-both}
 use Rattle.panel_streams.specs.Changed.{differs, changedIn, changedList, changedOf}
 use Rattle.panel_streams.specs.Identity.{Declared, declaredIn, identityOf}
 use Rattle.panel_streams.specs.TypeCounts.{countIn, typeCountIn, typeCountsOf}
+use Rattle.demands.specs.Listing.{Listing, streamsIn, choiceIn}
 use Rattle.demands.specs.Things.{wholeField, userBits, fieldBit, kept, replaced, isThere, wordsBy}
 use Rattle.demands.specs.Trace.{Arrival, traceOf, own, valueCarried, orElse, lastCarried, fieldCarried, countsOf, lastCount, countRule}
 use Rattle.demands.specs.Program.{ours}
@@ -117,9 +118,9 @@ count-by (c ∷ later) =
 
 -- ---- a right table
 
-module _ (ids : List ℕ) (packets : List (List ℕ)) (t : List ℕ) (r : Right ids packets t) (s : ℕ) (h : s < length ids) where
+module _ (list : Listing) (packets : List (List ℕ)) (t : List ℕ) (r : Right list packets t) (s : ℕ) (h : s < streamsIn list) where
   numbered : None (streamNumberList t s)
-  numbered = (rw (r .made)) and (rw (r .streams, lt-leb (length ids) s h)) and tt
+  numbered = (rw (r .made)) and (rw (r .streams, lt-leb (streamsIn list) s h)) and tt
 
   asked : (b : ℕ) → fieldBit b ≡ true → None (readingList t s b)
   asked b k =
@@ -127,69 +128,70 @@ module _ (ids : List ℕ) (packets : List (List ℕ)) (t : List ℕ) (r : Right 
       let high : b ≤ 30 = leb-true b 30 (both-right (leb 10 b) (leb b 30) k) in
       numbered .0 and numbered .1 .0 and (rw (le-ltb b 10 low, le-ltb 30 b high)) and tt
 
-  held-last : (b : ℕ) → fieldHeld b (recordAt s t) ≡ fieldCarried b (own s (traceOf ids packets))
+  held-last : (b : ℕ) → fieldHeld b (recordAt s t) ≡ fieldCarried b (own s (traceOf list packets))
   held-last b =
-      let l = record-whole ids t (right-listed r) s h in
+      let l = record-whole list t (right-listed r) s h in
       field-held (recordAt s t) l (good-of (recordAt s t) l (well-record t (r .made) s (rw (r .streams) h))) b
-      ∙ field-same b (λ x. heldIn x (recordAt s t)) (λ x. lastCarried x (own s (traceOf ids packets))) (r .held s h)
+      ∙ field-same b (λ x. heldIn x (recordAt s t)) (λ x. lastCarried x (own s (traceOf list packets))) (r .held s h)
 
-  shows-last : (b : ℕ) → recordShows b (recordAt s t) ≡ shownBy b (fieldCarried b (own s (traceOf ids packets)))
+  shows-last : (b : ℕ) → recordShows b (recordAt s t) ≡ shownBy b (fieldCarried b (own s (traceOf list packets)))
   shows-last b = shows-held b (recordAt s t) ∙ ap (shownBy b) (held-last b)
 
-  pub shown : (b : ℕ) → fieldBit b ≡ true → readingOf t s b ≡ accepted (shownBy b (fieldCarried b (own s (traceOf ids packets))))
+  pub shown : (b : ℕ) → fieldBit b ≡ true → readingOf t s b ≡ accepted (shownBy b (fieldCarried b (own s (traceOf list packets))))
   unfolding readingOf
   shown b k =
       none-given (readingList t s b) _ (asked b k) ∙ ap accepted (shows-last b)
 
-  pub all-shown : readingsOf t s ≡ accepted (map (λ b. shownBy b (fieldCarried b (own s (traceOf ids packets)))) slotBits)
+  pub all-shown : readingsOf t s ≡ accepted (map (λ b. shownBy b (fieldCarried b (own s (traceOf list packets)))) slotBits)
   unfolding readingsOf recordReadings
   all-shown = none-given (streamNumberList t s) _ numbered ∙ ap accepted (map-both _ _ slotBits slotBits 0 0 refl (λ i l. shows-last _))
 
-  words-are : (b : ℕ) → heldWordsIn b (recordAt s t) ≡ wordsBy (fieldCarried b (own s (traceOf ids packets)))
+  words-are : (b : ℕ) → heldWordsIn b (recordAt s t) ≡ wordsBy (fieldCarried b (own s (traceOf list packets)))
   words-are b = words-held b (recordAt s t) ∙ ap wordsBy (held-last b)
 
   module _ (b : ℕ) (k : fieldBit b ≡ true) (out : List ℕ) where
-    pub held-words-last : let ws = wordsBy (fieldCarried b (own s (traceOf ids packets))) in
+    pub held-words-last : let ws = wordsBy (fieldCarried b (own s (traceOf list packets))) in
         length ws ≤ length out → heldWordsOf t s b out ≡ accepted (record { says = length ws; leaves = ws ++ drop (length ws) out })
     unfolding heldWordsOf
     held-words-last g = none-given (readingList t s b) _ (asked b k) ∙ rw (words-are b, le-ltb _ _ g)
 
-    pub held-words-room : length out < length (wordsBy (fieldCarried b (own s (traceOf ids packets)))) → heldWordsOf t s b out ≡ refused ROOM
+    pub held-words-room : length out < length (wordsBy (fieldCarried b (own s (traceOf list packets)))) → heldWordsOf t s b out ≡ refused ROOM
     unfolding heldWordsOf
     held-words-room g = none-given (readingList t s b) _ (asked b k) ∙ rw (words-are b, lt-ltb _ _ g)
 
   pub counts-stand : (kind : ℕ) → among kind countedTypes ≡ true
-      → part (base s + countAt (orderOf kind)) 3 t ≡ countRule (countsOf kind (own s (traceOf ids packets)))
+      → part (base s + countAt (orderOf kind)) 3 t ≡ countRule (countsOf kind (own s (traceOf list packets)))
   unfolding recordAt countWords
   counts-stand kind o =
       sym (part-part (countAt (orderOf kind)) 3 (base s) recordWords t (omega (arith, order-small kind))) ∙ r .counts s h kind o
 
-  pub counts-said : (kind : ℕ) → among kind countedTypes ≡ true → typeCountsOf t s kind ≡ accepted (countBy (countsOf kind (own s (traceOf ids packets))))
+  pub counts-said : (kind : ℕ) → among kind countedTypes ≡ true → typeCountsOf t s kind ≡ accepted (countBy (countsOf kind (own s (traceOf list packets))))
   unfolding typeCountsOf typeCountIn
   counts-said kind o =
       none-given (streamNumberList t s) _ numbered
-      ∙ rw o (ap accepted (ap countIn (r .counts s h kind o) ∙ count-by (countsOf kind (own s (traceOf ids packets)))))
+      ∙ rw o (ap accepted (ap countIn (r .counts s h kind o) ∙ count-by (countsOf kind (own s (traceOf list packets)))))
 
-  pub identified : (d : Declared) × (identityOf t s ≡ accepted d) × (d .identifier ≡ listed ids s)
-      × ((b : ℕ) → has (d .held) b ≡ someCarried b (own s (traceOf ids packets)))
+  pub identified : (d : Declared) × (identityOf t s ≡ accepted d) × (d .identifier ≡ listed (list .ids) s) × (d .choice ≡ choiceIn list s)
+      × ((b : ℕ) → has (d .held) b ≡ someCarried b (own s (traceOf list packets)))
   unfolding identityOf declaredIn
   identified = (
     declaredIn (recordAt s t),
     none-given (streamNumberList t s) _ numbered,
-    record-identifier s t ∙ r .list s h,
+    record-identifier s t ∙ r .identifiers s h,
+    r .choices s h,
     λ b.
         sym (there-pick (has (heldOf (recordAt s t)) b) (slotOf b (recordAt s t))) ∙ ap isThere (held-last b)
-        ∙ some-carried b (own s (traceOf ids packets)),
+        ∙ some-carried b (own s (traceOf list packets)),
   )
 
   pub never-shown : (readingOf t s 22 ≡ accepted absent) × ((out : List ℕ) → heldWordsOf t s 22 out ≡ accepted (record { says = 0; leaves = out }))
   never-shown =
-      let none-there : fieldCarried 22 (own s (traceOf ids packets)) ≡ none = never-carried (own s (traceOf ids packets)) in (
+      let none-there : fieldCarried 22 (own s (traceOf list packets)) ≡ none = never-carried (own s (traceOf list packets)) in (
         shown 22 refl ∙ ap (λ (v : Option (List ℕ)). accepted (shownBy 22 v)) none-there,
         λ out. (rw none-there at (held-words-last 22 refl out)) (omega arith),
       )
 
-  pub shows : PanelShows ours ids packets t s
+  pub shows : PanelShows ours list packets t s
   shows = record {
     reading = shown;
     readings = all-shown;
@@ -203,22 +205,22 @@ module _ (ids : List ℕ) (packets : List (List ℕ)) (t : List ℕ) (r : Right 
 
 -- ---- two right tables
 
-module _ (ids : List ℕ) (packets : List (List ℕ)) (t : List ℕ) (r : Right ids packets t) (s : ℕ) (h : s < length ids)
-    (others : List ℕ) (heard : List (List ℕ)) (u : List ℕ) (q : Right others heard u) (v : ℕ) (g : v < length others) where
+module _ (list : Listing) (packets : List (List ℕ)) (t : List ℕ) (r : Right list packets t) (s : ℕ) (h : s < streamsIn list)
+    (others : Listing) (heard : List (List ℕ)) (u : List ℕ) (q : Right others heard u) (v : ℕ) (g : v < streamsIn others) where
   fits : None (changedList t s u v)
   fits =
-      (rw (r .made, q .made)) and (rw (r .streams, q .streams, lt-leb (length ids) s h, lt-leb (length others) v g)) and tt
+      (rw (r .made, q .made)) and (rw (r .streams, q .streams, lt-leb (streamsIn list) s h, lt-leb (streamsIn others) v g)) and tt
 
   differs-by : (b : ℕ) → differs (recordAt s t) (recordAt v u) b
-      ≡ changedBy b (fieldCarried b (own s (traceOf ids packets))) (fieldCarried b (own v (traceOf others heard)))
+      ≡ changedBy b (fieldCarried b (own s (traceOf list packets))) (fieldCarried b (own v (traceOf others heard)))
   unfolding differs
-  differs-by b = rw (bit-same b, words-are ids packets t r s h b, words-are others heard u q v g b)
+  differs-by b = rw (bit-same b, words-are list packets t r s h b, words-are others heard u q v g b)
 
   no-bit : (b : ℕ) → 31 ≤ b → fieldBit b ≡ false
   no-bit b l = rw (lt-leb b 30 (omega arith), both-no (leb 10 b))
 
   pub changes : (w : ℕ) × (changedOf t s u v ≡ accepted w)
-      × ((b : ℕ) → has w b ≡ changedBy b (fieldCarried b (own s (traceOf ids packets))) (fieldCarried b (own v (traceOf others heard))))
+      × ((b : ℕ) → has w b ≡ changedBy b (fieldCarried b (own s (traceOf list packets))) (fieldCarried b (own v (traceOf others heard))))
   unfolding changedOf changedIn
   changes = (
     changedIn (recordAt s t) (recordAt v u),

@@ -16,17 +16,18 @@ use Rattle.words.proofs.RefusalLaws.{either-passed, first-same}
 use Rattle.words.proofs.AllLaws.{all-same, first-one}
 use Rattle.words.proofs.PartLaws.{part-within}
 use Rattle.packet.specs.declared.Packet.{Packet}
-use Rattle.packet.specs.Read.{readOf}
-use Rattle.record.specs.Layout.{recordWords, heldWordsIn}
+use Rattle.packet.specs.Read.{readBy}
+use Rattle.record.specs.Layout.{recordWords, choiceOf, heldWordsIn}
 use Rattle.record.specs.Good.{recordGood}
 use Rattle.table.specs.Layout.{streamsOf, base, layoutWords, recordAt, withRecord}
 use Rattle.table.specs.Identifiers.{declared, streamOf}
 use Rattle.table.specs.Well.{recordGoodAt, wellMade}
 use Rattle.table.specs.Stream.{streamNumberList}
 use Rattle.table.proofs.ListLaws.{list-same, stream-is}
+use Rattle.table.proofs.StreamLaws.{surveyed-same}
 use Rattle.play.specs.declared.Heard.{Heard}
 use Rattle.play.specs.declared.run.Reached.{Reached}
-use Rattle.play.specs.Play.{heardOf, tableAfter, heardDone, playOf}
+use Rattle.play.specs.Play.{heardOf, tableAfter, heardDone, chosen, playOf}
 use Rattle.play.specs.inner.Steps.{soughtOf}
 use Rattle.play.specs.Run.{goesOn, saidAt, leftAt, nextOf, entryWords, entryAt, Walk, ended, before, walkOf, wholeWalk, runOf}
 use Rattle.play.proofs.StreamLaws.{sought-below}
@@ -97,6 +98,10 @@ module _ (l x : List ℕ) (e : IsLayout l) where
 
   -- ---- play
 
+  -- a packet is read by the same choice
+  chosen-alone : (ws : List ℕ) → chosen (l ++ x) ws ≡ chosen l ws
+  chosen-alone ws = surveyed-same _ (l ++ x) l streams-alone declared-alone (λ s h. ap choiceOf (record-alone s h))
+
   -- an answer of the longer table, and that of the layout alone
   abbrev Alike : Outcome (Done Heard (List ℕ)) → Outcome (Done Heard (List ℕ)) → Type 0
   Alike o p = (saidOf o ≡ saidOf p) × (leftOf o (l ++ x) ≡ leftOf p l ++ x)
@@ -123,7 +128,8 @@ module _ (l x : List ℕ) (e : IsLayout l) where
   play-alone : (ws : List ℕ) → (saidOf (playOf (l ++ x) ws) ≡ saidOf (playOf l ws)) × (leftOf (playOf (l ++ x) ws) (l ++ x) ≡ leftOf (playOf l ws) l ++ x)
   play-alone ws =
       ⊎-elim
-      (λ (w : wellMade l ≡ true). rw (play-step (l ++ x) ws (well-alone ∙ w), play-step l ws w, step-read (l ++ x), step-read l) (read-alone ws (readOf ws)))
+      (λ (w : wellMade l ≡ true). rw (play-step (l ++ x) ws (well-alone ∙ w), play-step l ws w, step-read (l ++ x), step-read l, chosen-alone ws)
+      (read-alone ws (readBy (chosen l ws) ws)))
       (λ (w : wellMade l ≡ false). rw (play-refuses (l ++ x) ws (well-alone ∙ w), play-refuses l ws w) (refl, refl))
       (true-or-false (wellMade l))
 

@@ -25,6 +25,7 @@ use Rattle.record.proofs.CountLaws.{by-types}
 use Rattle.record.proofs.GoodLaws.{zero-at, good-of}
 use Rattle.record.proofs.PacketLaws.{order-small, after-slot, after-held, after-count, after-other}
 use Rattle.table.specs.Start.{freshRecord}
+use Rattle.demands.specs.Listing.{Listing}
 use Rattle.demands.specs.Things.{Thing, wholeField, stateIndicator, userBits, fieldBit, kept, replaced, persistent, tellsOf}
 use Rattle.demands.specs.Trace.{Arrival, valueCarried, orElse}
 use Rattle.demands.specs.Right.{heldIn}
@@ -181,7 +182,7 @@ module _ (body r : List ℕ) (good : Good r) where
       ⊎-elim (λ (c : has fields 16 ≡ true). rw (held-then c, word-then c, c, state-user word old))
       (λ (c : has fields 16 ≡ false). rw (held-as-before c, word-stays c, c)) (true-or-false (has fields 16))
 
-module _ (ids : List ℕ) (a : Arrival) (f : Heeded ids a) (r : List ℕ) (l : length r ≡ recordWords) where
+module _ (list : Listing) (a : Arrival) (f : Heeded list a) (r : List ℕ) (l : length r ≡ recordWords) where
   abbrev next : List ℕ
   next = recordAfter (a .kind) (a .count) (a .body) r
 
@@ -221,12 +222,12 @@ module _ (ids : List ℕ) (a : Arrival) (f : Heeded ids a) (r : List ℕ) (l : l
 
 -- ---- a fresh record
 
-pub fresh-held : (i : ℕ) (x : Thing) → heldIn x (freshRecord i) ≡ none
+pub fresh-held : (i c : ℕ) (x : Thing) → heldIn x (freshRecord i c) ≡ none
 unfolding freshRecord
-fresh-held i (wholeField b) = rw (has-above 0 b (pow-pos b), both-no (replaced b))
-fresh-held i (stateIndicator e) = rw (both-no (persistent e))
-fresh-held i userBits = refl
+fresh-held i c (wholeField b) = rw (has-above 0 b (pow-pos b), both-no (replaced b))
+fresh-held i c (stateIndicator e) = rw (both-no (persistent e))
+fresh-held i c userBits = refl
 
-pub fresh-count : (i kind : ℕ) → among kind countedTypes ≡ true → countWords (orderOf kind) (freshRecord i) ≡ 0 ∷ 0 ∷ 0 ∷ []
+pub fresh-count : (i c kind : ℕ) → among kind countedTypes ≡ true → countWords (orderOf kind) (freshRecord i c) ≡ 0 ∷ 0 ∷ 0 ∷ []
 unfolding freshRecord countWords orderOf part
-fresh-count i = by-types (λ k. countWords (orderOf k) (freshRecord i) ≡ 0 ∷ 0 ∷ 0 ∷ []) refl refl refl refl
+fresh-count i c = by-types (λ k. countWords (orderOf k) (freshRecord i c) ≡ 0 ∷ 0 ∷ 0 ∷ []) refl refl refl refl

@@ -9,6 +9,7 @@ use Rattle.words.proofs.Cases.{le-or-lt, true-or-false}
 use Rattle.packet.specs.Header.{sizeOf}
 use Rattle.play.specs.Play.{playOf}
 use Rattle.play.specs.Run.{goesOn, saidAt, leftAt, nextOf, entryWords, entryOf, entryAt, Walk, walkOf, wholeWalk, reachedOf, answersOf, runOf}
+use Rattle.demands.specs.Listing.{Listing}
 use Rattle.demands.specs.Trace.{Arrival, Trace, heardBy, traceOf, answerTo}
 use Rattle.demands.specs.Program.{ours, playAll, saidAll}
 use Rattle.demands.specs.Right.{Right, pastOf}
@@ -19,33 +20,34 @@ said-goes : (before : Trace) (x : Outcome Arrival) → goesOn (answerTo before x
 said-goes before (refused n) = refl
 said-goes before (accepted a) = refl
 
-on-same : (ids : List ℕ) (before : List (List ℕ)) (t : List ℕ) → Right ids before t → (ws : List ℕ) → goesOn (saidOf (playOf t ws)) ≡ goesPast (heardBy ids ws)
-on-same ids before t r ws = ap goesOn (right-answer ids before t r ws) ∙ said-goes (traceOf ids before) (heardBy ids ws)
+on-same : (list : Listing) (before : List (List ℕ)) (t : List ℕ) → Right list before t → (ws : List ℕ)
+    → goesOn (saidOf (playOf t ws)) ≡ goesPast (heardBy list ws)
+on-same list before t r ws = ap goesOn (right-answer list before t r ws) ∙ said-goes (traceOf list before) (heardBy list ws)
 
 -- a walk from a place on, and its packets played one by one
-record Walked (ids : List ℕ) (at : ℕ) (t : List ℕ) (packets : List (List ℕ)) (w : Walk) : Type 0 where
+record Walked (list : Listing) (at : ℕ) (t : List ℕ) (packets : List (List ℕ)) (w : Walk) : Type 0 where
   entered : w .packets ≡ length packets
-  next : w .next ≡ at + wordsPast ids packets
+  next : w .next ≡ at + wordsPast list packets
   table : w .table ≡ playAll ours t packets
   entries : w .entries ≡ entriesOf packets (saidAll ours t packets)
 
-walked : (ids : List ℕ) (n : ℕ) (ws : List ℕ) (at : ℕ) (before : List (List ℕ)) (t : List ℕ) → Right ids before t
-    → Walked ids at t (packetsFrom ids n ws at) (walkOf n ws at t)
+walked : (list : Listing) (n : ℕ) (ws : List ℕ) (at : ℕ) (before : List (List ℕ)) (t : List ℕ) → Right list before t
+    → Walked list at t (packetsFrom list n ws at) (walkOf n ws at t)
 unfolding walkOf saidAt leftAt nextOf entryAt
-walked ids zero ws at before t r = record { entered = refl; next = sym (add-zero at); table = refl; entries = refl }
-walked ids (suc n) ws at before t r =
+walked list zero ws at before t r = record { entered = refl; next = sym (add-zero at); table = refl; entries = refl }
+walked list (suc n) ws at before t r =
     let next : ℕ = at + sizeOf (getD ws at 0) in
     let left : List ℕ = leftOf (playOf t (drop at ws)) t in
     let first : sizeOf (getD ws at 0) ≡ sizeOf (getD (drop at ws) 0 0) =
     ap sizeOf (ap (λ (i : ℕ). getD ws i 0) (sym (add-zero at)) ∙ sym (getD-drop at ws 0 0)) in
     let entry : entryOf (saidOf (playOf t (drop at ws))) (sizeOf (getD ws at 0)) ≡ entryOf (saidOf (playOf t (drop at ws))) (sizeOf (getD (drop at ws) 0 0)) =
     ap (entryOf (saidOf (playOf t (drop at ws)))) first in
-    let same = on-same ids before t r (drop at ws) in
+    let same = on-same list before t r (drop at ws) in
     ⊎-elim (λ (h : length ws ≤ at). rw (le-leb (length ws) at h) (record { entered = refl; next = sym (add-zero at); table = refl; entries = refl }))
     (λ (h : at < length ws).
     ⊎-elim
-    (λ (e : goesPast (heardBy ids (drop at ws)) ≡ true).
-    let ih = walked ids n ws next (before ++ (drop at ws ∷ [])) left (right-more ids before t r (drop at ws)) in
+    (λ (e : goesPast (heardBy list (drop at ws)) ≡ true).
+    let ih = walked list n ws next (before ++ (drop at ws ∷ [])) left (right-more list before t r (drop at ws)) in
     rw (lt-leb (length ws) at h, same, e)
     (record {
       entered = ap suc (ih .entered);
@@ -53,24 +55,24 @@ walked ids (suc n) ws at before t r =
       table = ih .table;
       entries = rw entry (ap (λ (l : List ℕ). entryOf (saidOf (playOf t (drop at ws))) (sizeOf (getD (drop at ws) 0 0)) ++ l) (ih .entries));
     }))
-    (λ (e : goesPast (heardBy ids (drop at ws)) ≡ false).
+    (λ (e : goesPast (heardBy list (drop at ws)) ≡ false).
     rw (lt-leb (length ws) at h, same, e) (record { entered = refl; next = rw e; table = refl; entries = ap (λ (l : List ℕ). l ++ []) entry }))
-    (true-or-false (goesPast (heardBy ids (drop at ws)))))
+    (true-or-false (goesPast (heardBy list (drop at ws)))))
     (le-or-lt (length ws) at)
 
 pub runs : Runs ours
 unfolding runOf wholeWalk
-runs ids before t r ws from out =
+runs list before t r ws from out =
     let n : ℕ = length out / entryWords in
-    let packets : List (List ℕ) = packetsFrom ids n ws from in
-    let k = walked ids n ws from before t r in
+    let packets : List (List ℕ) = packetsFrom list n ws from in
+    let k = walked list n ws from before t r in
     let w : Walk = walkOf n ws from t in
     record {
       done = record { says = reachedOf w; leaves = (w .table, answersOf w out) };
       accepts = rw (r .made);
       entered = k .entered;
       next = k .next;
-      right = rw (k .table) (right-on ids before packets t r);
-      past = ap (pastOf ids) (k .table) ∙ past-on ids packets t (r .streams);
-      entries = ap (λ (es : List ℕ). es ++ drop (length es) out) (k .entries ∙ ap (entriesOf packets) (answers-on ids before packets t r));
+      right = rw (k .table) (right-on list before packets t r);
+      past = ap (pastOf list) (k .table) ∙ past-on list packets t (r .streams);
+      entries = ap (λ (es : List ℕ). es ++ drop (length es) out) (k .entries ∙ ap (entriesOf packets) (answers-on list before packets t r));
     }

@@ -1,12 +1,13 @@
 -- Streams do not touch one another. The idea: the rules look at a stream's own packets alone, so two recordings with the same own packets (`own-altered`) give
 -- the same rules for its record, hence the same words (`records-same`), and the same answers (`own-answers`).
-use Rattle.words.proofs.Kit.{_≡_, refl, sym, ap, _∙_, Bool, false, ⊎-elim, List, [], _∷_, _++_, ℕ, _<_, eqb-true, eqb, length}
+use Rattle.words.proofs.Kit.{_≡_, refl, sym, ap, _∙_, Bool, false, ⊎-elim, List, [], _∷_, _++_, ℕ, _<_, eqb-true, eqb}
 use mathlib.Core.List.{map, append-nil}
 use Rattle.words.specs.Tests.{pick}
 use Rattle.words.specs.Outcome.{Outcome, refused, accepted}
 use Rattle.words.proofs.Cases.{true-or-false}
 use Rattle.table.specs.Layout.{recordAt}
 use Rattle.play.specs.declared.Heard.{Heard}
+use Rattle.demands.specs.Listing.{Listing, streamsIn}
 use Rattle.demands.specs.Trace.{Arrival, Trace, heardBy, traceOf, isOwn, own, countsOf, addedAfter, answerTo, answersAfter}
 use Rattle.demands.specs.Program.{ours, playAll, saidAll}
 use Rattle.demands.specs.Right.{Right}
@@ -26,13 +27,13 @@ own-same : (s : ℕ) (x : Outcome Arrival) (xs ys : Trace) → own s xs ≡ own 
 own-same s (refused n) xs ys e = e
 own-same s (accepted a) xs ys e = rw e
 
-pub own-altered : (ids : List ℕ) (s : ℕ) {ps qs : List (List ℕ)} → Altered ids s ps qs → own s (traceOf ids ps) ≡ own s (traceOf ids qs)
-own-altered ids s ended = refl
-own-altered ids s (same {ps} {qs} ws a) = own-same s (heardBy ids ws) (traceOf ids ps) (traceOf ids qs) (own-altered ids s a)
-own-altered ids s (changed {ps} {qs} ws vs e f a) =
-    own-not s (heardBy ids ws) (traceOf ids ps) e ∙ own-altered ids s a ∙ sym (own-not s (heardBy ids vs) (traceOf ids qs) f)
-own-altered ids s (added {ps} {qs} vs f a) = own-altered ids s a ∙ sym (own-not s (heardBy ids vs) (traceOf ids qs) f)
-own-altered ids s (dropped {ps} {qs} ws e a) = own-not s (heardBy ids ws) (traceOf ids ps) e ∙ own-altered ids s a
+pub own-altered : (list : Listing) (s : ℕ) {ps qs : List (List ℕ)} → Altered list s ps qs → own s (traceOf list ps) ≡ own s (traceOf list qs)
+own-altered list s ended = refl
+own-altered list s (same {ps} {qs} ws a) = own-same s (heardBy list ws) (traceOf list ps) (traceOf list qs) (own-altered list s a)
+own-altered list s (changed {ps} {qs} ws vs e f a) =
+    own-not s (heardBy list ws) (traceOf list ps) e ∙ own-altered list s a ∙ sym (own-not s (heardBy list vs) (traceOf list qs) f)
+own-altered list s (added {ps} {qs} vs f a) = own-altered list s a ∙ sym (own-not s (heardBy list vs) (traceOf list qs) f)
+own-altered list s (dropped {ps} {qs} ws e a) = own-not s (heardBy list ws) (traceOf list ps) e ∙ own-altered list s a
 
 -- ---- the answers to them
 
@@ -61,24 +62,24 @@ chosen s (accepted a) before later answers e =
     ∙ ap (λ (b : Bool). ownRule (own s before) (pick b (a ∷ own s later) (own s later))) (sym t))
     (true-or-false (eqb (a .stream) s))
 
-own-answers : (ids : List ℕ) (s : ℕ) (before : Trace) (packets : List (List ℕ))
-    → ownAnswers ids s packets (answersAfter before (traceOf ids packets)) ≡ ownRule (own s before) (own s (traceOf ids packets))
+own-answers : (list : Listing) (s : ℕ) (before : Trace) (packets : List (List ℕ))
+    → ownAnswers list s packets (answersAfter before (traceOf list packets)) ≡ ownRule (own s before) (own s (traceOf list packets))
 unfolding ownRule
-own-answers ids s before [] = refl
-own-answers ids s before (ws ∷ packets) =
-    chosen s (heardBy ids ws) before (traceOf ids packets) _ (own-answers ids s (before ++ (heardBy ids ws ∷ [])) packets)
+own-answers list s before [] = refl
+own-answers list s before (ws ∷ packets) =
+    chosen s (heardBy list ws) before (traceOf list packets) _ (own-answers list s (before ++ (heardBy list ws ∷ [])) packets)
 
 -- ---- other streams' packets altered
 
-pub apart : (ids : List ℕ) (t u : List ℕ) → Right ids [] t → Right ids [] u → (s : ℕ) → s < length ids → (ps qs : List (List ℕ)) → Altered ids s ps qs
-    → (recordAt s (playAll ours t ps) ≡ recordAt s (playAll ours u qs)) × (ownAnswers ids s ps (saidAll ours t ps) ≡ ownAnswers ids s qs (saidAll ours u qs))
-apart ids t u r q s h ps qs a =
-    let o = own-altered ids s a in
-    let x : Right ids ps (playAll ours t ps) = right-on ids [] ps t r in
-    let y : Right ids qs (playAll ours u qs) = right-on ids [] qs u q in (
-      records-same ids ps qs _ _ x y s h o,
-      ap (ownAnswers ids s ps) (answers-on ids [] ps t r) ∙ own-answers ids s [] ps ∙ ap (ownRule []) o
-          ∙ sym (ap (ownAnswers ids s qs) (answers-on ids [] qs u q) ∙ own-answers ids s [] qs),
+pub apart : (list : Listing) (t u : List ℕ) → Right list [] t → Right list [] u → (s : ℕ) → s < streamsIn list → (ps qs : List (List ℕ)) → Altered list s ps qs
+    → (recordAt s (playAll ours t ps) ≡ recordAt s (playAll ours u qs)) × (ownAnswers list s ps (saidAll ours t ps) ≡ ownAnswers list s qs (saidAll ours u qs))
+apart list t u r q s h ps qs a =
+    let o = own-altered list s a in
+    let x : Right list ps (playAll ours t ps) = right-on list [] ps t r in
+    let y : Right list qs (playAll ours u qs) = right-on list [] qs u q in (
+      records-same list ps qs _ _ x y s h o,
+      ap (ownAnswers list s ps) (answers-on list [] ps t r) ∙ own-answers list s [] ps ∙ ap (ownRule []) o
+          ∙ sym (ap (ownAnswers list s qs) (answers-on list [] qs u q) ∙ own-answers list s [] qs),
     )
 
 -- ---- refused packets
@@ -106,21 +107,21 @@ answers-unrefused before (refused n ∷ trace) =
 answers-unrefused before (accepted a ∷ trace) =
     rw (answers-unrefused (before ++ (accepted a ∷ [])) trace, unrefused-append before (accepted a ∷ []), own-unrefused (a .stream) before)
 
-pub refused-apart : (ids : List ℕ) → RefusedApart ours ids
-refused-apart ids = record {
+pub refused-apart : (list : Listing) → RefusedApart ours list
+refused-apart list = record {
   unowned = λ ws n e s. rw e;
-  answer = λ packets t r ws n e. play-is ids t (right-listed r) ws ∙ rw e;
+  answer = λ packets t r ws n e. play-is list t (right-listed r) ws ∙ rw e;
   altered = λ before ps qs t u r q e.
-      let same : unrefused (traceOf ids ps) ≡ unrefused (traceOf ids qs) = ap (map accepted) e in
-      let said : (v : List ℕ) → Right ids before v → (xs : List (List ℕ))
-      → acceptedOf (saidAll ours v xs) ≡ acceptedOf (answersAfter (unrefused (traceOf ids before)) (unrefused (traceOf ids xs))) =
-      λ v k xs. ap acceptedOf (answers-on ids before xs v k) ∙ answers-unrefused (traceOf ids before) (traceOf ids xs) in
-      let owned : (s : ℕ) (xs : List (List ℕ)) → own s (traceOf ids (before ++ xs)) ≡ own s (traceOf ids before) ++ own s (unrefused (traceOf ids xs)) =
+      let same : unrefused (traceOf list ps) ≡ unrefused (traceOf list qs) = ap (map accepted) e in
+      let said : (v : List ℕ) → Right list before v → (xs : List (List ℕ))
+      → acceptedOf (saidAll ours v xs) ≡ acceptedOf (answersAfter (unrefused (traceOf list before)) (unrefused (traceOf list xs))) =
+      λ v k xs. ap acceptedOf (answers-on list before xs v k) ∙ answers-unrefused (traceOf list before) (traceOf list xs) in
+      let owned : (s : ℕ) (xs : List (List ℕ)) → own s (traceOf list (before ++ xs)) ≡ own s (traceOf list before) ++ own s (unrefused (traceOf list xs)) =
       λ s xs.
-      ap (own s) (trace-append ids before xs) ∙ own-append s (traceOf ids before) (traceOf ids xs)
-      ∙ ap (λ (l : List Arrival). own s (traceOf ids before) ++ l) (own-unrefused s (traceOf ids xs)) in (
-        layouts-same ids (before ++ ps) (before ++ qs) _ _ (right-on ids before ps t r) (right-on ids before qs u q)
-            (λ s. owned s ps ∙ ap (λ (l : Trace). own s (traceOf ids before) ++ own s l) same ∙ sym (owned s qs)),
-        said t r ps ∙ ap (λ (l : Trace). acceptedOf (answersAfter (unrefused (traceOf ids before)) l)) same ∙ sym (said u q qs),
+      ap (own s) (trace-append list before xs) ∙ own-append s (traceOf list before) (traceOf list xs)
+      ∙ ap (λ (l : List Arrival). own s (traceOf list before) ++ l) (own-unrefused s (traceOf list xs)) in (
+        layouts-same list (before ++ ps) (before ++ qs) _ _ (right-on list before ps t r) (right-on list before qs u q)
+            (λ s. owned s ps ∙ ap (λ (l : Trace). own s (traceOf list before) ++ own s l) same ∙ sym (owned s qs)),
+        said t r ps ∙ ap (λ (l : Trace). acceptedOf (answersAfter (unrefused (traceOf list before)) l)) same ∙ sym (said u q qs),
       );
 }

@@ -9,8 +9,12 @@ use Rattle.fields.proofs.find.Statement as find
 use Rattle.fields.proofs.find.Met as find-met
 use Rattle.packet.proofs.read.Statement as read
 use Rattle.packet.proofs.read.Met as read-met
+use Rattle.packet.proofs.read_survey.Statement as read_survey
+use Rattle.packet.proofs.read_survey.Met as read_survey-met
 use Rattle.packet_write.proofs.write.Statement as write
 use Rattle.packet_write.proofs.write.Met as write-met
+use Rattle.packet_write.proofs.write_survey.Statement as write_survey
+use Rattle.packet_write.proofs.write_survey.Met as write_survey-met
 use Rattle.packet_trailer.proofs.trailer_parts.Statement as trailer_parts
 use Rattle.packet_trailer.proofs.trailer_parts.Met as trailer_parts-met
 use Rattle.packet_trailer.proofs.trailer_word.Statement as trailer_word
@@ -63,7 +67,9 @@ sources = record {
   checkBody = (λ κs a. tt, λ κs a z ws. refl);
   find = (λ κs a. tt, λ κs a z ws. refl);
   read = (λ κs a. tt, λ κs a z ws. refl);
+  readSurvey = (λ κs a. tt, λ κs a z ws. refl);
   write = (λ κs a. tt, λ κs a z ws. refl);
+  writeSurvey = (λ κs a. tt, λ κs a z ws. refl);
   trailerParts = (λ κs a. tt, λ κs a z ws. refl);
   trailerWord = (λ κs a. tt, λ κs a z ws. refl);
   wordsNeeded = (λ κs a. tt, λ κs a z ws. refl);
@@ -102,8 +108,14 @@ find-kept = find-met.met
 pub read-kept : {M : Type 1} → read.statement M
 read-kept = read-met.met
 
+pub read-survey-kept : {M : Type 1} → read_survey.statement M
+read-survey-kept = read_survey-met.met
+
 pub write-kept : {M : Type 1} → write.statement M
 write-kept = write-met.met
+
+pub write-survey-kept : {M : Type 1} → write_survey.statement M
+write-survey-kept = write_survey-met.met
 
 pub trailer-parts-kept : {M : Type 1} → trailer_parts.statement M
 trailer-parts-kept = trailer_parts-met.met

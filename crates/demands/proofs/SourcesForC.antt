@@ -3,8 +3,12 @@
 use Rattle.words.proofs.Kit.{refl}
 use Rattle.vrt49.proofs.vrt49_read.Statement as read
 use Rattle.vrt49.proofs.vrt49_read.Met as read-met
+use Rattle.vrt49.proofs.vrt49_read_survey.Statement as read_survey
+use Rattle.vrt49.proofs.vrt49_read_survey.Met as read_survey-met
 use Rattle.vrt49.proofs.vrt49_write.Statement as write
 use Rattle.vrt49.proofs.vrt49_write.Met as write-met
+use Rattle.vrt49.proofs.vrt49_write_survey.Statement as write_survey
+use Rattle.vrt49.proofs.vrt49_write_survey.Met as write_survey-met
 use Rattle.vrt49.proofs.vrt49_trailer_parts.Statement as trailer_parts
 use Rattle.vrt49.proofs.vrt49_trailer_parts.Met as trailer_parts-met
 use Rattle.vrt49.proofs.vrt49_trailer_word.Statement as trailer_word
@@ -60,7 +64,9 @@ use Rattle.demands.specs.SourcesForC.{SourcesForC}
 pub sources-for-c : SourcesForC
 sources-for-c = record {
   read = (λ κs a. tt, λ κs a z ws. refl);
+  readSurvey = (λ κs a. tt, λ κs a z ws. refl);
   write = (λ κs a. tt, λ κs a z ws. refl);
+  writeSurvey = (λ κs a. tt, λ κs a z ws. refl);
   trailerParts = (λ κs a. tt, λ κs a z ws. refl);
   trailerWord = (λ κs a. tt, λ κs a z ws. refl);
   fieldCount = (λ κs a. tt, λ κs a z ws. refl);
@@ -93,8 +99,14 @@ sources-for-c = record {
 pub for-c-read-kept : {M : Type 1} → read.statement M
 for-c-read-kept = read-met.met
 
+pub for-c-read-survey-kept : {M : Type 1} → read_survey.statement M
+for-c-read-survey-kept = read_survey-met.met
+
 pub for-c-write-kept : {M : Type 1} → write.statement M
 for-c-write-kept = write-met.met
+
+pub for-c-write-survey-kept : {M : Type 1} → write_survey.statement M
+for-c-write-survey-kept = write_survey-met.met
 
 pub for-c-trailer-parts-kept : {M : Type 1} → trailer_parts.statement M
 for-c-trailer-parts-kept = trailer_parts-met.met

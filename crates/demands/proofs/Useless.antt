@@ -1,6 +1,6 @@
 -- Five useless programs, each shut out by a demand: no program of its kind, whatever its other calls do, meets the demand. The idea: the demand fixes what a
 -- table holds or an answer says for two short recordings, and the useless program would have to give one thing for both.
-use Rattle.words.proofs.Kit.{_≡_, refl, sym, ap, _∙_, true, List, [], _∷_, ℕ, _+_, _-_, _%_, arith, eqb, length, getD}
+use Rattle.words.proofs.Kit.{_≡_, refl, sym, ap, _∙_, List, [], _∷_, ℕ, _+_, _-_, _%_, arith, eqb, getD}
 use mathlib.Core.Option.{Option, none, some}
 use lib.ListN.{replicate, length-replicate}
 use Rattle.words.specs.Tests.{pick}
@@ -19,10 +19,12 @@ use Rattle.packet.specs.Read.{timeOver, readOf, classBad, readBy}
 use Rattle.record.specs.Layout.{orderOf, countWords, seenOf, lastOf}
 use Rattle.record.specs.Counts.{missedOf}
 use Rattle.table.specs.Layout.{recordAt}
-use Rattle.table.specs.Identifiers.{listed, apart, listGood}
+use Rattle.record.specs.Good.{choiceGood}
+use Rattle.table.specs.Identifiers.{apart, listGood, choicesGood}
 use Rattle.play.specs.declared.Heard.{Heard}
+use Rattle.demands.specs.Listing.{Listing, Valid, placeIn, chosenIn}
 use Rattle.demands.specs.Things.{Thing, wholeField}
-use Rattle.demands.specs.Trace.{Arrival, placeIn, arrivalOf, heardBy, traceOf, own, lastCarried, countsOf, countRule, addedAfter, answerTo}
+use Rattle.demands.specs.Trace.{Arrival, arrivalOf, heardBy, traceOf, own, lastCarried, countsOf, countRule, addedAfter, answerTo}
 use Rattle.demands.specs.Program.{Program, playAll}
 use Rattle.demands.specs.Right.{heldIn, Right}
 use Rattle.demands.specs.Resumed.{over, plays}
@@ -30,8 +32,8 @@ use Rattle.demands.specs.Demands.{Demand2, Demand3}
 
 -- ---- packets of stream 7: sample data of three and of four words, and Context packets that carry one word, in the field of bit 30
 
-abbrev ids : List ℕ
-ids = 7 ∷ []
+abbrev list : Listing
+list = record { ids = 7 ∷ []; choices = 0 ∷ [] }
 
 abbrev data3 : List ℕ
 data3 = 0x140F0003 ∷ 7 ∷ 0 ∷ []
@@ -53,14 +55,15 @@ sizeRead (accepted p) = p .size
 record Computed : Type 0 where
   read3 : (p : Packet) × (readOf data3 ≡ accepted p) × (p .size ≡ 3)
   read4 : (p : Packet) × (readOf data4 ≡ accepted p) × (p .size ≡ 4)
-  heard3 : heardBy ids data3 ≡ accepted (record { stream = 0; kind = 1; count = 15; size = 3; body = [] })
-  heard-first : heardBy ids first ≡ accepted (record { stream = 0; kind = 4; count = 0; size = 4; body = 0x40000000 ∷ 1 ∷ [] })
-  heard-second : heardBy ids second ≡ accepted (record { stream = 0; kind = 4; count = 0; size = 4; body = 0x40000000 ∷ 2 ∷ [] })
+  heard3 : heardBy list data3 ≡ accepted (record { stream = 0; kind = 1; count = 15; size = 3; body = [] })
+  heard-first : heardBy list first ≡ accepted (record { stream = 0; kind = 4; count = 0; size = 4; body = 0x40000000 ∷ 1 ∷ [] })
+  heard-second : heardBy list second ≡ accepted (record { stream = 0; kind = 4; count = 0; size = 4; body = 0x40000000 ∷ 2 ∷ [] })
   field-first : fieldOf 30 (0x40000000 ∷ 1 ∷ []) ≡ 1 ∷ []
   field-second : fieldOf 30 (0x40000000 ∷ 2 ∷ []) ≡ 2 ∷ []
 
 computed : Computed
-unfolding heardBy arrivalOf placeIn firstOf trailed tsmOf reservedOf streamed hasSeconds hasFraction classAt secondsAt fractionAt bodyAt requiredOf bodyLength
+unfolding heardBy arrivalOf placeIn chosenIn firstOf trailed tsmOf reservedOf streamed hasSeconds hasFraction classAt secondsAt fractionAt
+    bodyAt requiredOf bodyLength
     wordIf classHigh classLow fractionOf partsOf bodyOf packetOf part timeOver classBad readBy lowBitsSet otherLength ruleBroken bodyWords spanOf obeyed ruleOf
     wordsOf fieldSize bitsOf above placeOf fieldOf
 computed = record {
@@ -95,7 +98,7 @@ no-constant-answer P p same d =
 
 -- a fresh table for stream 7
 abbrev buffer : List ℕ
-buffer = replicate 89 0
+buffer = replicate 90 0
 
 -- the word that is held
 abbrev valueIn : Option (List ℕ) → ℕ
@@ -110,27 +113,27 @@ lastIn t s kind = lastOf (countWords (orderOf kind) (recordAt s t))
 abbrev withoutOne : ℕ → ℕ → ℕ
 withoutOne last count = pick (eqb last 0) 0 ((count + 16 - (last - 1)) % 16)
 
-good-list : listGood (length ids) (listed ids) ≡ true
-unfolding listGood apart all
-good-list = refl
+good-list : Valid list
+unfolding listGood apart all choicesGood choiceGood
+good-list = (refl, refl)
 
 module _ (P : Program) (d : Demand3 P) where
-  begun : (e : Done ℕ (List ℕ)) × (P .start ids buffer ≡ accepted e)
-  begun = d .starts ids buffer good-list (omega (arith, length-replicate {A = ℕ} 89 0))
+  begun : (e : Done ℕ (List ℕ)) × (P .start (list .ids) (list .choices) buffer ≡ accepted e)
+  begun = d .starts list buffer good-list (omega (arith, length-replicate {A = ℕ} 90 0))
 
   abbrev fresh : List ℕ
   fresh = begun .0 .leaves
 
   -- the table after some packets of stream 7
-  after : (packets : List (List ℕ)) → Right ids packets (playAll P (begun .0 .leaves) packets)
-  after packets = d .right ids buffer (begun .0) (begun .1) packets
+  after : (packets : List (List ℕ)) → Right list packets (playAll P (begun .0 .leaves) packets)
+  after packets = d .right list buffer (begun .0) (begun .1) packets
 
   seen-after : (packets : List (List ℕ))
-      → countWords (orderOf 1) (recordAt 0 (playAll P (begun .0 .leaves) packets)) ≡ countRule (countsOf 1 (own 0 (traceOf ids packets)))
+      → countWords (orderOf 1) (recordAt 0 (playAll P (begun .0 .leaves) packets)) ≡ countRule (countsOf 1 (own 0 (traceOf list packets)))
   seen-after packets = after packets .counts 0 (omega arith) 1 refl
 
   held-after : (packets : List (List ℕ))
-      → heldIn (wholeField 30) (recordAt 0 (playAll P (begun .0 .leaves) packets)) ≡ lastCarried (wholeField 30) (own 0 (traceOf ids packets))
+      → heldIn (wholeField 30) (recordAt 0 (playAll P (begun .0 .leaves) packets)) ≡ lastCarried (wholeField 30) (own 0 (traceOf list packets))
   held-after packets = after packets .held 0 (omega arith) (wholeField 30)
 
   -- an idle play: shut out by the counts
@@ -142,21 +145,22 @@ module _ (P : Program) (d : Demand3 P) where
       omega (arith, none-seen, sym (ap (λ (t : List ℕ). seenOf (countWords (orderOf 1) (recordAt 0 t))) (idle fresh data3)) ∙ one)
 
   -- one that plays the first packet and feigns the rest, so that no later packet changes what is held: shut out by the last-carried rule
-  pub no-feigned-rest : ((list t : List ℕ) (e : Done ℕ (List ℕ)) → P .start list t ≡ accepted e → (ws : List ℕ) (rest : List (List ℕ)) (s : ℕ) (x : Thing)
+  pub no-feigned-rest : ((list : Listing) (t : List ℕ) (e : Done ℕ (List ℕ)) → P .start (list .ids) (list .choices) t ≡ accepted e
+      → (ws : List ℕ) (rest : List (List ℕ)) (s : ℕ) (x : Thing)
       → heldIn x (recordAt s (playAll P (e .leaves) (ws ∷ rest))) ≡ heldIn x (recordAt s (playAll P (e .leaves) (ws ∷ [])))) → ⊥
   no-feigned-rest feigned =
       let one : valueIn (heldIn (wholeField 30) (recordAt 0 (playAll P fresh (first ∷ [])))) ≡ 1 =
       ap valueIn (held-after (first ∷ [])) ∙ rw (computed .heard-first, computed .field-first) in
       let two : valueIn (heldIn (wholeField 30) (recordAt 0 (playAll P fresh (first ∷ second ∷ [])))) ≡ 2 =
       ap valueIn (held-after (first ∷ second ∷ [])) ∙ rw (computed .heard-first, computed .heard-second, computed .field-second) in
-      let same = ap valueIn (feigned ids buffer (begun .0) (begun .1) first (second ∷ []) 0 (wholeField 30)) in
+      let same = ap valueIn (feigned list buffer (begun .0) (begun .1) first (second ∷ []) 0 (wholeField 30)) in
       omega (arith, one, two, same)
 
   -- an invented missing number, made of the table, the packet's words, its stream and its type in any way that is not the rule's for some packet on some table
   -- that is right: shut out by the modulo 16 rule
   pub no-invented-missing : (number : (table words : List ℕ) (stream kind : ℕ) → ℕ)
       → ((t ws : List ℕ) (h : Heard) → saidOf (P .play t ws) ≡ accepted h → h .missing ≡ number t ws (h .stream) (h .kind))
-      → (list : List ℕ) (packets : List (List ℕ)) (t : List ℕ) → Right list packets t → (ws : List ℕ) (a : Arrival) → heardBy list ws ≡ accepted a
+      → (list : Listing) (packets : List (List ℕ)) (t : List ℕ) → Right list packets t → (ws : List ℕ) (a : Arrival) → heardBy list ws ≡ accepted a
       → (number t ws (a .stream) (a .kind) ≡ addedAfter (countsOf (a .kind) (own (a .stream) (traceOf list packets))) (a .count) → ⊥) → ⊥
   no-invented-missing number invented list packets t r ws a e other =
       let one = d .days list packets (ws ∷ []) t _ _ [] r (plays ws over) in
@@ -168,9 +172,9 @@ module _ (P : Program) (d : Demand3 P) where
   pub no-missing-by-packet : (number : List ℕ → ℕ) → ((t ws : List ℕ) (h : Heard) → saidOf (P .play t ws) ≡ accepted h → h .missing ≡ number ws) → ⊥
   unfolding missedOf
   no-missing-by-packet number invented =
-      no-invented-missing (λ t ws s k. number ws) invented ids [] fresh (after []) data3 _ (computed .heard3)
+      no-invented-missing (λ t ws s k. number ws) invented list [] fresh (after []) data3 _ (computed .heard3)
       (λ none-missing.
-      no-invented-missing (λ t ws s k. number ws) invented ids (data3 ∷ []) _ (after (data3 ∷ [])) data3 _ (computed .heard3)
+      no-invented-missing (λ t ws s k. number ws) invented list (data3 ∷ []) _ (after (data3 ∷ [])) data3 _ (computed .heard3)
       (λ some-missing.
       let fifteen : number data3 ≡ 15 = some-missing ∙ rw (computed .heard3) in
       omega (arith, none-missing, fifteen)))
@@ -181,7 +185,7 @@ module _ (P : Program) (d : Demand3 P) where
   unfolding missedOf
   no-missing-without-one invented =
       no-invented-missing (λ t ws s k. withoutOne (lastIn t s k) (countOf (getD ws 0 0))) invented
-      ids (data3 ∷ []) _ (after (data3 ∷ [])) data3 _ (computed .heard3)
+      list (data3 ∷ []) _ (after (data3 ∷ [])) data3 _ (computed .heard3)
       (λ same.
       let last : lastIn (playAll P fresh (data3 ∷ [])) 0 1 ≡ 16 = ap lastOf (seen-after (data3 ∷ [])) ∙ rw (computed .heard3) in
       let z : _≡_ {A = ℕ} 0 15 = sym (ap (λ (n : ℕ). withoutOne n (countOf (getD data3 0 0))) last) ∙ same ∙ rw (computed .heard3) in

@@ -151,6 +151,7 @@ record-clauses r g =
       word = λ h. held-word (stateIn r) (state h);
       unstarted = λ kind o. g .counts (orderOf kind) (order-small kind) .unstarted;
       small = λ kind o last e. omega (arith, g .counts (orderOf kind) (order-small kind) .most, e);
+      choice = g .choice;
       started = g .started;
     }
 
@@ -163,6 +164,7 @@ clauses-good r c = record {
   small = c .meaningless .0;
   started = c .started;
   counts = by-order r c;
+  choice = c .choice;
   unheld = λ b o n. c .unheld b (bit-same b ∙ o) n;
   obeys = λ b o y.
       both-true _ _ (c .obeys b (bit-same b ∙ o) y)

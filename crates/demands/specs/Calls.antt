@@ -9,7 +9,8 @@ use Rattle.fields.specs.Layout.{fieldCount, foundOf, contextOf}
 use Rattle.packet.specs.declared.Parts.{Parts}
 use Rattle.packet.specs.Read as Read
 use Rattle.packet_trailer.specs.Trailer.{trailerOf, trailerWordOf, trailerPaper}
-use Rattle.packet_write.specs.Write.{writeOf}
+use Rattle.packet.specs.Survey.{readSurveyOf, surveyPaper}
+use Rattle.packet_write.specs.Write.{writeOf, writeSurveyOf}
 use Rattle.payload_format.specs.Answers.{shownPaper}
 use Rattle.payload_format.specs.Count.{neededOf}
 use Rattle.payload_order.specs.declared.Coordinates.{Coordinates}
@@ -71,12 +72,19 @@ checkBodyCall = answers checked contextOf
 abbrev pub findCall : Call
 findCall = answers foundPaper (λ (h : ℕ × List ℕ). foundOf (h .0) (h .1))
 
--- packet::read, packet_write::write, packet_trailer::trailer_parts, trailer_word
+-- packet::read, read_survey, packet_write::write, write_survey, packet_trailer::trailer_parts, trailer_word
 abbrev pub readCall : Call
 readCall = answers Read.parsedPaper Read.readOf
 
+abbrev pub readSurveyCall : Call
+readSurveyCall = answers surveyPaper readSurveyOf
+
 abbrev pub writeCall : Call
 writeCall = lends measured (λ (h : Parts × List ℕ × List ℕ × ℕ). writeOf (h .0) (h .1) (h .2) (h .3)) (λ h. h .2)
+
+abbrev pub writeSurveyCall : Call
+writeSurveyCall =
+    lends measured (λ (h : Parts × ℕ × List ℕ × List ℕ × ℕ). writeSurveyOf (h .1) (h .0) (h .2) (h .3) (h .4)) (λ h. h .3)
 
 abbrev pub trailerPartsCall : Call
 trailerPartsCall = answers plain trailerOf
@@ -106,7 +114,7 @@ signedCall = answers shownPaper (λ (h : ℕ × ℕ). signedOf (h .0) (h .1))
 
 -- table::start, well_made
 abbrev pub startCall : Call
-startCall = lends measured (λ (h : List ℕ × List ℕ). startOf (h .0) (h .1)) (λ h. h .1)
+startCall = lends measured (λ (h : List ℕ × List ℕ × List ℕ). startOf (h .0) (h .1) (h .2)) (λ h. h .2)
 
 abbrev pub wellMadeCall : Call
 wellMadeCall = answers plain wellMade
@@ -154,7 +162,7 @@ changedCall = answers changedPaper (λ (h : List ℕ × ℕ × List ℕ × ℕ).
 unfoldable pub calls : List {1} Call
 calls =
     fieldCountCall ∷ checkBodyCall ∷ findCall
-    ∷ readCall ∷ writeCall ∷ trailerPartsCall ∷ trailerWordCall
+    ∷ readCall ∷ readSurveyCall ∷ writeCall ∷ writeSurveyCall ∷ trailerPartsCall ∷ trailerWordCall
     ∷ wordsNeededCall ∷ unpackCall ∷ packCall ∷ coordinatesOfCall ∷ itemAtCall ∷ signedCall
     ∷ startCall ∷ wellMadeCall ∷ playCall ∷ playRunCall
     ∷ pageLengthCall ∷ saveCall ∷ putBackCall ∷ readingCall ∷ readingsCall ∷ heldWordsCall

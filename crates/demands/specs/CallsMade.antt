@@ -10,16 +10,17 @@ use Rattle.play.specs.declared.Played.{Played}
 use Rattle.play.specs.Play as Play
 use Rattle.page.specs.Save.{saveOf}
 use Rattle.page.specs.PutBack.{putBackOf}
+use Rattle.demands.specs.Listing.{Listing, streamsIn}
 use Rattle.demands.specs.Trace.{traceOf, answersAfter}
 use Rattle.demands.specs.Right.{Right, layoutOf}
 use Rattle.demands.specs.Resumed.{Stop}
 use Rattle.demands.specs.Altered.{Altered, ownAnswers}
 
 -- `start` was called with a list and a lent table, was accepted, and left the table t
-pub record StartMade (ids lent t : List ℕ) : Type 0 where
+pub record StartMade (list : Listing) (lent t : List ℕ) : Type 0 where
   pub answer : Length
   pub says : ℕ
-  pub meets : Meets measured (startOf ids lent) lent answer t
+  pub meets : Meets measured (startOf (list .ids) (list .choices) lent) lent answer t
   pub accepts : measured answer ≡ accepted says
 
 -- `play` was called with each of the packets, one after the other, on a table that was t at first; its answers, and the table at last
@@ -62,25 +63,26 @@ SamePagesMade t (s ∷ later) =
     ((u page : List ℕ) (heard : List Played) → PlaysMade t (s .after) heard u → SaveMade u page → page ≡ s .page) × SamePagesMade t later
 
 -- what the rules say of played packets: the table, and the answers
-pub record Ruled (ids : List ℕ) (before packets : List (List ℕ)) (answers : List Played) (t : List ℕ) : Type 0 where
-  pub table : Right ids (before ++ packets) t
-  pub said : map Play.playedPaper answers ≡ answersAfter (traceOf ids before) (traceOf ids packets)
+pub record Ruled (list : Listing) (before packets : List (List ℕ)) (answers : List Played) (t : List ℕ) : Type 0 where
+  pub table : Right list (before ++ packets) t
+  pub said : map Play.playedPaper answers ≡ answersAfter (traceOf list before) (traceOf list packets)
 
 pub record Demand3Made : Type 0 where
   -- "Start a fresh table for any valid list of streams and play any packets, refused ones among them."
-  pub plays : (ids lent t last : List ℕ) (packets : List (List ℕ)) (answers : List Played) → StartMade ids lent t → PlaysMade t packets answers last
-      → Ruled ids [] packets answers last
+  pub plays : (list : Listing) (lent t last : List ℕ) (packets : List (List ℕ)) (answers : List Played) → StartMade list lent t
+      → PlaysMade t packets answers last
+      → Ruled list [] packets answers last
   -- "Save a page after any packet, put it back where there is room": it is accepted there
-  pub puts-back : (ids : List ℕ) (packets : List (List ℕ)) (t page room back : List ℕ) (r : Length) → Right ids packets t → SaveMade t page
-      → layoutWords (length ids) ≤ length room → Meets measured (putBackOf page room) room r back → measured r ≡ accepted (layoutWords (length ids))
+  pub puts-back : (list : Listing) (packets : List (List ℕ)) (t page room back : List ℕ) (r : Length) → Right list packets t → SaveMade t page
+      → layoutWords (streamsIn list) ≤ length room → Meets measured (putBackOf page room) room r back → measured r ≡ accepted (layoutWords (streamsIn list))
   -- "play the rest", with any number of stops
-  pub days : (ids lent t last : List ℕ) (packets : List (List ℕ)) (answers : List Played) (stops : List Stop) → StartMade ids lent t
-      → DayMade [] t packets answers stops last → Ruled ids [] packets answers last × SamePagesMade t stops
+  pub days : (list : Listing) (lent t last : List ℕ) (packets : List (List ℕ)) (answers : List Played) (stops : List Stop) → StartMade list lent t
+      → DayMade [] t packets answers stops last → Ruled list [] packets answers last × SamePagesMade t stops
   -- "every answer and the final table equal those of the unbroken play"
-  pub unbroken : (ids lent t last whole : List ℕ) (packets : List (List ℕ)) (answers all : List Played) (stops : List Stop) → StartMade ids lent t
+  pub unbroken : (list : Listing) (lent t last whole : List ℕ) (packets : List (List ℕ)) (answers all : List Played) (stops : List Stop) → StartMade list lent t
       → DayMade [] t packets answers stops last → PlaysMade t packets all whole
-      → (layoutOf ids last ≡ layoutOf ids whole) × (map Play.playedPaper answers ≡ map Play.playedPaper all)
+      → (layoutOf list last ≡ layoutOf list whole) × (map Play.playedPaper answers ≡ map Play.playedPaper all)
   -- "other streams' packets may be altered at will, none becoming this stream's, without altering this stream's answers or record"
-  pub apart : (ids lent room t u last other : List ℕ) (ps qs : List (List ℕ)) (answers others : List Played) (s : ℕ)
-      → StartMade ids lent t → PlaysMade t ps answers last → StartMade ids room u → PlaysMade u qs others other → s < length ids → Altered ids s ps qs
-      → (recordAt s last ≡ recordAt s other) × (ownAnswers ids s ps (map Play.playedPaper answers) ≡ ownAnswers ids s qs (map Play.playedPaper others))
+  pub apart : (list : Listing) (lent room t u last other : List ℕ) (ps qs : List (List ℕ)) (answers others : List Played) (s : ℕ)
+      → StartMade list lent t → PlaysMade t ps answers last → StartMade list room u → PlaysMade u qs others other → s < streamsIn list → Altered list s ps qs
+      → (recordAt s last ≡ recordAt s other) × (ownAnswers list s ps (map Play.playedPaper answers) ≡ ownAnswers list s qs (map Play.playedPaper others))

@@ -1,6 +1,6 @@
 -- The three demands, in the words of the person this is built for (quoted above each statement), as statements about a program (Program). proofs/AllMet.antt
 -- proves them of `ours`, the program of this project, and so of the code.
-use Rattle.words.specs.Kit.{_≡_, ℕ, _+_, _^_, _≤_, _<_, true, List, [], _++_, eqb, length, take, drop}
+use Rattle.words.specs.Kit.{_≡_, ℕ, _+_, _^_, _≤_, _<_, Bool, List, [], _++_, eqb, length, take, drop}
 use Rattle.words.specs.Numbers.{ROOM}
 use Rattle.words.specs.Word.{bits, has}
 use Rattle.words.specs.Part.{part}
@@ -9,15 +9,17 @@ use Rattle.fields.specs.Layout.{foundOf}
 use Rattle.packet.specs.declared.Packet.{Packet}
 use Rattle.packet.specs.declared.Parts.{Parts}
 use Rattle.packet.specs.Parts.{bodyAt}
+use Rattle.packet.specs.declared.Survey.{Survey}
 use Rattle.packet.specs.Read.{readOf}
+use Rattle.packet.specs.Survey.{readSurveyOf}
 use Rattle.packet_trailer.specs.Trailer.{trailerOf, trailerWordOf}
-use Rattle.packet_write.specs.Write.{headerWord, sizeFor, plainParts, writeOf}
+use Rattle.packet_write.specs.Write.{headerWord, sizeFor, plainParts, padFor, writeOf, writeSurveyOf}
+use Rattle.payload_format.specs.Count.{neededOf}
 use Rattle.payload_unpack.specs.Unpack.{Buffers, unpackOf}
 use Rattle.payload_order.specs.declared.Coordinates.{Coordinates}
 use Rattle.payload_order.specs.Numbering.{coordinatesOf, itemOf}
 use Rattle.payload_pack.specs.Pack.{packOf}
 use Rattle.table.specs.Layout.{layoutWords, recordAt}
-use Rattle.table.specs.Identifiers.{listed, listGood}
 use Rattle.play.specs.declared.Heard.{Heard}
 use Rattle.panel.specs.Readings.{readingOf}
 use Rattle.demands.specs.Calls.{SomeOutcome, OneOutcome, RefusalLeaves, Each, calls}
@@ -30,8 +32,10 @@ use Rattle.demands.specs.Packings.{PackedAs}
 use Rattle.demands.specs.ItemsNumbered.{ItemsNumbered, figures}
 use Rattle.demands.specs.Samples.{Hold}
 use Rattle.demands.specs.ShownAs.{ShownAs}
+use Rattle.demands.specs.Listing.{Listing, streamsIn, Valid}
 use Rattle.demands.specs.Trace.{traceOf, own, fieldCarried, answersAfter}
-use Rattle.demands.specs.Program.{Program, Accepts, AreWords, playAll, saidAll}
+use Rattle.demands.specs.Program.{Program, Accepts, AreWords, readsBy, writesBy, playAll, saidAll}
+use Rattle.demands.specs.Survey.{OneN, OthersPlain, UnlistedPlain, surveySamples}
 use Rattle.demands.specs.FieldFound.{FieldFound}
 use Rattle.demands.specs.Right.{Right, pastOf}
 use Rattle.demands.specs.Lights.{LightsOut}
@@ -65,24 +69,33 @@ pub record Demand1 : Type 1 where
 pub record Demand2 (P : Program) : Type 0 where
   -- the layouts of document 01
   pub reads : (ws : List ℕ) → P .read ws ≡ readOf ws
+  pub reads-survey : (ws : List ℕ) → P .readSurvey ws ≡ readSurveyOf ws
   pub finds : (b : ℕ) (body : List ℕ) → P .find b body ≡ foundOf b body
   pub writes : (p : Parts) (body out : List ℕ) (at : ℕ) → P .write p body out at ≡ writeOf p body out at
+  pub writes-survey : (pad : ℕ) (p : Parts) (body out : List ℕ) (at : ℕ) → P .writeSurvey pad p body out at ≡ writeSurveyOf pad p body out at
   pub trailers : (w : ℕ) → P .trailerParts w ≡ trailerOf w
   pub trailer-words : (enables indicators e associated : ℕ) → P .trailerWord enables indicators e associated ≡ trailerWordOf enables indicators e associated
   pub packs : (first second : ℕ) (items events channels out : List ℕ)
       → P .pack first second items events channels out ≡ packOf first second items events channels out
+  pub words-needed : (first second n : ℕ) → P .wordsNeeded first second n ≡ neededOf first second n
   pub unpacks : (first second n : ℕ) (ws : List ℕ) (b : Buffers) → P .unpack first second n ws b ≡ unpackOf first second n ws b
   -- "context fields .. are read": of an accepted Context packet, each field that the indicator carries is found, and no other
   pub fields : (ws : List ℕ) (p : Packet) → P .read ws ≡ accepted p → p .parts .kind ≡ 4 → (b : ℕ) → FieldFound P b (part (p .place) (p .length) ws)
-  -- "An accepted packet written again gives the same words": its parts and body, written anywhere with room
-  pub again : (ws : List ℕ) → AreWords ws → (p : Packet) → P .read ws ≡ accepted p → (out : List ℕ) (at : ℕ) → at + p .size ≤ length out
-      → P .write (p .parts) (part (p .place) (p .length) ws) out at
+  -- "An accepted packet written again gives the same words": its parts, its pad count where it is a 49A packet, and its body, written anywhere with room
+  pub again : (survey : Bool) (ws : List ℕ) → AreWords ws → (p : Packet) (pad : ℕ) → readsBy P survey ws ≡ accepted (p, pad)
+      → (out : List ℕ) (at : ℕ) → at + p .size ≤ length out
+      → writesBy P survey pad (p .parts) (part (p .place) (p .length) ws) out at
       ≡ accepted (record { says = p .size; leaves = take at out ++ take (p .size) ws ++ drop (at + p .size) out })
-  -- what was written, read from its place on, has the same parts, absent ones zero, and the same body
-  pub back : (p : Parts) (body out : List ℕ) (at : ℕ) (d : Done ℕ (List ℕ)) → P .write p body out at ≡ accepted d
+  -- what was written, read from its place on, has the same parts, absent ones zero, the same pad count and the same body
+  pub back : (survey : Bool) (pad : ℕ) (p : Parts) (body out : List ℕ) (at : ℕ) (d : Done ℕ (List ℕ)) → writesBy P survey pad p body out at ≡ accepted d
       → let w = headerWord p (sizeFor p (length body)) in
-      (P .read (drop at (d .leaves)) ≡ accepted (record { parts = plainParts w p; size = d .says; place = bodyAt w; length = length body }))
+      (readsBy P survey (drop at (d .leaves))
+      ≡ accepted (record { parts = plainParts w p; size = d .says; place = bodyAt w; length = length body }, padFor survey pad p))
       × (part (bodyAt w) (length body) (drop at (d .leaves)) ≡ body)
+  -- document 02, C-13: "An accepted 49A packet has one n"; types other than 1 stay plain
+  pub one-n : (ws : List ℕ) (s : Survey) → P .readSurvey ws ≡ accepted s → s .packet .parts .kind ≡ 1 → OneN P ws s
+  pub others-plain : OthersPlain P
+  pub survey-samples : Hold surveySamples
   -- "no bit combination is refused": the parts of every trailer word make that word again; and a word that was made says its parts
   pub trailer-again : (w : ℕ) → w < 2 ^ 32 → P .trailerWord (bits 31 20 w) (bits 19 8 w) (bits 7 7 w) (bits 6 0 w) ≡ accepted w
   pub trailer-back : (enables indicators e associated w : ℕ) → P .trailerWord enables indicators e associated ≡ accepted w
@@ -121,46 +134,50 @@ pub record Demand2 (P : Program) : Type 0 where
 
 pub record Demand3 (P : Program) : Type 0 where
   -- "Start a fresh table for any valid list of streams": one is started wherever there is room
-  pub starts : (ids t : List ℕ) → listGood (length ids) (listed ids) ≡ true → layoutWords (length ids) ≤ length t → Accepts (P .start ids t)
+  pub starts : (list : Listing) (t : List ℕ) → Valid list → layoutWords (streamsIn list) ≤ length t → Accepts (P .start (list .ids) (list .choices) t)
   -- "and play any packets, refused ones among them": the table is right, each answer is the one that the rules give, and words past the layout stay
-  pub right : (ids t : List ℕ) (d : Done ℕ (List ℕ)) → P .start ids t ≡ accepted d → (packets : List (List ℕ))
-      → Right ids packets (playAll P (d .leaves) packets)
-  pub answers : (ids t : List ℕ) (d : Done ℕ (List ℕ)) → P .start ids t ≡ accepted d → (packets : List (List ℕ))
-      → saidAll P (d .leaves) packets ≡ answersAfter [] (traceOf ids packets)
-  pub past : (ids t : List ℕ) (d : Done ℕ (List ℕ)) → P .start ids t ≡ accepted d → (packets : List (List ℕ))
-      → pastOf ids (playAll P (d .leaves) packets) ≡ pastOf ids t
+  pub right : (list : Listing) (t : List ℕ) (d : Done ℕ (List ℕ)) → P .start (list .ids) (list .choices) t ≡ accepted d → (packets : List (List ℕ))
+      → Right list packets (playAll P (d .leaves) packets)
+  pub answers : (list : Listing) (t : List ℕ) (d : Done ℕ (List ℕ)) → P .start (list .ids) (list .choices) t ≡ accepted d → (packets : List (List ℕ))
+      → saidAll P (d .leaves) packets ≡ answersAfter [] (traceOf list packets)
+  pub past : (list : Listing) (t : List ℕ) (d : Done ℕ (List ℕ)) → P .start (list .ids) (list .choices) t ≡ accepted d → (packets : List (List ℕ))
+      → pastOf list (playAll P (d .leaves) packets) ≡ pastOf list t
+  -- document 02, C-13: "packets of no declared stream .. stay plain"
+  pub unlisted-plain : UnlistedPlain P
   -- document 02, C-11: over-range, sample loss and field 22 leave no trace
   pub lights-out : LightsOut P
   -- what the panel and the caller see of a stream is that value, and these counts
-  pub shows : (ids : List ℕ) (packets : List (List ℕ)) (t : List ℕ) → Right ids packets t → (s : ℕ) → s < length ids → PanelShows P ids packets t s
+  pub shows : (list : Listing) (packets : List (List ℕ)) (t : List ℕ) → Right list packets t → (s : ℕ) → s < streamsIn list → PanelShows P list packets t s
   -- which fields two tables do not hold alike, such as those before a packet and after it: those whose values, by what was last carried, are not the same
-  pub changes : (ids : List ℕ) (packets : List (List ℕ)) (t : List ℕ) → Right ids packets t → (s : ℕ) → s < length ids
-      → (others : List ℕ) (heard : List (List ℕ)) (u : List ℕ) → Right others heard u → (v : ℕ) → v < length others
+  pub changes : (list : Listing) (packets : List (List ℕ)) (t : List ℕ) → Right list packets t → (s : ℕ) → s < streamsIn list
+      → (others : Listing) (heard : List (List ℕ)) (u : List ℕ) → Right others heard u → (v : ℕ) → v < streamsIn others
       → (w : ℕ) × (P .changed t s u v ≡ accepted w)
-      × ((b : ℕ) → has w b ≡ changedBy b (fieldCarried b (own s (traceOf ids packets))) (fieldCarried b (own v (traceOf others heard))))
-  -- a stream's own table is right for its identifier alone and the same packets
-  pub own : (ids : List ℕ) (packets : List (List ℕ)) (t : List ℕ) → Right ids packets t → (s : ℕ) → s < length ids → (out : List ℕ) → layoutWords 1 ≤ length out
-      → OwnRight P ids packets t s out
+      × ((b : ℕ) → has w b ≡ changedBy b (fieldCarried b (own s (traceOf list packets))) (fieldCarried b (own v (traceOf others heard))))
+  -- a stream's own table is right for its identifier and choice alone and the same packets
+  pub own : (list : Listing) (packets : List (List ℕ)) (t : List ℕ) → Right list packets t → (s : ℕ) → s < streamsIn list
+      → (out : List ℕ) → layoutWords 1 ≤ length out
+      → OwnRight P list packets t s out
   -- many packets in one slice of words are played as one by one
   pub runs : Runs P
   -- "A lent table may be longer than its layout: words past it are neither read nor changed": two tables with one layout get the same answers and layouts
   pub unread : (l x : List ℕ) → IsLayout l → PastUnread P l x
   -- "Save a page after any packet": of every table that is right for the packets so far, the tables above among them
-  pub saves : (ids : List ℕ) (packets : List (List ℕ)) (t : List ℕ) → Right ids packets t → Saves P ids t
+  pub saves : (list : Listing) (packets : List (List ℕ)) (t : List ℕ) → Right list packets t → Saves P list t
   -- "put it back where there is room, play the rest"; without room, ROOM
-  pub resumes : (ids : List ℕ) (first rest : List (List ℕ)) (t : List ℕ) → Right ids first t → (buffer : List ℕ) (saved : Done ℕ (List ℕ))
-      → P .save t buffer ≡ accepted saved → (lent : List ℕ) → layoutWords (length ids) ≤ length lent
-      → Resumes P ids t first rest (take (saved .says) (saved .leaves)) lent
-  pub no-room : (ids : List ℕ) (first : List (List ℕ)) (t : List ℕ) → Right ids first t → (buffer : List ℕ) (saved : Done ℕ (List ℕ))
-      → P .save t buffer ≡ accepted saved → (lent : List ℕ) → length lent < layoutWords (length ids)
+  pub resumes : (list : Listing) (first rest : List (List ℕ)) (t : List ℕ) → Right list first t → (buffer : List ℕ) (saved : Done ℕ (List ℕ))
+      → P .save t buffer ≡ accepted saved → (lent : List ℕ) → layoutWords (streamsIn list) ≤ length lent
+      → Resumes P list t first rest (take (saved .says) (saved .leaves)) lent
+  pub no-room : (list : Listing) (first : List (List ℕ)) (t : List ℕ) → Right list first t → (buffer : List ℕ) (saved : Done ℕ (List ℕ))
+      → P .save t buffer ≡ accepted saved → (lent : List ℕ) → length lent < layoutWords (streamsIn list)
       → P .putBack (take (saved .says) (saved .leaves)) lent ≡ refused ROOM
   -- and so all day, with any number of stops: "every answer and the final table equal those of the unbroken play", and so does every page
-  pub days : (ids : List ℕ) (first packets : List (List ℕ)) (t last : List ℕ) (answers : List (Outcome Heard)) (stops : List Stop) → Right ids first t
-      → Day P [] t packets answers stops last → DayRight P ids first t packets answers stops last
+  pub days : (list : Listing) (first packets : List (List ℕ)) (t last : List ℕ) (answers : List (Outcome Heard)) (stops : List Stop) → Right list first t
+      → Day P [] t packets answers stops last → DayRight P list first t packets answers stops last
   -- "With the list unchanged, other streams' packets may be altered at will, none becoming this stream's, without altering this stream's answers or record."
-  pub apart : (ids t u : List ℕ) (d e : Done ℕ (List ℕ)) → P .start ids t ≡ accepted d → P .start ids u ≡ accepted e → (s : ℕ) → s < length ids
-      → (ps qs : List (List ℕ)) → Altered ids s ps qs
+  pub apart : (list : Listing) (t u : List ℕ) (d e : Done ℕ (List ℕ)) → P .start (list .ids) (list .choices) t ≡ accepted d
+      → P .start (list .ids) (list .choices) u ≡ accepted e → (s : ℕ) → s < streamsIn list
+      → (ps qs : List (List ℕ)) → Altered list s ps qs
       → (recordAt s (playAll P (d .leaves) ps) ≡ recordAt s (playAll P (e .leaves) qs))
-      × (ownAnswers ids s ps (saidAll P (d .leaves) ps) ≡ ownAnswers ids s qs (saidAll P (e .leaves) qs))
+      × (ownAnswers list s ps (saidAll P (d .leaves) ps) ≡ ownAnswers list s qs (saidAll P (e .leaves) qs))
   -- refused packets are no stream's, also those that bear its identifier
-  pub refused-apart : (ids : List ℕ) → RefusedApart P ids
+  pub refused-apart : (list : Listing) → RefusedApart P list

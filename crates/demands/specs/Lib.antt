@@ -6,6 +6,8 @@ pub mod Demands
 pub mod Program
 -- what is kept of Context packets, thing by thing
 pub mod Things
+-- the list of a table's streams: identifiers and choices
+pub mod Listing
 -- which packets of a trace are accepted, and the rules over them
 pub mod Trace
 -- tables that the rules fix
@@ -14,6 +16,8 @@ pub mod Right
 pub mod Lights
 -- what the panel and the caller see
 pub mod PanelShows
+-- 49A packets: one n, and packets that stay plain
+pub mod Survey
 -- a stream's own table
 pub mod OwnRight
 -- stopping and resuming, any number of times

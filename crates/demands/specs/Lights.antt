@@ -5,17 +5,18 @@ use Rattle.words.specs.Word.{has}
 use Rattle.words.specs.Outcome.{accepted, leftOf}
 use Rattle.fields.specs.Layout.{indicatorOf, fieldOf}
 use Rattle.demands.specs.Things.{passing}
+use Rattle.demands.specs.Listing.{Listing}
 use Rattle.demands.specs.Trace.{Arrival, heardBy}
 use Rattle.demands.specs.Program.{Program}
 use Rattle.demands.specs.Right.{Right}
 
 -- to a list, two accepted packets of one stream, type and count that carry the same fields, but for 22, and the same words in them, but for the enables and
 -- values of over-range and sample loss in 16. Of 22 nothing is asked: one packet may carry it and the other not, or another number.
-pub record SameButLights (ids ws vs : List ℕ) : Type 0 where
+pub record SameButLights (list : Listing) (ws vs : List ℕ) : Type 0 where
   pub one : Arrival
   pub other : Arrival
-  pub hears-one : heardBy ids ws ≡ accepted one
-  pub hears-other : heardBy ids vs ≡ accepted other
+  pub hears-one : heardBy list ws ≡ accepted one
+  pub hears-other : heardBy list vs ≡ accepted other
   pub stream : one .stream ≡ other .stream
   pub kind : one .kind ≡ other .kind
   pub count : one .count ≡ other .count
@@ -26,5 +27,5 @@ pub record SameButLights (ids ws vs : List ℕ) : Type 0 where
 
 -- they leave the same table, and so whatever is asked of it, or saved, is the same
 abbrev pub LightsOut : Program → Type 0
-LightsOut P = (ids : List ℕ) (packets : List (List ℕ)) (t : List ℕ) → Right ids packets t → (ws vs : List ℕ) → SameButLights ids ws vs
+LightsOut P = (list : Listing) (packets : List (List ℕ)) (t : List ℕ) → Right list packets t → (ws vs : List ℕ) → SameButLights list ws vs
     → leftOf (P .play t ws) t ≡ leftOf (P .play t vs) t

@@ -1,14 +1,17 @@
 -- A program, of which the demands speak: a record of what its calls answer, and what they leave in the words that they are lent. `ours` is the program of this
 -- project: each call by the definition that its promise cites, so that what is proved of `ours` is proved of the code.
-use Rattle.words.specs.Kit.{_≡_, ℕ, _^_, _<_, Bool, List, [], _∷_, getD}
-use Rattle.words.specs.Outcome.{Outcome, accepted, Done, saidOf, leftOf}
+use Rattle.words.specs.Kit.{_≡_, ℕ, _^_, _<_, Bool, true, false, List, [], _∷_, getD}
+use Rattle.words.specs.Outcome.{Outcome, accepted, onward, Done, saidOf, leftOf}
 use Rattle.fields.specs.Layout.{foundOf}
 use Rattle.packet.specs.declared.Packet.{Packet}
 use Rattle.packet.specs.declared.Parts.{Parts}
+use Rattle.packet.specs.declared.Survey.{Survey}
 use Rattle.packet.specs.Read.{readOf}
-use Rattle.packet_write.specs.Write.{writeOf}
+use Rattle.packet.specs.Survey.{readSurveyOf}
+use Rattle.packet_write.specs.Write.{writeOf, writeSurveyOf}
 use Rattle.packet_trailer.specs.declared.Trailer.{Trailer}
 use Rattle.packet_trailer.specs.Trailer.{trailerOf, trailerWordOf}
+use Rattle.payload_format.specs.Count.{neededOf}
 use Rattle.payload_order.specs.declared.Coordinates.{Coordinates}
 use Rattle.payload_order.specs.Numbering.{coordinatesOf, itemOf}
 use Rattle.payload_unpack.specs.Unpack.{Buffers, unpackOf}
@@ -33,15 +36,18 @@ use Rattle.panel_streams.specs.Changed.{changedOf}
 -- field and its number of words, or nothing
 pub record Program : Type 0 where
   pub read : List ℕ → Outcome Packet
+  pub readSurvey : List ℕ → Outcome Survey
   pub find : (bit : ℕ) (body : List ℕ) → List ℕ
   pub write : Parts → (body out : List ℕ) (at : ℕ) → Outcome (Done ℕ (List ℕ))
+  pub writeSurvey : (pad : ℕ) → Parts → (body out : List ℕ) (at : ℕ) → Outcome (Done ℕ (List ℕ))
   pub trailerParts : (word : ℕ) → Trailer
   pub trailerWord : (enables indicators e associated : ℕ) → Outcome ℕ
   pub pack : (first second : ℕ) (items events channels out : List ℕ) → Outcome (Done ℕ (List ℕ))
   pub unpack : (first second n : ℕ) → List ℕ → Buffers → Outcome (Done ℕ Buffers)
+  pub wordsNeeded : (first second n : ℕ) → Outcome ℕ
   pub coordinates : (first second n item : ℕ) → Outcome Coordinates
   pub item : (first second n : ℕ) → Coordinates → Outcome ℕ
-  pub start : (ids table : List ℕ) → Outcome (Done ℕ (List ℕ))
+  pub start : (ids choices table : List ℕ) → Outcome (Done ℕ (List ℕ))
   pub wellMade : (table : List ℕ) → Bool
   pub play : (table words : List ℕ) → Outcome (Done Heard (List ℕ))
   pub playRun : (table words : List ℕ) (from : ℕ) (answers : List ℕ) → Outcome (Done Reached (List ℕ × List ℕ))
@@ -60,12 +66,15 @@ pub record Program : Type 0 where
 abbrev pub ours : Program
 ours = record {
   read = readOf;
+  readSurvey = readSurveyOf;
   find = foundOf;
   write = writeOf;
+  writeSurvey = writeSurveyOf;
   trailerParts = trailerOf;
   trailerWord = trailerWordOf;
   pack = packOf;
   unpack = unpackOf;
+  wordsNeeded = neededOf;
   coordinates = coordinatesOf;
   item = itemOf;
   start = startOf;
@@ -91,6 +100,17 @@ Accepts {A} o = (a : A) × (o ≡ accepted a)
 -- words of 32 bits
 abbrev pub AreWords : List ℕ → Type 0
 AreWords ws = (i : ℕ) → getD ws i 0 < 2 ^ 32
+
+-- ---- packets by a choice: plain 49.0, or 49A
+
+-- what is read: the packet, and its pad count; a plain packet has none
+abbrev pub readsBy : Program → (survey : Bool) → List ℕ → Outcome (Packet × ℕ)
+readsBy P false ws = onward (P .read ws) (λ p. accepted (p, 0))
+readsBy P true ws = onward (P .readSurvey ws) (λ s. accepted (s .packet, s .pad))
+
+abbrev pub writesBy : Program → (survey : Bool) → ℕ → Parts → (body out : List ℕ) (at : ℕ) → Outcome (Done ℕ (List ℕ))
+writesBy P false pad = P .write
+writesBy P true pad = P .writeSurvey pad
 
 -- ---- play, packet by packet
 

@@ -1,17 +1,18 @@
 -- Document 01, 'Numbers given back': "The first that applies is given, in these orders." For each call the numbers in the document's order, and that the call
 -- gives the first of its list that applies. The list of a call, each number with the test that says when it is given, stands with the call's definition.
-use Rattle.words.specs.Kit.{_≡_, ℕ, List, [], _∷_, _++_, length, getD, drop}
+use Rattle.words.specs.Kit.{_≡_, ℕ, true, List, [], _∷_, _++_, length, getD, drop}
 use Rattle.words.specs.Numbers.{TYPE, SHORT, TIME, INDICATOR, LAYOUT, FIELD}
-use Rattle.words.specs.Numbers.{STREAM, LIST, ROOM, VALUE, SIZE, FORMAT, COUNT, TABLE, PAGE}
+use Rattle.words.specs.Numbers.{STREAM, LIST, ROOM, VALUE, SIZE, FORMAT, COUNT, TABLE, PAGE, PAD}
 use Rattle.words.specs.Word.{join}
 use Rattle.words.specs.Outcome.{Outcome, accepted}
 use Rattle.words.specs.Refusals.{Refusals, firstGiven, numbersIn}
 use Rattle.fields.specs.Layout.{contextList, contextOf}
 use Rattle.packet.specs.declared.Parts.{Parts}
 use Rattle.packet.specs.Parts.{packetOf}
-use Rattle.packet.specs.Read.{readList, readOf}
+use Rattle.packet.specs.Read.{readList, listBy, readOf}
+use Rattle.packet.specs.Survey.{surveyOf, readSurveyOf}
 use Rattle.packet_trailer.specs.Trailer.{trailerList, trailerWordOf}
-use Rattle.packet_write.specs.Write.{writeList, writtenDone, writeOf}
+use Rattle.packet_write.specs.Write.{padFor, writeList, writeSurveyList, writtenDone, writeOf, writeSurveyOf}
 use Rattle.payload_format.specs.Count.{wordsFor, neededList, neededOf}
 use Rattle.payload_format.specs.Format.{packingOf}
 use Rattle.payload_order.specs.declared.Coordinates.{Coordinates}
@@ -48,17 +49,27 @@ pub record Ordered {A : Type 0} (call : Outcome A) (numbers : List ℕ) (list : 
 abbrev pub writeOrder : List ℕ
 writeOrder = TYPE ∷ VALUE ∷ SHORT ∷ SIZE ∷ TIME ∷ INDICATOR ∷ LAYOUT ∷ FIELD ∷ ROOM ∷ []
 
+-- document 02, C-13: "20 PAD, after FIELD"
+abbrev pub writeSurveyOrder : List ℕ
+writeSurveyOrder = TYPE ∷ VALUE ∷ SHORT ∷ SIZE ∷ TIME ∷ INDICATOR ∷ LAYOUT ∷ FIELD ∷ PAD ∷ ROOM ∷ []
+
 -- of the public calls, those that are not here never refuse
 pub record InOrder : Type 0 where
   -- "Read: 1 to 10 as listed"
   pub read : (ws : List ℕ) → let w = getD ws 0 0 in Ordered (readOf ws) readNumbers (readList w ws) (packetOf w ws)
   pub write : (p : Parts) (body out : List ℕ) (at : ℕ)
-      → Ordered (writeOf p body out at) writeOrder (writeList p body (length out) at) (writtenDone p body out at)
+      → Ordered (writeOf p body out at) writeOrder (writeList p body (length out) at) (writtenDone 0 p body out at)
+  -- 49A: "CLASS is not given" where it governs, as its test says, and PAD where it governs alone
+  pub readSurvey : (ws : List ℕ) → let w = getD ws 0 0 in Ordered (readSurveyOf ws) (readNumbers ++ (PAD ∷ [])) (listBy true w ws) (surveyOf w ws)
+  pub writeSurvey : (pad : ℕ) (p : Parts) (body out : List ℕ) (at : ℕ)
+      → Ordered (writeSurveyOf pad p body out at) writeSurveyOrder (writeSurveyList pad p body (length out) at)
+      (writtenDone (padFor true pad p) p body out at)
   -- "Start: LIST, ROOM. Play: TABLE, read order, STREAM. Save: TABLE, SIZE, ROOM. Put back: PAGE, ROOM. Reading: TABLE, STREAM, VALUE."
-  pub start : (ids t : List ℕ)
-      → Ordered (startOf ids t) (LIST ∷ ROOM ∷ []) (startList ids t) (record { says = layoutWords (length ids); leaves = freshTable ids t })
+  pub start : (ids choices t : List ℕ)
+      → Ordered (startOf ids choices t) (LIST ∷ ROOM ∷ []) (startList ids choices t)
+      (record { says = layoutWords (length ids); leaves = freshTable ids choices t })
   pub play : (t ws : List ℕ) → let p = packetOf (getD ws 0 0) ws in
-      Ordered (playOf t ws) ((TABLE ∷ []) ++ readNumbers ++ (STREAM ∷ [])) (playList t ws) (heardDone p (streamOf (p .parts .identifier) t) t ws)
+      Ordered (playOf t ws) ((TABLE ∷ []) ++ readNumbers ++ (PAD ∷ STREAM ∷ [])) (playList t ws) (heardDone p (streamOf (p .parts .identifier) t) t ws)
   pub save : (t page : List ℕ)
       → Ordered (saveOf t page) (TABLE ∷ SIZE ∷ ROOM ∷ []) (saveList t page) (record { says = pageLength t; leaves = pageOf t ++ drop (pageLength t) page })
   pub putBack : (p t : List ℕ) → let n = layoutWords (bodiesIn p) in

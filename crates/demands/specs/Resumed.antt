@@ -6,6 +6,7 @@ use Rattle.words.specs.Outcome.{Outcome, refused, accepted, Done, saidOf, leftO
 use Rattle.table.specs.Layout.{layoutWords}
 use Rattle.play.specs.declared.Heard.{Heard}
 use Rattle.page.specs.Layout.{lengthAt}
+use Rattle.demands.specs.Listing.{Listing, streamsIn}
 use Rattle.demands.specs.Trace.{traceOf, answersAfter}
 use Rattle.demands.specs.Program.{Program, playAll, saidAll}
 use Rattle.demands.specs.Right.{Right, layoutOf, pastOf}
@@ -17,28 +18,28 @@ abbrev pub SavesAs : Program → (t page : List ℕ) → Type 0
 SavesAs P t page = (lent : List ℕ) → length page ≤ length lent
     → P .save t lent ≡ accepted (record { says = length page; leaves = page ++ drop (length page) lent })
 
--- "Save a page after any packet": there is a page, of "at least 2 + 16S" words (document 01) and "at most 2 + 89S" (document 02, C-11); it is refused only
--- where it does not fit, with ROOM
-pub record Saves (P : Program) (ids t : List ℕ) : Type 0 where
+-- "Save a page after any packet": there is a page, of "2 + 17S to 2 + 90S" words (document 02, C-13); it is refused only where it does not fit, with
+-- ROOM
+pub record Saves (P : Program) (list : Listing) (t : List ℕ) : Type 0 where
   pub page : List ℕ
-  pub least : 2 + 16 * length ids ≤ length page
-  pub most : length page ≤ 2 + 89 * length ids
-  -- "A body has at most 87 words", by the contents
-  pub bodies : (s : ℕ) → s < length ids → lengthAt page s ≤ 87
+  pub least : 2 + 17 * streamsIn list ≤ length page
+  pub most : length page ≤ 2 + 90 * streamsIn list
+  -- a body has at most 88 words, by the contents: "at most 87 words" (C-11), and the choice
+  pub bodies : (s : ℕ) → s < streamsIn list → lengthAt page s ≤ 88
   pub fits : SavesAs P t page
   pub short : (lent : List ℕ) → length lent < length page → P .save t lent ≡ refused ROOM
 
 -- "put it back where there is room, play the rest": t is right for the packets `first`, its page is put back into the table `lent`, and `rest` is played. By
 -- the rules first: the table is right for all the packets, and the answers are those of the rules; then as the unbroken play, which goes on with t.
-pub record Resumes (P : Program) (ids t : List ℕ) (first rest : List (List ℕ)) (page lent : List ℕ) : Type 0 where
+pub record Resumes (P : Program) (list : Listing) (t : List ℕ) (first rest : List (List ℕ)) (page lent : List ℕ) : Type 0 where
   pub done : Done ℕ (List ℕ)
   pub accepts : P .putBack page lent ≡ accepted done
-  pub says : done .says ≡ layoutWords (length ids)
-  pub right : Right ids (first ++ rest) (playAll P (done .leaves) rest)
-  pub answers : saidAll P (done .leaves) rest ≡ answersAfter (traceOf ids first) (traceOf ids rest)
+  pub says : done .says ≡ layoutWords (streamsIn list)
+  pub right : Right list (first ++ rest) (playAll P (done .leaves) rest)
+  pub answers : saidAll P (done .leaves) rest ≡ answersAfter (traceOf list first) (traceOf list rest)
   pub same-answers : saidAll P (done .leaves) rest ≡ saidAll P t rest
-  pub same-table : layoutOf ids (playAll P (done .leaves) rest) ≡ layoutOf ids (playAll P t rest)
-  pub past : pastOf ids (playAll P (done .leaves) rest) ≡ pastOf ids lent
+  pub same-table : layoutOf list (playAll P (done .leaves) rest) ≡ layoutOf list (playAll P t rest)
+  pub past : pastOf list (playAll P (done .leaves) rest) ≡ pastOf list lent
 
 -- ---- any number of stops
 
@@ -65,10 +66,10 @@ SamePages P t [] = Unit
 SamePages P t (s ∷ later) = SavesAs P (playAll P t (s .after)) (s .page) × SamePages P t later
 
 -- a day that began with a table t that is right for the packets `first`
-pub record DayRight (P : Program) (ids : List ℕ) (first : List (List ℕ)) (t : List ℕ) (packets : List (List ℕ)) (answers : List (Outcome Heard))
+pub record DayRight (P : Program) (list : Listing) (first : List (List ℕ)) (t : List ℕ) (packets : List (List ℕ)) (answers : List (Outcome Heard))
     (stops : List Stop) (last : List ℕ) : Type 0 where
-  pub right : Right ids (first ++ packets) last
-  pub ruled : answers ≡ answersAfter (traceOf ids first) (traceOf ids packets)
+  pub right : Right list (first ++ packets) last
+  pub ruled : answers ≡ answersAfter (traceOf list first) (traceOf list packets)
   pub same-answers : answers ≡ saidAll P t packets
-  pub same-table : layoutOf ids last ≡ layoutOf ids (playAll P t packets)
+  pub same-table : layoutOf list last ≡ layoutOf list (playAll P t packets)
   pub same-pages : SamePages P t stops

@@ -16,8 +16,12 @@ use Rattle.fields.proofs.find.Kinds as find-kinds
 use Rattle.fields.proofs.find.Reads as find
 use Rattle.packet.proofs.read.Kinds as read-kinds
 use Rattle.packet.proofs.read.Reads as read
+use Rattle.packet.proofs.read_survey.Kinds as read_survey-kinds
+use Rattle.packet.proofs.read_survey.Reads as read_survey
 use Rattle.packet_write.proofs.write.Kinds as write-kinds
 use Rattle.packet_write.proofs.write.Reads as write
+use Rattle.packet_write.proofs.write_survey.Kinds as write_survey-kinds
+use Rattle.packet_write.proofs.write_survey.Reads as write_survey
 use Rattle.packet_trailer.proofs.trailer_parts.Kinds as trailer_parts-kinds
 use Rattle.packet_trailer.proofs.trailer_parts.Reads as trailer_parts
 use Rattle.packet_trailer.proofs.trailer_word.Kinds as trailer_word-kinds
@@ -63,7 +67,8 @@ use Rattle.panel_streams.proofs.own_table.Reads as own_table
 use Rattle.panel_streams.proofs.changed.Kinds as changed-kinds
 use Rattle.panel_streams.proofs.changed.Reads as changed
 use Rattle.demands.specs.Calls.{Call, answers, lends}
-use Rattle.demands.specs.Calls.{fieldCountCall, checkBodyCall, findCall, readCall, writeCall, trailerPartsCall, trailerWordCall}
+use Rattle.demands.specs.Calls.{fieldCountCall, checkBodyCall, findCall, readCall, readSurveyCall, writeCall, writeSurveyCall}
+use Rattle.demands.specs.Calls.{trailerPartsCall, trailerWordCall}
 use Rattle.demands.specs.Calls.{wordsNeededCall, unpackCall, packCall, coordinatesOfCall, itemAtCall, signedCall, startCall, wellMadeCall, playCall}
 use Rattle.demands.specs.Calls.{playRunCall, pageLengthCall, saveCall, putBackCall, readingCall, readingsCall, heldWordsCall}
 use Rattle.demands.specs.Calls.{identityCall, countsCall, ownTableCall, changedCall}
@@ -114,9 +119,15 @@ pub record Sources : Type 1 where
   -- packet::read
   pub read : Source readCall read-kinds.ps read-kinds.r read.Asked read.Learnt
       (λ κs a. a .0 .now) (λ κs z. z) (λ κs a ws. tt)
+  -- packet::read_survey
+  pub readSurvey : Source readSurveyCall read_survey-kinds.ps read_survey-kinds.r read_survey.Asked read_survey.Learnt
+      (λ κs a. a .0 .now) (λ κs z. z) (λ κs a ws. tt)
   -- packet_write::write
   pub write : Source writeCall write-kinds.ps write-kinds.r write.Asked write.Learnt
       (λ κs a. (a .0, a .1 .0 .now, a .1 .1 .0 .now, a .1 .1 .1 .0)) (λ κs z. z) (λ κs a ws. ws .1 .1 .0)
+  -- packet_write::write_survey
+  pub writeSurvey : Source writeSurveyCall write_survey-kinds.ps write_survey-kinds.r write_survey.Asked write_survey.Learnt
+      (λ κs a. (a .0, a .1 .0, a .1 .1 .0 .now, a .1 .1 .1 .0 .now, a .1 .1 .1 .1 .0)) (λ κs z. z) (λ κs a ws. ws .1 .1 .1 .0)
   -- packet_trailer::trailer_parts
   pub trailerParts : Source trailerPartsCall trailer_parts-kinds.ps trailer_parts-kinds.r trailer_parts.Asked trailer_parts.Learnt
       (λ κs a. a .0) (λ κs z. z) (λ κs a ws. tt)
@@ -145,7 +156,7 @@ pub record Sources : Type 1 where
       (λ κs a. (a .0, a .1 .0)) (λ κs z. z) (λ κs a ws. tt)
   -- table::start
   pub start : Source startCall start-kinds.ps start-kinds.r start.Asked start.Learnt
-      (λ κs a. (a .0 .now, a .1 .0 .now)) (λ κs z. z) (λ κs a ws. ws .1 .0)
+      (λ κs a. (a .0 .now, a .1 .0 .now, a .1 .1 .0 .now)) (λ κs z. z) (λ κs a ws. ws .1 .1 .0)
   -- table::well_made
   pub wellMade : Source wellMadeCall well_made-kinds.ps well_made-kinds.r well_made.Asked well_made.Learnt
       (λ κs a. a .0 .now) (λ κs z. z) (λ κs a ws. tt)

@@ -6,14 +6,18 @@ use denote.Triple.Clauses.{Lasts, atExit}
 use Rattle.payload_unpack.specs.Unpack.{buffers}
 use Rattle.vrt49.specs.Answers.{Tells}
 use Rattle.vrt49.specs.Calls.{CallForC, answers, tells}
-use Rattle.vrt49.specs.Calls.{forRead, forWrite, forTrailerParts, forTrailerWord, forFieldCount, forCheckBody, forFind}
+use Rattle.vrt49.specs.Calls.{forRead, forReadSurvey, forWrite, forWriteSurvey, forTrailerParts, forTrailerWord, forFieldCount, forCheckBody, forFind}
 use Rattle.vrt49.specs.Calls.{forUnpack, forPack, forWordsNeeded, forCoordinatesOf, forItemAt, forSigned, forStart, forWellMade, forPlay}
 use Rattle.vrt49.specs.Calls.{forPlayRun, forPageLength, forSave, forPutBack, forReading, forReadings, forHeldWords}
 use Rattle.vrt49.specs.Calls.{forIdentity, forCounts, forOwnTable, forChanged}
 use Rattle.vrt49.proofs.vrt49_read.Kinds as read-kinds
 use Rattle.vrt49.proofs.vrt49_read.Reads as read
+use Rattle.vrt49.proofs.vrt49_read_survey.Kinds as read_survey-kinds
+use Rattle.vrt49.proofs.vrt49_read_survey.Reads as read_survey
 use Rattle.vrt49.proofs.vrt49_write.Kinds as write-kinds
 use Rattle.vrt49.proofs.vrt49_write.Reads as write
+use Rattle.vrt49.proofs.vrt49_write_survey.Kinds as write_survey-kinds
+use Rattle.vrt49.proofs.vrt49_write_survey.Reads as write_survey
 use Rattle.vrt49.proofs.vrt49_trailer_parts.Kinds as trailer_parts-kinds
 use Rattle.vrt49.proofs.vrt49_trailer_parts.Reads as trailer_parts
 use Rattle.vrt49.proofs.vrt49_trailer_word.Kinds as trailer_word-kinds
@@ -91,7 +95,12 @@ SourceForC c {n} ps r P Q handed answer left =
 pub record SourcesForC : Type 1 where
   pub read : SourceForC forRead read-kinds.ps read-kinds.r read.Asked read.Learnt
       (λ κs a. (a .0 .now, a .1 .0 .now)) (λ κs z. z) (λ κs a ws. ws .1 .0)
+  pub readSurvey : SourceForC forReadSurvey read_survey-kinds.ps read_survey-kinds.r read_survey.Asked read_survey.Learnt
+      (λ κs a. (a .0 .now, a .1 .0 .now)) (λ κs z. z) (λ κs a ws. ws .1 .0)
   pub write : SourceForC forWrite write-kinds.ps write-kinds.r write.Asked write.Learnt
+      (λ κs a. (a .0 .now, a .1 .0 .now, a .1 .1 .0 .now, a .1 .1 .1 .0, a .1 .1 .1 .1 .0 .now))
+      (λ κs z. z) (λ κs a ws. (ws .1 .1 .0, ws .1 .1 .1 .1 .0))
+  pub writeSurvey : SourceForC forWriteSurvey write_survey-kinds.ps write_survey-kinds.r write_survey.Asked write_survey.Learnt
       (λ κs a. (a .0 .now, a .1 .0 .now, a .1 .1 .0 .now, a .1 .1 .1 .0, a .1 .1 .1 .1 .0 .now))
       (λ κs z. z) (λ κs a ws. (ws .1 .1 .0, ws .1 .1 .1 .1 .0))
   pub trailerParts : SourceForC forTrailerParts trailer_parts-kinds.ps trailer_parts-kinds.r trailer_parts.Asked trailer_parts.Learnt
@@ -119,7 +128,7 @@ pub record SourcesForC : Type 1 where
   pub signed : SourceForC forSigned signed-kinds.ps signed-kinds.r signed.Asked signed.Learnt
       (λ κs a. (a .0, a .1 .0, a .1 .1 .0 .now)) (λ κs z. z) (λ κs a ws. ws .1 .1 .0)
   pub start : SourceForC forStart start-kinds.ps start-kinds.r start.Asked start.Learnt
-      (λ κs a. (a .0 .now, a .1 .0 .now, a .1 .1 .0 .now)) (λ κs z. z) (λ κs a ws. (ws .1 .0, ws .1 .1 .0))
+      (λ κs a. (a .0 .now, a .1 .0 .now, a .1 .1 .0 .now, a .1 .1 .1 .0 .now)) (λ κs z. z) (λ κs a ws. (ws .1 .1 .0, ws .1 .1 .1 .0))
   pub wellMade : SourceForC forWellMade well_made-kinds.ps well_made-kinds.r well_made.Asked well_made.Learnt
       (λ κs a. a .0 .now) (λ κs z. z) (λ κs a ws. tt)
   pub play : SourceForC forPlay play-kinds.ps play-kinds.r play.Asked play.Learnt
@@ -143,7 +152,8 @@ pub record SourcesForC : Type 1 where
       (λ κs a. (a .0 .now, a .1 .0, a .1 .1 .0, a .1 .1 .1 .0 .now, a .1 .1 .1 .1 .0 .now))
       (λ κs z. z) (λ κs a ws. (ws .1 .1 .1 .0, ws .1 .1 .1 .1 .0))
   pub identity : SourceForC forIdentity identity-kinds.ps identity-kinds.r identity.Asked identity.Learnt
-      (λ κs a. (a .0 .now, a .1 .0, a .1 .1 .0 .now, a .1 .1 .1 .0 .now)) (λ κs z. z) (λ κs a ws. (ws .1 .1 .0, ws .1 .1 .1 .0))
+      (λ κs a. (a .0 .now, a .1 .0, a .1 .1 .0 .now, a .1 .1 .1 .0 .now, a .1 .1 .1 .1 .0 .now))
+      (λ κs z. z) (λ κs a ws. (ws .1 .1 .0, ws .1 .1 .1 .0, ws .1 .1 .1 .1 .0))
   pub counts : SourceForC forCounts counts-kinds.ps counts-kinds.r counts.Asked counts.Learnt
       (λ κs a. (a .0 .now, a .1 .0, a .1 .1 .0, a .1 .1 .1 .0 .now)) (λ κs z. z) (λ κs a ws. ws .1 .1 .1 .0)
   pub ownTable : SourceForC forOwnTable own_table-kinds.ps own_table-kinds.r own_table.Asked own_table.Learnt

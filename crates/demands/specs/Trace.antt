@@ -1,21 +1,21 @@
--- What a trace of packets says by itself: which of them are accepted, by reading and by the list of identifiers, and the rules that a table is held to. No
+-- What a trace of packets says by itself: which of them are accepted, by reading and by the list of streams, and the rules that a table is held to. No
 -- rule here goes through a table, or through playing: each looks at the packets.
-use Rattle.words.specs.Kit.{_≡_, ℕ, _+_, _%_, _^_, Bool, false, List, [], _∷_, _++_, eqb, leb, length}
+use Rattle.words.specs.Kit.{_≡_, ℕ, _+_, _%_, _^_, Bool, false, List, [], _∷_, _++_, eqb, leb, length, getD}
 use mathlib.Core.List.{map}
 use mathlib.Core.Option.{Option, none, some}
 use Rattle.words.specs.Numbers.{STREAM}
 use Rattle.words.specs.Tests.{pick, both, among, either}
 use Rattle.words.specs.Word.{has}
 use Rattle.words.specs.Part.{part}
-use Rattle.words.specs.All.{firstOf}
 use Rattle.words.specs.Outcome.{Outcome, refused, accepted, onward}
 use Rattle.words.specs.Refusals.{Refusals, firstGiven}
 use Rattle.fields.specs.Layout.{indicatorOf, fieldOf}
 use Rattle.packet.specs.declared.Packet.{Packet}
-use Rattle.packet.specs.Read.{readOf}
+use Rattle.packet.specs.Parts.{packetOf}
+use Rattle.packet.specs.Read.{readBy}
 use Rattle.record.specs.Counts.{missedOf}
-use Rattle.table.specs.Identifiers.{listed}
 use Rattle.play.specs.declared.Heard.{Heard}
+use Rattle.demands.specs.Listing.{Listing, streamsIn, placeIn, chosenIn}
 use Rattle.demands.specs.Things.{Thing, kept, tellsOf, fieldBy}
 
 -- ---- the packets of a trace
@@ -28,37 +28,34 @@ pub record Arrival : Type 0 where
   pub size : ℕ
   pub body : List ℕ
 
--- "stream number (place in the list, from 0)", of an identifier; the list's length where it is not declared
-unfoldable pub placeIn : List ℕ → ℕ → ℕ
-placeIn ids identifier = firstOf (length ids) (λ s. eqb (listed ids s) identifier)
-
 -- STREAM of a packet that was read, to a list: "no identifier (types 0, 2), one not declared"
-abbrev pub arrivalList : List ℕ → Packet → Refusals
-arrivalList ids p = (STREAM, either (among (p .parts .kind) (0 ∷ 2 ∷ [])) (leb (length ids) (placeIn ids (p .parts .identifier)))) ∷ []
+abbrev pub arrivalList : Listing → Packet → Refusals
+arrivalList list p = (STREAM, either (among (p .parts .kind) (0 ∷ 2 ∷ [])) (leb (streamsIn list) (placeIn list (p .parts .identifier)))) ∷ []
 
 -- what that packet is to the list: its stream's, where it has one
-unfoldable pub arrivalOf : List ℕ → List ℕ → Packet → Outcome Arrival
-arrivalOf ids ws p =
-    firstGiven (arrivalList ids p)
+unfoldable pub arrivalOf : Listing → List ℕ → Packet → Outcome Arrival
+arrivalOf list ws p =
+    firstGiven (arrivalList list p)
     (accepted
     (record {
-      stream = placeIn ids (p .parts .identifier);
+      stream = placeIn list (p .parts .identifier);
       kind = p .parts .kind;
       count = p .parts .count;
       size = p .size;
       body = part (p .place) (p .length) ws;
     }))
 
--- what some words are to a list: refused, by reading or with STREAM; or an accepted packet of a stream
-unfoldable pub heardBy : List ℕ → List ℕ → Outcome Arrival
-heardBy ids ws = onward (readOf ws) (arrivalOf ids ws)
+-- what some words are to a list: refused, by reading or with STREAM; or an accepted packet of a stream. They are read by the choice of the stream whose
+-- identifier they bear
+unfoldable pub heardBy : Listing → List ℕ → Outcome Arrival
+heardBy list ws = onward (readBy (chosenIn list (packetOf (getD ws 0 0) ws .parts .identifier)) ws) (arrivalOf list ws)
 
 -- packets one after the other, "refused ones among them"
 abbrev pub Trace : Type 0
 Trace = List (Outcome Arrival)
 
-abbrev pub traceOf : List ℕ → List (List ℕ) → Trace
-traceOf ids packets = map (heardBy ids) packets
+abbrev pub traceOf : Listing → List (List ℕ) → Trace
+traceOf list packets = map (heardBy list) packets
 
 -- an accepted packet of stream s
 abbrev pub isOwn : ℕ → Outcome Arrival → Bool

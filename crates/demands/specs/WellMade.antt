@@ -1,5 +1,5 @@
--- "Bad .. tables, pages .. are refused": which are bad. Document 01, 'The table and its page', clause by clause, with what C-11 of document 02 adds; the tests
--- that TABLE and PAGE go by hold exactly where the clauses do.
+-- "Bad .. tables, pages .. are refused": which are bad. Document 01, 'The table and its page', clause by clause, with what C-11 and C-13 of document 02 add;
+-- the tests that TABLE and PAGE go by hold exactly where the clauses do.
 use Rattle.words.specs.Kit.{_≡_, ℕ, _+_, _-_, _^_, _≤_, _<_, true, false, List, length, getD}
 use mathlib.Core.Logic.{_↔_}
 use lib.ListN.{replicate}
@@ -9,7 +9,7 @@ use Rattle.words.specs.Word.{bits, has}
 use Rattle.words.specs.Outcome.{refused}
 use Rattle.fields.specs.Sizes.{fieldSize}
 use Rattle.fields.specs.Rules.{ruleOf}
-use Rattle.record.specs.Layout.{heldOf, countedTypes, orderOf, countWords, seenOf, missingOf, lastOf, slotOf}
+use Rattle.record.specs.Layout.{heldOf, choiceOf, countedTypes, orderOf, countWords, seenOf, missingOf, lastOf, slotOf}
 use Rattle.table.specs.Layout.{streamsOf, layoutWords, recordAt}
 use Rattle.table.specs.Identifiers.{declared}
 use Rattle.table.specs.Well.{wellMade}
@@ -44,6 +44,8 @@ pub record RecordClauses (r : List ℕ) : Type 0 where
       lastOf count ≡ 0 → (seenOf count ≡ 0) × (missingOf count ≡ 0)
   -- "a last count is at most 15"
   pub small : (kind : ℕ) → among kind countedTypes ≡ true → (last : ℕ) → lastOf (countWords (orderOf kind) r) ≡ last + 1 → last ≤ 15
+  -- document 02, C-13: "plain 49.0 (word 0) or 49A (1)", and no other word
+  pub choice : choiceOf r ≤ 1
   -- "no field held unless type 4 has started"
   pub started : lastOf (countWords (orderOf 4) r) ≡ 0 → heldOf r ≡ 0
 

@@ -4,6 +4,7 @@ use crate::output::named_flag;
 use crate::output::text;
 use packet::Packet;
 use packet::Parts;
+use packet::Survey;
 
 // The line of the header's values.
 fn show_header(p: Parts, size: usize) {
@@ -44,13 +45,42 @@ fn show_trailer(word: u32) {
     text(b"\n");
 }
 
-// All three, where a packet has them; the first begins with ` accepted`.
-pub fn show_packet(p: Packet) {
+// The line of what 49A says of a payload: the pad count, the two words of its format, and its items.
+fn show_payload(s: Survey) {
+    text(b"  survey");
+    named(b"pad", s.pad as u64);
+    named(b"first", s.first as u64);
+    named(b"second", s.second as u64);
+    named(b"items", s.items as u64);
+    text(b"\n");
+}
+
+// The lines of a packet up to its body; the first begins with ` accepted`.
+fn show_front(p: Packet) {
     let parts = p.parts;
     text(b" accepted");
     show_header(parts, p.size);
     show_prologue(parts, p.place, p.length);
+}
+
+// The line of a packet's trailer, where it has one.
+fn show_back(p: Packet) {
+    let parts = p.parts;
     if parts.trailed {
         show_trailer(parts.trailer);
     }
+}
+
+// The lines of a packet that was read plainly.
+pub fn show_packet(p: Packet) {
+    show_front(p);
+    show_back(p);
+}
+
+// The lines of a packet that was read as 49A.
+pub fn show_survey(s: Survey) {
+    let p = s.packet;
+    show_front(p);
+    show_payload(s);
+    show_back(p);
 }

@@ -38,36 +38,36 @@ module _ (n : ℕ) (ws vs : List ℕ) (e : take n ws ≡ take n vs) where
 -- ---- what is read of them
 
 module _ (w : ℕ) (ws vs : List ℕ) (e : take (sizeOf w) ws ≡ take (sizeOf w) vs) where
-  prologue-agree : Room w (sizeOf w) → (classHigh w ws ≡ classHigh w vs) × (fractionOf w ws ≡ fractionOf w vs)
-  unfolding classHigh fractionOf
-  prologue-agree r =
-      let c = pair-agree (sizeOf w) ws vs e (classed w) (classAt w) (r .class) in
-      let f = pair-agree (sizeOf w) ws vs e (hasFraction w) (fractionAt w) (r .fraction) in
-      (c .0, rw (f .0, f .1))
+  class-agree : Room w (sizeOf w) → (classHigh w ws ≡ classHigh w vs) × (classLow w ws ≡ classLow w vs)
+  unfolding classHigh classLow
+  class-agree r = pair-agree (sizeOf w) ws vs e (classed w) (classAt w) (r .class)
+
+  fraction-agree : Room w (sizeOf w) → fractionOf w ws ≡ fractionOf w vs
+  unfolding fractionOf
+  fraction-agree r = let f = pair-agree (sizeOf w) ws vs e (hasFraction w) (fractionAt w) (r .fraction) in rw (f .0, f .1)
 
   body-agree : Room w (sizeOf w) → bodyOf w ws ≡ bodyOf w vs
   unfolding bodyOf
   body-agree r = part-agree (sizeOf w) ws vs e _ _ (r .body)
 
   packet-agree : Room w (sizeOf w) → packetOf w ws ≡ packetOf w vs
-  unfolding packetOf partsOf classHigh classLow fractionOf
+  unfolding packetOf partsOf
   packet-agree r =
-      let c = pair-agree (sizeOf w) ws vs e (classed w) (classAt w) (r .class) in
-      let f = pair-agree (sizeOf w) ws vs e (hasFraction w) (fractionAt w) (r .fraction) in
+      let c = class-agree r in
       let i = word-agree (sizeOf w) ws vs e (streamed w) 1 (r .identifier) in
       let s = word-agree (sizeOf w) ws vs e (hasSeconds w) (secondsAt w) (r .seconds) in
       let t = word-agree (sizeOf w) ws vs e (trailed w) (sizeOf w - 1) (r .trailer) in
-      rw (c .0, c .1, f .0, f .1, i, s, t)
+      rw (c .0, c .1, fraction-agree r, i, s, t)
 
-pub read-beyond : (free : Bool) (ws vs : List ℕ) → 0 < length ws → 0 < length vs → getD ws 0 0 ≡ getD vs 0 0
+pub read-beyond : (survey : Bool) (ws vs : List ℕ) → 0 < length ws → 0 < length vs → getD ws 0 0 ≡ getD vs 0 0
     → sizeOf (getD ws 0 0) ≤ length ws → sizeOf (getD ws 0 0) ≤ length vs → take (sizeOf (getD ws 0 0)) ws ≡ take (sizeOf (getD ws 0 0)) vs
-    → readBy free ws ≡ readBy free vs
+    → readBy survey ws ≡ readBy survey vs
 unfolding readBy
-read-beyond free ws vs a b w h g e =
+read-beyond survey ws vs a b w h g e =
     let c = getD ws 0 0 in
     rw (ne-eqb (length ws) 0 (omega arith), ne-eqb (length vs) 0 (omega arith), ← w, le-ltb (length ws) (sizeOf c) h, le-ltb (length vs) (sizeOf c) g)
     (first-same (headerList c) _ _ (λ _.
     first-same ((SHORT, ltb (sizeOf c) (requiredOf c)) ∷ []) _ _ (λ z.
     let r = room c (sizeOf c) (ltb-false _ _ (z .0)) (le-refl (sizeOf c)) in
-    let p = prologue-agree c ws vs e r in
-    rw (p .0, p .1, body-agree c ws vs e r, packet-agree c ws vs e r))))
+    let k = class-agree c ws vs e r in
+    rw (k .0, k .1, fraction-agree c ws vs e r, body-agree c ws vs e r, packet-agree c ws vs e r))))

@@ -4,7 +4,7 @@
 pub mod RoomLaws
 -- what an accepted packet is
 pub mod ReadLaws
--- reading in two steps: the front, and then the body
+-- reading in two steps: header and size, and then the rest
 pub mod FrontLaws
 -- words beyond the size are ignored
 pub mod BeyondLaws

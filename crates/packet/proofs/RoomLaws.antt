@@ -39,6 +39,11 @@ room w n h g = record {
   around = omega arith;
 }
 
+-- a body has fewer than 2^16 words
+pub length-small : (w : ℕ) → bodyLength w < 2 ^ 16
+unfolding bodyLength
+length-small w = omega arith
+
 -- a part of k words that is there lies inside, whole
 pub when-inside : (t : Bool) (at k n : ℕ) → at + when t k ≤ n → t ≡ true → at + k ≤ n
 when-inside true at k n h e = h

@@ -1,11 +1,15 @@
--- Two answers that meet the promise of a public call are equal: each `parsedPaper` has a left inverse (`once`).
+-- Two answers that meet the promise of a public call are equal: `parsedPaper` and `surveyPaper` have left inverses (`once`).
 use Rattle.words.proofs.Kit.{_≡_, refl, List, ℕ}
 use Rattle.words.specs.Outcome.{Outcome, refused, accepted}
 use Rattle.words.proofs.Once.{once}
 use Rattle.packet.specs.declared.Packet.{Packet}
 use Rattle.packet.specs.declared.Parsed.{Parsed}
 use Rattle.packet.specs.declared.Parsed.the-variants.{Accepted, Refused}
+use Rattle.packet.specs.declared.Survey.{Survey}
+use Rattle.packet.specs.declared.ParsedSurvey.{ParsedSurvey}
+use Rattle.packet.specs.declared.ParsedSurvey.the-variants as surveys
 use Rattle.packet.specs.Read.{parsedPaper, readOf}
+use Rattle.packet.specs.Survey.{surveyPaper, readSurveyOf}
 
 parsedBack : Outcome Packet → Parsed
 parsedBack (refused n) = Refused n
@@ -18,3 +22,15 @@ parsed-back (Accepted p) = refl
 
 pub read-once : (ws : List ℕ) {a b : Parsed} → parsedPaper a ≡ readOf ws → parsedPaper b ≡ readOf ws → a ≡ b
 read-once ws = once parsedPaper parsedBack parsed-back
+
+surveyBack : Outcome Survey → ParsedSurvey
+surveyBack (refused n) = surveys.Refused n
+surveyBack (accepted s) = surveys.Accepted s
+
+survey-back : (a : ParsedSurvey) → surveyBack (surveyPaper a) ≡ a
+unfolding surveyBack
+survey-back (surveys.Refused n) = refl
+survey-back (surveys.Accepted s) = refl
+
+pub read-survey-once : (ws : List ℕ) {a b : ParsedSurvey} → surveyPaper a ≡ readSurveyOf ws → surveyPaper b ≡ readSurveyOf ws → a ≡ b
+read-survey-once ws = once surveyPaper surveyBack survey-back

@@ -6,5 +6,7 @@ pub mod Header
 pub mod Parts
 -- what reading answers
 pub mod Read
+-- what a reading that follows 49A gives
+pub mod Survey
 -- what only the contracts inside cite
 pub mod inner

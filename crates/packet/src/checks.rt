@@ -1,11 +1,11 @@
-// The refusals of reading, from the header on, each number in one place.
-ghost use Rattle.words.specs.Kit.{_≡_, _^_, _≤_, leb, length};
+// The refusals of reading, each number in one place.
+ghost use Rattle.words.specs.Kit.{_≡_, true, false, _^_, _≤_, _<_, leb, length};
 ghost use Rattle.words.specs.Word.{highFirst};
 ghost use Rattle.words.specs.Outcome.{checked};
 ghost use Rattle.packet.specs.Header.{typeOf, sizeOf};
-ghost use Rattle.packet.specs.Parts.{requiredOf, bodyOf};
+ghost use Rattle.packet.specs.Parts.{requiredOf, bodyLength, bodyOf};
 ghost use Rattle.packet.specs.Read.{classBad};
-ghost use Rattle.packet.specs.inner.Steps.{headerChecks, sizeChecks, prologueChecks, bodyChecks, headedChecks, frontChecks};
+ghost use Rattle.packet.specs.inner.Steps.{headerChecks, sizeChecks, prologueChecks, bodyChecks, payloadChecks, governedChecks, restChecks, sizedChecks};
 
 // TYPE and BITS.
 fn check_header(w: u32) -> words::Check
@@ -58,7 +58,7 @@ fn class_bad(free: bool, high: u32) -> bool
 }
 
 // CLASS and TIME.
-fn check_prologue(free: bool, w: u32, ws: &[u32]) -> words::Check
+pub fn check_prologue(free: bool, w: u32, ws: &[u32]) -> words::Check
     requires { ⌜ (requiredOf w ≤ sizeOf w) × (sizeOf w ≤ length (now ws)) ⌝ }
     ensures { λ r. ⌜ checked r ≡ prologueChecks free w (now (ws .entry)) ⌝ }
 {
@@ -75,8 +75,8 @@ fn check_prologue(free: bool, w: u32, ws: &[u32]) -> words::Check
     words::Check::Fine
 }
 
-// INDICATOR, LAYOUT and FIELD, of the body of a packet that fits.
-pub fn check_context(w: u32, ws: &[u32]) -> words::Check
+// INDICATOR, LAYOUT and FIELD, of the body of a packet whose header and size are right: of types other than 4 there is nothing to refuse.
+pub fn check_body(w: u32, ws: &[u32]) -> words::Check
     requires { ⌜ (requiredOf w ≤ sizeOf w) × (sizeOf w ≤ length (now ws)) ⌝ }
     ensures { λ r. ⌜ checked r ≡ bodyChecks (typeOf w) (bodyOf w (now (ws .entry))) ⌝ }
 {
@@ -88,28 +88,66 @@ pub fn check_context(w: u32, ws: &[u32]) -> words::Check
     fields::check_body(&ws[at..end])
 }
 
-// TYPE, BITS, SHORT, CUT, CLASS and TIME, of words whose header is w.
-fn check_headed(free: bool, w: u32, ws: &[u32]) -> words::Check
-    ensures { λ r. ⌜ checked r ≡ headedChecks free w (now (ws .entry)) ⌝ }
+// PAD, of a packet that 49A governs, whose header and size are right: by its class, of the words high and low, its trailer and its payload of so many words.
+pub fn check_payload(w: u32, high: u32, low: u32, payload: usize) -> words::Check
+    requires { ⌜ (payload ≡ bodyLength w) × (payload < 2 ^ 16) ⌝ }
+    ensures { λ r. ⌜ checked r ≡ payloadChecks w high low ⌝ }
 {
-    let header = check_header(w);
-    if let words::Check::Refused(n) = header {
-        return words::Check::Refused(n);
+    if packet_survey::inner::pad_bad(
+        crate::header::has_class(w),
+        crate::header::has_trailer(w),
+        high,
+        low,
+        payload,
+    ) {
+        return words::Check::Refused(words::PAD);
     }
-    let size = check_size(w, ws.len());
-    if let words::Check::Refused(n) = size {
-        return words::Check::Refused(n);
-    }
-    check_prologue(free, w, ws)
+    words::Check::Fine
 }
 
-// All that is refused before the body is looked at: EMPTY, and then TYPE, BITS, SHORT, CUT, CLASS and TIME; CLASS not where the top bits of the class's first
-// word are free.
-pub fn check_front(free: bool, ws: &[u32]) -> words::Check
-    ensures { λ r. ⌜ checked r ≡ frontChecks free (now (ws .entry)) ⌝ }
+// Of a packet that 49A governs, whose header and size are right: TIME, and then PAD. Its class has a pad count, and so CLASS is not given.
+fn check_governed(w: u32, ws: &[u32]) -> words::Check
+    requires { ⌜ (requiredOf w ≤ sizeOf w) × (sizeOf w ≤ length (now ws)) ⌝ }
+    ensures { λ r. ⌜ checked r ≡ governedChecks w (now (ws .entry)) ⌝ }
+{
+    let prologue = check_prologue(true, w, ws);
+    if let words::Check::Refused(n) = prologue {
+        return words::Check::Refused(n);
+    }
+    check_payload(
+        w,
+        crate::prologue::class_high(w, ws),
+        crate::prologue::class_low(w, ws),
+        crate::prologue::body_length(w),
+    )
+}
+
+// Of a packet whose header and size are right, where 49A is chosen: all that is left.
+pub fn check_survey(w: u32, ws: &[u32]) -> words::Check
+    requires { ⌜ (requiredOf w ≤ sizeOf w) × (sizeOf w ≤ length (now ws)) ⌝ }
+    ensures { λ r. ⌜ checked r ≡ restChecks true w (now (ws .entry)) ⌝ }
+{
+    if crate::header::type_of(w) == 1 {
+        return check_governed(w, ws);
+    }
+    let prologue = check_prologue(false, w, ws);
+    if let words::Check::Refused(n) = prologue {
+        return words::Check::Refused(n);
+    }
+    check_body(w, ws)
+}
+
+// EMPTY, and then TYPE, BITS, SHORT and CUT: what the header and the number of words decide.
+pub fn check_sized(ws: &[u32]) -> words::Check
+    ensures { λ r. ⌜ checked r ≡ sizedChecks (now (ws .entry)) ⌝ }
 {
     if ws.len() == 0 {
         return words::Check::Refused(words::EMPTY);
     }
-    check_headed(free, ws[0], ws)
+    let w = ws[0];
+    let header = check_header(w);
+    if let words::Check::Refused(n) = header {
+        return words::Check::Refused(n);
+    }
+    check_size(w, ws.len())
 }

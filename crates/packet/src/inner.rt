@@ -1,6 +1,8 @@
-// What the crates above use of a packet: its two steps of reading, and what its header says.
-pub use crate::checks::check_context;
-pub use crate::checks::check_front;
+// What the crates above use of a packet: its steps of reading, and what its header says.
+pub use crate::checks::check_body;
+pub use crate::checks::check_prologue;
+pub use crate::checks::check_sized;
+pub use crate::checks::check_survey;
 pub use crate::checks::fraction_over;
 pub use crate::header::body_at;
 pub use crate::header::count_of;

@@ -3,9 +3,11 @@ mod checks;
 mod header;
 pub mod inner;
 mod prologue;
+mod surveys;
 
 ghost use mathlib.Core.Path.{_≡_};
 ghost use Rattle.packet.specs.Read.{parsedPaper, readOf};
+ghost use Rattle.packet.specs.Survey.{surveyPaper, readSurveyOf};
 
 // The parts of a packet beside its body. A part that is absent is zero.
 pub struct Parts {
@@ -43,18 +45,51 @@ pub enum Parsed {
     Refused(u32),
 }
 
-// The packet that stands at the front of the words, or the first of the refusals 1 to 10 that applies. Words beyond its size are ignored.
+// What a reading that follows 49A gives: the packet and, of type 1, its pad count, the two words of its payload's format, and n, the items of its payload. Of
+// other types these are zero.
+pub struct Survey {
+    pub packet: Packet,
+    pub pad: u32,
+    pub first: u32,
+    pub second: u32,
+    pub items: u32,
+}
+
+// What such a reading answers, or the number of the refusal.
+pub enum ParsedSurvey {
+    Accepted(Survey),
+    Refused(u32),
+}
+
+// The packet that stands at the front of the words, as plain 49.0, or the first of the refusals 1 to 10 that applies. Words beyond its size are ignored.
 pub fn read(ws: &[u32]) -> Parsed
     ensures { λ r. ⌜ parsedPaper r ≡ readOf (now (ws .entry)) ⌝ }
 {
-    let front = checks::check_front(false, ws);
-    if let words::Check::Refused(n) = front {
+    let sized = checks::check_sized(ws);
+    if let words::Check::Refused(n) = sized {
         return Parsed::Refused(n);
     }
     let w = ws[0];
-    let body = checks::check_context(w, ws);
+    let front = checks::check_prologue(false, w, ws);
+    if let words::Check::Refused(n) = front {
+        return Parsed::Refused(n);
+    }
+    let body = checks::check_body(w, ws);
     if let words::Check::Refused(n) = body {
         return Parsed::Refused(n);
     }
-    Parsed::Accepted(prologue::packet_of(w, ws))
+    let high = prologue::class_high(w, ws);
+    let low = prologue::class_low(w, ws);
+    Parsed::Accepted(prologue::packet_of(w, high, low, ws))
+}
+
+// The packet that stands at the front of the words, as 49A, which governs type 1: there CLASS is not given, and PAD comes after the other refusals. Words beyond
+// its size are ignored.
+pub fn read_survey(ws: &[u32]) -> ParsedSurvey
+    ensures { λ r. ⌜ surveyPaper r ≡ readSurveyOf (now (ws .entry)) ⌝ }
+{
+    if surveys::is_governed(ws) {
+        return surveys::read_governed(ws);
+    }
+    surveys::read_other(ws)
 }

@@ -1,5 +1,5 @@
 // The parts of a packet whose words are all there.
-ghost use Rattle.words.specs.Kit.{_≡_, true, _+_, _≤_, _<_, length};
+ghost use Rattle.words.specs.Kit.{_≡_, true, _+_, _^_, _≤_, _<_, length};
 ghost use Rattle.packet.specs.Header.{reservedOf, sizeOf};
 ghost use Rattle.packet.specs.Parts.{streamed, requiredOf, bodyAt, bodyLength, wordIf, classHigh, classLow, fractionOf, partsOf, packetOf};
 
@@ -28,7 +28,7 @@ pub fn class_high(w: u32, ws: &[u32]) -> u32
 }
 
 // The class's second word.
-fn class_low(w: u32, ws: &[u32]) -> u32
+pub fn class_low(w: u32, ws: &[u32]) -> u32
     requires { ⌜ (requiredOf w ≤ sizeOf w) × (sizeOf w ≤ length (now ws)) ⌝ }
     ensures { λ r. ⌜ r ≡ classLow w (now (ws .entry)) ⌝ }
 {
@@ -59,13 +59,20 @@ pub fn body_end(w: u32) -> usize
     crate::header::size_of(w) - words::inner::when_so(crate::header::has_trailer(w), 1)
 }
 
-// All parts beside the body.
-fn parts_of(w: u32, ws: &[u32]) -> crate::Parts
+// The words of the body.
+pub fn body_length(w: u32) -> usize
+    requires { ⌜ requiredOf w ≤ sizeOf w ⌝ }
+    ensures { λ r. ⌜ (r ≡ bodyLength w) × (r < 2 ^ 16) ⌝ }
+{
+    body_end(w) - crate::header::body_at(w)
+}
+
+// All parts beside the body; high and low are the class's words.
+pub fn parts_of(w: u32, high: u32, low: u32, ws: &[u32]) -> crate::Parts
     requires { ⌜ (requiredOf w ≤ sizeOf w) × (sizeOf w ≤ length (now ws)) × (reservedOf w ≡ 0) ⌝ }
+    requires { ⌜ (high ≡ classHigh w (now ws)) × (low ≡ classLow w (now ws)) ⌝ }
     ensures { λ r. ⌜ r ≡ partsOf w (now (ws .entry)) ⌝ }
 {
-    let high = class_high(w, ws);
-    let low = class_low(w, ws);
     crate::Parts {
         kind: crate::header::type_of(w),
         classed: crate::header::has_class(w),
@@ -92,17 +99,18 @@ fn parts_of(w: u32, ws: &[u32]) -> crate::Parts
     }
 }
 
-// The packet that was read.
-pub fn packet_of(w: u32, ws: &[u32]) -> crate::Packet
+// The packet that was read; high and low are the class's words.
+pub fn packet_of(w: u32, high: u32, low: u32, ws: &[u32]) -> crate::Packet
     requires { ⌜ (requiredOf w ≤ sizeOf w) × (sizeOf w ≤ length (now ws)) × (reservedOf w ≡ 0) ⌝ }
+    requires { ⌜ (high ≡ classHigh w (now ws)) × (low ≡ classLow w (now ws)) ⌝ }
     ensures { λ r. ⌜ r ≡ packetOf w (now (ws .entry)) ⌝ }
 {
-    let parts = parts_of(w, ws);
     let place = crate::header::body_at(w);
+    let end = body_end(w);
     crate::Packet {
-        parts,
+        parts: parts_of(w, high, low, ws),
         size: crate::header::size_of(w),
         place,
-        length: body_end(w) - place,
+        length: end - place,
     }
 }

@@ -7,17 +7,17 @@ use lib.Dec.{lit<}
 use lib.Pow.{high, low}
 use Rattle.words.specs.Tests.{when}
 use Rattle.words.specs.Word.{join}
-use Rattle.words.specs.Outcome.{accepted}
+use Rattle.words.specs.declared.Length.{Length}
+use Rattle.words.specs.Outcome.{measured, Meets}
 use Rattle.words.specs.Laid.{Laid}
 use Rattle.words.proofs.Cases.{le-or-lt}
-use Rattle.packet.specs.Header.{trailed}
+use Rattle.packet.specs.Header.{classed, trailed}
 use Rattle.packet.specs.Parts.{bodyAt}
 use Rattle.packet.specs.declared.Parts.{Parts}
-use Rattle.packet_write.specs.Write.{flagBit, headerWord, sizeFor, prologueWords, trailerWords, packetWords}
-use Rattle.packet_write.specs.inner.Steps.{partsChecks, writeChecks}
+use Rattle.packet_write.specs.Write.{flagBit, headerWord, sizeFor, prologueWords, trailerWords, packetWords, partsFit, writeBy}
 use Rattle.packet_write.specs.AsWords.{partsIn}
-use Rattle.packet_write.specs.inner.Given.{HeaderFor}
-use Rattle.packet_write.proofs.FitLaws.{Fits, Writable, writable, parts-passed, parts-fit}
+use Rattle.packet_write.specs.inner.Given.{HeaderFor, Layable}
+use Rattle.packet_write.proofs.FitLaws.{Fits, parts-fit}
 use Rattle.packet_write.proofs.HeaderLaws.{header-size, header-small, classed-is, trailed-is, size-for-is}
 use Rattle.packet_write.proofs.LayLaws.{prologue-length, trailer-length, laid-packet}
 
@@ -38,6 +38,11 @@ pub parts-again : (p : Parts) (c t m : ℕ) → c ≡ flagBit (p .classed) → t
     ∷ p .fraction / 2 ^ 32 ∷ p .fraction % 2 ^ 32 ∷ p .trailer ∷ []) ≡ p
 unfolding partsIn
 parts-again p c t m e f g = rw (e, f, g, bit-back (p .classed), bit-back (p .trailed), bit-back (p .tsm), div-add-mod' (p .fraction) (2 ^ 32))
+
+-- so a packet that is written of these words is written of the parts
+pub written : (survey : Bool) (pad : ℕ) (p : Parts) (q body out left : List ℕ) (at : ℕ) (r : Length) → partsIn q ≡ p
+    → Meets measured (writeBy survey pad (partsIn q) body out at) out r left → Meets measured (writeBy survey pad p body out at) out r left
+written survey pad p q body out left at r e w = rw e at w
 
 -- ---- the fraction
 
@@ -71,19 +76,14 @@ pub record Small (q : List ℕ) : Type 0 where
   pub tsf : getD q 5 0 < 4
   pub count : getD q 6 0 < 16
 
-module _ (q : List ℕ) (passes : partsChecks (partsIn q) ≡ accepted tt) where
+module _ (q : List ℕ) (kind : partsIn q .kind < 6) (fit : partsFit (partsIn q) ≡ true) where
   pub small : Small q
   unfolding partsIn
-  small =
-      let k = parts-passed (partsIn q) passes in
-      let f = parts-fit (partsIn q) (k .1) in
-      record { kind = k .0; tsi = f .tsi; tsf = f .tsf; count = f .count }
+  small = let f = parts-fit (partsIn q) fit in record { kind = kind; tsi = f .tsi; tsf = f .tsf; count = f .count }
 
   -- T of a header word of these parts, with a size of 0
   trailed-given : (w : ℕ) → w ≡ headerWord (partsIn q) 0 → trailed w ≡ partsIn q .trailed
-  trailed-given w e =
-      let k = parts-passed (partsIn q) passes in
-      rw e (trailed-is (partsIn q) 0 (k .0) (parts-fit (partsIn q) (k .1)) (lit< tt))
+  trailed-given w e = rw e (trailed-is (partsIn q) 0 kind (parts-fit (partsIn q) fit) (lit< tt))
 
   -- the size, as the program makes it
   pub size-given : (w n at t : ℕ) → w ≡ headerWord (partsIn q) 0 → at ≡ bodyAt w → t ≡ when (eqb (getD q 2 0 % 2) 1) 1 → at + n + t ≡ sizeFor (partsIn q) n
@@ -92,13 +92,10 @@ module _ (q : List ℕ) (passes : partsChecks (partsIn q) ≡ accepted tt) where
       let there : t ≡ when (trailed w) 1 = f ∙ ap (λ (b : Bool). when b 1) (flag-given q ∙ sym (trailed-given w e)) in
       rw (a, there, e)
 
--- ---- a packet that nothing refuses, by its header word with a size of 0, and its size
+-- ---- a packet that may be laid, by its header word with a size of 0, and its size
 
-module _ (q body out : List ℕ) (at w size : ℕ) (passes : writeChecks (partsIn q) body (length out) at ≡ accepted tt) (e : w ≡ headerWord (partsIn q) 0)
+module _ (pad : ℕ) (q body out : List ℕ) (at w size : ℕ) (may : Layable pad (partsIn q) body (length out) at) (e : w ≡ headerWord (partsIn q) 0)
     (s : size ≡ sizeFor (partsIn q) (length body)) where
-  may : Writable (partsIn q) body (length out) at
-  may = writable (partsIn q) body (length out) at passes
-
   fits : Fits (partsIn q)
   fits = parts-fit (partsIn q) (may .fit)
 
@@ -108,26 +105,31 @@ module _ (q body out : List ℕ) (at w size : ℕ) (passes : writeChecks (partsI
   pub sum-small : w + size < 2 ^ 32
   sum-small = omega (arith, e, s, may .small, header-small (partsIn q) (may .kind) fits)
 
+  classed-given : classed (w + size) ≡ partsIn q .classed
+  classed-given = rw with-size (classed-is (partsIn q) (sizeFor (partsIn q) (length body)) (may .kind) fits (may .small))
+
   pub headed : length q ≡ 15 → HeaderFor (w + size) q
   headed long =
-      rw with-size
-      (record {
+      record {
         long = long;
-        trailer = trailed-is (partsIn q) (sizeFor (partsIn q) (length body)) (may .kind) fits (may .small);
-        class = rw (classed-is (partsIn q) (sizeFor (partsIn q) (length body)) (may .kind) fits (may .small)) (fits .class);
-      })
+        trailer = rw with-size (trailed-is (partsIn q) (sizeFor (partsIn q) (length body)) (may .kind) fits (may .small));
+        class = rw classed-given (fits .class);
+      }
 
-  pub packet-room : at + (length (prologueWords (w + size) (partsIn q)) + length body + length (trailerWords (w + size) (partsIn q))) ≤ length out
+  pub pad-given : classed (w + size) ≡ true → pad < 32
+  pad-given c = may .padding (rw classed-given at c)
+
+  pub packet-room : at + (length (prologueWords pad (w + size) (partsIn q)) + length body + length (trailerWords (w + size) (partsIn q))) ≤ length out
   packet-room =
       rw with-size
       (omega (
         arith,
-        prologue-length (headerWord (partsIn q) (sizeFor (partsIn q) (length body))) (partsIn q),
+        prologue-length (headerWord (partsIn q) (sizeFor (partsIn q) (length body))) (partsIn q) pad,
         trailer-length (headerWord (partsIn q) (sizeFor (partsIn q) (length body))) (partsIn q),
         size-for-is (partsIn q) (sizeFor (partsIn q) (length body)) (may .kind) fits (may .small) (length body),
         may .inside,
       ))
 
-  pub packet-laid : (left : List ℕ) (next : ℕ) → Laid out at (prologueWords (w + size) (partsIn q) ++ body ++ trailerWords (w + size) (partsIn q)) next left
-      → left ≡ take at out ++ packetWords (partsIn q) body ++ drop (at + size) out
-  packet-laid left next l = rw s (laid-packet (partsIn q) body out left at (w + size) next may with-size l)
+  pub packet-laid : (left : List ℕ) (next : ℕ) → Laid out at (prologueWords pad (w + size) (partsIn q) ++ body ++ trailerWords (w + size) (partsIn q)) next left
+      → left ≡ take at out ++ packetWords pad (partsIn q) body ++ drop (at + size) out
+  packet-laid left next l = rw s (laid-packet pad (partsIn q) body out left at (w + size) next may with-size l)

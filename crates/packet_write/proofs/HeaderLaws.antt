@@ -1,6 +1,6 @@
 -- The header of a packet to be written, read again. The idea: the header is the join of its fields, so splitting it gives them back (`split-join`),
 -- and a part by the numbers of its bits is one of these fields (`split-from`). So what is there of a packet does not hang on its size.
-use Rattle.words.proofs.Kit.{_≡_, refl, sym, ap, _∙_, Bool, true, false, not, List, [], _∷_, ℕ, zero, suc, _+_, _*_, _/_, _%_, _^_, _<_, arith}
+use Rattle.words.proofs.Kit.{_≡_, refl, sym, ap, _∙_, Bool, true, false, not, List, [], _∷_, ℕ, zero, suc, _+_, _*_, _/_, _%_, _^_, _≤_, _<_, arith}
 use Rattle.words.proofs.Kit.{ne-eqb, lt-ltb, le-ltb, eqb, ltb, getD}
 use lib.Dec.{lit<}
 use lib.Pow.{mod-pow-add, shr-shr}
@@ -136,6 +136,11 @@ module _ (p : Parts) (size : ℕ) (kind : p .kind < 6) (fits : Fits p) (small : 
   required-is =
       rw (body-same, type-is p size kind fits small, trailed-is p size kind fits small)
       (rw (type-is p 0 kind fits (lit< tt), trailed-is p 0 kind fits (lit< tt)))
+
+-- a body has at most as many words as its packet
+pub body-most : (p : Parts) (n size most : ℕ) → size ≡ sizeFor p n → size ≤ most → n ≤ most
+unfolding sizeFor
+body-most p n size most e h = omega arith
 
 -- "size below the required parts": a type 4 body without its indicator word, and nothing else
 short-when : (t : Bool) (a n b : ℕ) → ltb (a + n + b) (a + b + when t 1) ≡ both t (eqb n 0)

@@ -1,14 +1,13 @@
 -- The words of a packet by their pieces. The idea: each piece has as many words as the header says, so a packet's words are as many as its size; and
 -- a body that is copied block by block is at each turn its first words and what was there behind them (`Copying`).
-use Rattle.words.proofs.Kit.{_≡_, refl, sym, ap, _∙_, Bool, true, false, List, [], _∷_, _++_, ℕ, _+_, _*_, _-_, _/_, _%_, _^_, _≤_, _<_, arith, ltb}
+use Rattle.words.proofs.Kit.{_≡_, refl, sym, ap, _∙_, Bool, true, false, List, [], _∷_, _++_, ℕ, _+_, _-_, _/_, _%_, _^_, _≤_, _<_, arith, ltb}
 use Rattle.words.proofs.Kit.{length, take, drop}
 use mathlib.Core.List.{append-assoc}
-use native.Mathlib.Nat.{mod-eq-of-lt, zero-add}
+use native.Mathlib.Nat.{add-zero, zero-add}
 use borrow.Author.Tests.{ltb-true}
 use lib.ListN.{length-append}
 use lib.Seq.{sets, sets-eq, length-take-le, drop-drop, drop-at, take-add, take-length}
-use Rattle.words.specs.Tests.{when}
-use Rattle.words.specs.Word.{join}
+use Rattle.words.specs.Tests.{when, both}
 use Rattle.words.specs.Part.{part, put}
 use Rattle.words.specs.Laid.{Laid}
 use Rattle.words.proofs.Cases.{both-left, both-right}
@@ -17,10 +16,11 @@ use Rattle.words.proofs.LaidLaws.{sets-put, then, laid-length}
 use Rattle.packet.specs.declared.Parts.{Parts}
 use Rattle.packet.specs.Header.{classed, trailed}
 use Rattle.packet.specs.Parts.{streamed, hasSeconds, hasFraction, classAt, secondsAt, fractionAt, bodyAt}
-use Rattle.packet_write.proofs.FitLaws.{Writable, parts-fit}
+use Rattle.packet_write.specs.Write.{headerWord, sizeFor, given, classFirst, classWord, leadingWords, classWords, timeWords, prologueWords}
+use Rattle.packet_write.specs.Write.{trailerWords, packetWords, classFits}
+use Rattle.packet_write.specs.inner.Given.{Layable}
+use Rattle.packet_write.proofs.FitLaws.{parts-fit}
 use Rattle.packet_write.proofs.HeaderLaws.{size-for-is}
-use Rattle.packet_write.specs.Write.{headerWord, sizeFor, given, classWord, leadingWords, classWords, timeWords, prologueWords, trailerWords, packetWords}
-use Rattle.packet_write.specs.Write.{classFits}
 
 -- ---- how many words
 
@@ -33,33 +33,39 @@ module _ (w : ℕ) (p : Parts) where
   unfolding leadingWords
   head-length = simp length-given (omega arith)
 
-  pub class-length : length (classWords w p) ≡ when (classed w) 2
-  unfolding classWords
-  class-length = simp length-given
-
   pub time-length : length (timeWords w p) ≡ when (hasSeconds w) 1 + when (hasFraction w) 2
   unfolding timeWords
   time-length = simp (length-append, length-given)
-
-  pub prologue-length : length (prologueWords w p) ≡ bodyAt w
-  unfolding prologueWords bodyAt fractionAt secondsAt classAt
-  prologue-length = simp length-append (omega (arith, head-length, class-length, time-length))
 
   pub trailer-length : length (trailerWords w p) ≡ when (trailed w) 1
   unfolding trailerWords
   trailer-length = simp length-given
 
--- ---- the class's second word: what the code computes of numbers that fit, where there is a class
-class-second : (t : Bool) (oui information code second : ℕ) → classFits t oui information code ≡ true
-    → second ≡ information % 2 ^ 16 * 2 ^ 16 + code % 2 ^ 16 → given t (oui ∷ second ∷ []) ≡ given t (oui ∷ classWord information code ∷ [])
-unfolding classFits classWord join
-class-second true oui information code second fits e =
-    let rest = both-right (ltb oui (2 ^ 24)) _ fits in
-    let i = ltb-true information (2 ^ 16) (both-left (ltb information (2 ^ 16)) _ rest) in
-    let p = ltb-true code (2 ^ 16) (both-right (ltb information (2 ^ 16)) _ rest) in
-    let same : second ≡ code + 2 ^ 16 * (information + 2 ^ 16 * 0) = omega (arith, mod-eq-of-lt i, mod-eq-of-lt p) in
-    rw same
-class-second false oui information code second fits e = refl
+  module _ (pad : ℕ) where
+    pub class-length : length (classWords pad w p) ≡ when (classed w) 2
+    unfolding classWords
+    class-length = simp length-given
+
+    pub prologue-length : length (prologueWords pad w p) ≡ bodyAt w
+    unfolding prologueWords bodyAt fractionAt secondsAt classAt
+    prologue-length = simp length-append (omega (arith, head-length, class-length, time-length))
+
+-- ---- a class that is there and fits
+
+module _ (t : Bool) (there : t ≡ true) (oui information code : ℕ) (fits : classFits t oui information code ≡ true) where
+  pub oui-fits : oui < 2 ^ 24
+  unfolding classFits
+  oui-fits = ltb-true oui (2 ^ 24) (both-left (ltb oui (2 ^ 24)) _ (rw there at fits))
+
+  codes-fit : both (ltb information (2 ^ 16)) (ltb code (2 ^ 16)) ≡ true
+  unfolding classFits
+  codes-fit = both-right (ltb oui (2 ^ 24)) _ (rw there at fits)
+
+  pub information-fits : information < 2 ^ 16
+  information-fits = ltb-true information (2 ^ 16) (both-left (ltb information (2 ^ 16)) _ codes-fit)
+
+  pub code-fits : code < 2 ^ 16
+  code-fits = ltb-true code (2 ^ 16) (both-right (ltb information (2 ^ 16)) _ codes-fit)
 
 -- ---- the pieces of the prologue, each where the one before it ended; `has` is the answer to whether a part is there
 
@@ -75,16 +81,24 @@ module _ (w : ℕ) (p : Parts) where
     unfolding leadingWords
     head-laid left b m = then l (rw e at m)
 
-  module _ (has : Bool) (e : has ≡ classed w) where
-    pub class-room : (at n : ℕ) → at + length (classWords w p) ≤ n → at + when has 2 ≤ n
-    class-room at n h = rw e (omega (arith, class-length w p))
+  module _ (has : Bool) (e : has ≡ classed w) (pad : ℕ) where
+    pub class-there : has ≡ true → classed w ≡ true
+    class-there on = rw (← e) on
 
-    -- the class's second word is the join of two codes that fit, where there is a class
-    pub class-laid : classFits (classed w) (p .oui) (p .information) (p .code) ≡ true → (out left : List ℕ) (second at a : ℕ)
-        → second ≡ p .information % 2 ^ 16 * 2 ^ 16 + p .code % 2 ^ 16 → Laid out at (given has (p .oui ∷ second ∷ [])) a left
-        → Laid out at (classWords w p) a left
+    pub class-pad : has ≡ true → (classed w ≡ true → pad < 32) → pad < 32
+    class-pad on small = small (class-there on)
+
+    pub class-room : has ≡ true → (at n : ℕ) → at + length (classWords pad w p) ≤ n → at + 2 ≤ n
+    class-room on at n h = omega (arith, rw (class-there on) at (class-length w p pad))
+
+    pub class-laid : has ≡ true → (out left : List ℕ) (first second at a : ℕ) → first ≡ classFirst pad (p .oui) → second ≡ classWord (p .information) (p .code)
+        → Laid out at (first ∷ second ∷ []) a left → Laid out at (classWords pad w p) a left
     unfolding classWords
-    class-laid fits out left second at a s l = rw (← class-second (classed w) (p .oui) (p .information) (p .code) second fits s, ← e) l
+    class-laid on out left first second at a f s l = rw (class-there on, ← f, ← s) l
+
+    pub class-absent : has ≡ false → (out : List ℕ) (at : ℕ) → Laid out at (classWords pad w p) at out
+    unfolding classWords
+    class-absent off out at = rw (← e, off) (record { past = sym (add-zero at); kept = refl })
 
   module _ (has : Bool) (e : has ≡ hasSeconds w) where
     pub seconds-room : (at n : ℕ) → at + length (timeWords w p) ≤ n → at + when has 1 ≤ n
@@ -99,24 +113,25 @@ module _ (w : ℕ) (p : Parts) where
       unfolding timeWords
       time-laid left high low b g h m = then (rw e at l) (rw (f, g, h) at m)
 
-  pieces : length (prologueWords w p) ≡ length (leadingWords w p) + (length (classWords w p) + length (timeWords w p))
-  unfolding prologueWords
-  pieces = simp length-append (omega arith)
+  module _ (pad : ℕ) where
+    pieces : length (prologueWords pad w p) ≡ length (leadingWords w p) + (length (classWords pad w p) + length (timeWords w p))
+    unfolding prologueWords
+    pieces = simp length-append (omega arith)
 
-  pub prologue-first : (n : ℕ) → length (prologueWords w p) ≤ n → length (leadingWords w p) ≤ n
-  prologue-first n h = omega (arith, pieces)
+    pub prologue-first : (n : ℕ) → length (prologueWords pad w p) ≤ n → length (leadingWords w p) ≤ n
+    prologue-first n h = omega (arith, pieces)
 
-  module _ (out first : List ℕ) (a : ℕ) (l : Laid out 0 (leadingWords w p) a first) where
-    pub prologue-second : length (prologueWords w p) ≤ length out → a + length (classWords w p) ≤ length first
-    prologue-second h = omega (arith, pieces, l .past, laid-length l)
+    module _ (out first : List ℕ) (a : ℕ) (l : Laid out 0 (leadingWords w p) a first) where
+      pub prologue-second : length (prologueWords pad w p) ≤ length out → a + length (classWords pad w p) ≤ length first
+      prologue-second h = omega (arith, pieces, l .past, laid-length l)
 
-    module _ (second : List ℕ) (b : ℕ) (m : Laid first a (classWords w p) b second) where
-      pub prologue-third : length (prologueWords w p) ≤ length out → b + length (timeWords w p) ≤ length second
-      prologue-third h = omega (arith, pieces, l .past, m .past, laid-length l, laid-length m)
+      module _ (second : List ℕ) (b : ℕ) (m : Laid first a (classWords pad w p) b second) where
+        pub prologue-third : length (prologueWords pad w p) ≤ length out → b + length (timeWords w p) ≤ length second
+        prologue-third h = omega (arith, pieces, l .past, m .past, laid-length l, laid-length m)
 
-      pub prologue-laid : (left : List ℕ) (k : ℕ) → Laid second b (timeWords w p) k left → Laid out 0 (prologueWords w p) k left
-      unfolding prologueWords
-      prologue-laid left k n = then (then l m) n
+        pub prologue-laid : (left : List ℕ) (k : ℕ) → Laid second b (timeWords w p) k left → Laid out 0 (prologueWords pad w p) k left
+        unfolding prologueWords
+        prologue-laid left k n = then (then l m) n
 
   module _ (has : Bool) (e : trailed w ≡ has) where
     pub trailer-room : (n : ℕ) → length (trailerWords w p) ≤ n → 0 + when has 1 ≤ n
@@ -187,26 +202,27 @@ module _ {body out now : List ℕ} {at : ℕ} (p : Copying body out at now) (h :
     copied = l ∙ rw (p .copied) (copied-more body out at 2048 block-inside);
   }
 
--- ---- a packet that may be written
-module _ (p : Parts) (body : List ℕ) (room at : ℕ) (may : Writable p body room at) where
+-- ---- a packet that may be laid
+module _ (pad : ℕ) (p : Parts) (body : List ℕ) (room at : ℕ) (may : Layable pad p body room at) where
   abbrev size : ℕ
   size = sizeFor p (length body)
 
   abbrev W : ℕ
   W = headerWord p size
 
-  pub packet-length : length (packetWords p body) ≡ sizeFor p (length body)
+  pub packet-length : length (packetWords pad p body) ≡ sizeFor p (length body)
   unfolding packetWords
   packet-length =
       simp length-append
-      (omega (arith, prologue-length W p, trailer-length W p, size-for-is p size (may .kind) (parts-fit p (may .fit)) (may .small) (length body)))
+      (omega (arith, prologue-length W p pad, trailer-length W p, size-for-is p size (may .kind) (parts-fit p (may .fit)) (may .small) (length body)))
 
 -- what the three writers in turn leave is the buffer with the packet at its place
-pub laid-packet : (p : Parts) (body out after : List ℕ) (at w next : ℕ) → Writable p body (length out) at → w ≡ headerWord p (sizeFor p (length body))
-    → Laid out at (prologueWords w p ++ body ++ trailerWords w p) next after
-    → after ≡ take at out ++ packetWords p body ++ drop (at + sizeFor p (length body)) out
+pub laid-packet : (pad : ℕ) (p : Parts) (body out after : List ℕ) (at w next : ℕ) → Layable pad p body (length out) at
+    → w ≡ headerWord p (sizeFor p (length body)) → Laid out at (prologueWords pad w p ++ body ++ trailerWords w p) next after
+    → after ≡ take at out ++ packetWords pad p body ++ drop (at + sizeFor p (length body)) out
 unfolding packetWords
-laid-packet p body out after at w next may e l =
-    let long : length (packetWords p body) ≡ sizeFor p (length body) = packet-length p body (length out) at may in
-    let laid : after ≡ sets out at (packetWords p body) = rw (← e) (l .kept) in
-    laid ∙ sets-eq (packetWords p body) out at (omega (arith, may .inside)) ∙ ap (λ (n : ℕ). take at out ++ packetWords p body ++ drop (at + n) out) long
+laid-packet pad p body out after at w next may e l =
+    let long : length (packetWords pad p body) ≡ sizeFor p (length body) = packet-length pad p body (length out) at may in
+    let laid : after ≡ sets out at (packetWords pad p body) = rw (← e) (l .kept) in
+    laid ∙ sets-eq (packetWords pad p body) out at (omega (arith, may .inside))
+    ∙ ap (λ (n : ℕ). take at out ++ packetWords pad p body ++ drop (at + n) out) long

@@ -8,3 +8,5 @@ pub mod LayLaws
 pub mod HeaderLaws
 -- the parts of a packet as fifteen words
 pub mod GivenLaws
+-- the steps of writing, one after the other
+pub mod WriteLaws

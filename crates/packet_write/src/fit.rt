@@ -1,16 +1,17 @@
-// The refusals of writing, of a packet whose parts are fifteen words q. Each number of the list is given in one place, but for those that reading has too, and for
-// SHORT and VALUE.
+// The refusals of writing, of a packet whose parts are fifteen words q; at the end those of a packet of type 1 that is written as 49A, with a pad count. Each number
+// of the list is given in one place, but for those that reading has too, and for SHORT and VALUE.
 use crate::parts;
-ghost use Rattle.words.specs.Kit.{_≡_, _+_, _≤_, eqb, length};
+ghost use Rattle.words.specs.Kit.{_≡_, true, _+_, _^_, _≤_, _<_, eqb, length};
 ghost use Rattle.words.specs.Numbers.{SHORT, TIME};
 ghost use Rattle.words.specs.Tests.{pick, both};
 ghost use Rattle.words.specs.Outcome.{checked};
+ghost use Rattle.packet_survey.specs.Payload.{padBad};
 ghost use Rattle.packet.specs.Header.{typeOf};
 ghost use Rattle.packet.specs.Read.{timeOver};
-ghost use Rattle.packet_write.specs.Write.{headerWord, sizeFor, codesFit, flagsFit, classFits};
-ghost use Rattle.packet_write.specs.inner.Steps.{partsChecks, roomChecks};
+ghost use Rattle.packet_write.specs.Write.{headerWord, sizeFor, classFirst, classWord, codesFit, flagsFit, classFits, padFits};
+ghost use Rattle.packet_write.specs.inner.Steps.{plainChecks, contentChecks, padChecks, roomChecks};
 ghost use Rattle.packet_write.specs.AsWords.{partsIn};
-ghost use Rattle.packet_write.specs.inner.Given.{contentChecks};
+ghost use Rattle.packet_write.specs.inner.Given.{Governed};
 
 // Whether TSI, TSF and the count fit their bits.
 fn codes_fit(tsi: u32, tsf: u32, count: u32) -> bool
@@ -43,7 +44,7 @@ fn class_fits(classed: bool, oui: u32, information: u32, code: u32) -> bool
 // TYPE and VALUE.
 pub fn check_parts(q: &[u32]) -> words::Check
     requires { ⌜ length (now q) ≡ 15 ⌝ }
-    ensures { λ r. ⌜ checked r ≡ partsChecks (partsIn (now (q .entry))) ⌝ }
+    ensures { λ r. ⌜ checked r ≡ plainChecks (partsIn (now (q .entry))) ⌝ }
 {
     if 5 < q[parts::KIND] {
         return words::Check::Refused(words::TYPE);
@@ -89,10 +90,11 @@ fn short_or_time(kind: u32, n: usize) -> u32
     words::TIME
 }
 
-// SHORT, SIZE, TIME, INDICATOR, LAYOUT and FIELD, of a packet of a size. SHORT is asked late, so that it costs nothing where the type is not 4: a packet that is
-// SHORT is not SIZE, and where TIME is found, SHORT comes first.
+// SHORT, SIZE, TIME, INDICATOR, LAYOUT and FIELD, of a packet of a size. SHORT is asked late, so that it costs nothing where the type is not 4: a packet that
+// is SHORT is not SIZE, and where TIME is found, SHORT comes first.
 pub fn check_content(q: &[u32], body: &[u32], size: usize) -> words::Check
-    requires { ⌜ (length (now q) ≡ 15) × (size ≡ sizeFor (partsIn (now q)) (length (now body))) × (size ≤ length (now body) + 8) ⌝ }
+    requires { ⌜ length (now q) ≡ 15 ⌝ }
+    requires { ⌜ (size ≡ sizeFor (partsIn (now q)) (length (now body))) × (size ≤ length (now body) + 8) ⌝ }
     requires { ⌜ typeOf (headerWord (partsIn (now q)) 0) ≡ partsIn (now q) .kind ⌝ }
     ensures { λ r. ⌜ checked r ≡ contentChecks (partsIn (now (q .entry))) (now (body .entry)) ⌝ }
 {
@@ -121,6 +123,42 @@ pub fn check_room(room: usize, at: usize, size: usize) -> words::Check
     }
     if room - at < size {
         return words::Check::Refused(words::ROOM);
+    }
+    words::Check::Fine
+}
+
+// Whether the pad count fits its five bits, where there is a class.
+pub fn pad_fits(pad: u32, q: &[u32]) -> bool
+    requires { ⌜ (length (now q) ≡ 15) × (partsIn (now q) .kind ≡ 1) ⌝ }
+    ensures { λ r. ⌜ r ≡ padFits true pad (partsIn (now (q .entry))) ⌝ }
+{
+    if q[parts::CLASSED] % 2 == 1 {
+        return pad < 32;
+    }
+    true
+}
+
+// Whether a packet with a body of n words is PAD, as it is without a class: only where there is one do its numbers fit, and its words are made.
+fn pad_bad(pad: u32, q: &[u32], n: usize) -> bool
+    requires { ⌜ (length (now q) ≡ 15) × Governed pad (partsIn (now q)) × (n < 2 ^ 16) ⌝ }
+    ensures { λ r. ⌜ r ≡ padBad (partsIn (now (q .entry)) .classed) (partsIn (now (q .entry)) .trailed) (classFirst pad (partsIn (now (q .entry)) .oui)) (classWord (partsIn (now (q .entry)) .information) (partsIn (now (q .entry)) .code)) n ⌝ }
+{
+    if q[parts::CLASSED] % 2 == 1 {
+        let first = crate::laying::class_first(pad, q[parts::OUI]);
+        let second = crate::laying::class_word(q[parts::INFORMATION], q[parts::CODE]);
+        let trailed = q[parts::TRAILED] % 2 == 1;
+        return packet_survey::inner::pad_bad(true, trailed, first, second, n);
+    }
+    true
+}
+
+// PAD, of the parts and the body.
+pub fn check_pad(pad: u32, q: &[u32], body: &[u32]) -> words::Check
+    requires { ⌜ (length (now q) ≡ 15) × Governed pad (partsIn (now q)) × (length (now body) ≤ 65535) ⌝ }
+    ensures { λ r. ⌜ checked r ≡ padChecks true pad (partsIn (now (q .entry))) (now (body .entry)) ⌝ }
+{
+    if pad_bad(pad, q, body.len()) {
+        return words::Check::Refused(words::PAD);
     }
     words::Check::Fine
 }

@@ -1,18 +1,18 @@
-// The words of a packet, laid into a buffer: the prologue, the body and the trailer in turn. Its parts are fifteen words q; w is its header word.
+// The words of a packet, laid into a buffer: the prologue, the body and the trailer in turn. Its parts are fifteen words q; w is its header word, and pad the pad
+// count in its class, 0 for plain 49.0.
 use crate::parts;
-ghost use Rattle.words.specs.Kit.{_≡_, true, [], _∷_, _++_, _+_, _*_, _%_, _^_, _≤_, _<_, length, take, drop};
+ghost use Rattle.words.specs.Kit.{_≡_, true, [], _∷_, _++_, _+_, _^_, _≤_, _<_, length, take, drop};
 ghost use Rattle.words.specs.Tests.{when};
-ghost use Rattle.words.specs.Outcome.{accepted};
 ghost use Rattle.words.specs.Part.{part, put};
 ghost use Rattle.words.specs.Laid.{Laid};
-ghost use Rattle.packet_write.specs.Write.{headerWord, sizeFor, given, leadingWords, classWords, timeWords, prologueWords, trailerWords, packetWords};
-ghost use Rattle.packet_write.specs.inner.Steps.{partsChecks, writeChecks};
+ghost use Rattle.packet.specs.Header.{classed};
+ghost use Rattle.packet_write.specs.Write.{headerWord, sizeFor, given, classFirst, classWord, leadingWords, classWords, timeWords, prologueWords, trailerWords, packetWords, partsFit};
 ghost use Rattle.packet_write.specs.AsWords.{partsIn};
-ghost use Rattle.packet_write.specs.inner.Given.{HeaderFor};
+ghost use Rattle.packet_write.specs.inner.Given.{HeaderFor, Layable};
 
-// The header word of parts that are not refused, with a size of 0: its fields from the left, each shifted by the widths of those after it.
+// The header word of parts that fit, with a size of 0: its fields from the left, each shifted by the widths of those after it.
 pub fn header_word(q: &[u32]) -> u32
-    requires { ⌜ (length (now q) ≡ 15) × (partsChecks (partsIn (now q)) ≡ accepted tt) ⌝ }
+    requires { ⌜ (length (now q) ≡ 15) × (partsIn (now q) .kind < 6) × (partsFit (partsIn (now q)) ≡ true) ⌝ }
     ensures { λ r. ⌜ r ≡ headerWord (partsIn (now (q .entry))) 0 ⌝ }
 {
     let flags = ((q[parts::KIND] * 2 + q[parts::CLASSED] % 2) * 2 + q[parts::TRAILED] % 2) * 4
@@ -22,7 +22,8 @@ pub fn header_word(q: &[u32]) -> u32
 
 // The words of a packet whose body has n; w is its header word but for its size.
 pub fn size_for(w: u32, q: &[u32], n: usize) -> usize
-    requires { ⌜ (length (now q) ≡ 15) × (partsChecks (partsIn (now q)) ≡ accepted tt) × (w ≡ headerWord (partsIn (now q)) 0) × (n < 2 ^ 62) ⌝ }
+    requires { ⌜ (length (now q) ≡ 15) × (partsIn (now q) .kind < 6) × (partsFit (partsIn (now q)) ≡ true) ⌝ }
+    requires { ⌜ (w ≡ headerWord (partsIn (now q)) 0) × (n < 2 ^ 62) ⌝ }
     ensures { λ r. ⌜ (r ≡ sizeFor (partsIn (now (q .entry))) n) × (1 ≤ r) × (r ≤ n + 8) ⌝ }
 {
     packet::inner::body_at(w) + n + words::inner::when_so(q[parts::TRAILED] % 2 == 1, 1)
@@ -62,20 +63,33 @@ fn lay_head(w: u32, q: &[u32], out: &mut [u32]) -> usize
     lay_one(packet::inner::has_stream(w), q[parts::IDENTIFIER], out, a)
 }
 
-// The class's second word.
-fn class_word(information: u32, code: u32) -> u32
-    ensures { λ r. ⌜ r ≡ information % 2 ^ 16 * 2 ^ 16 + code % 2 ^ 16 ⌝ }
+// The class's first word: the pad count, three zeros and the OUI.
+pub fn class_first(pad: u32, oui: u32) -> u32
+    requires { ⌜ (pad < 32) × (oui < 2 ^ 24) ⌝ }
+    ensures { λ r. ⌜ r ≡ classFirst pad oui ⌝ }
 {
-    information % 0x1_0000 * 0x1_0000 + code % 0x1_0000
+    pad * 0x800_0000 + oui
+}
+
+// The class's second word.
+pub fn class_word(information: u32, code: u32) -> u32
+    requires { ⌜ (information < 2 ^ 16) × (code < 2 ^ 16) ⌝ }
+    ensures { λ r. ⌜ r ≡ classWord information code ⌝ }
+{
+    information * 0x1_0000 + code
 }
 
 // The class, from a place on.
-fn lay_class(w: u32, q: &[u32], out: &mut [u32], at: usize) -> usize
-    requires { ⌜ HeaderFor w (now q) × (at + length (classWords w (partsIn (now q))) ≤ length (now out)) ⌝ }
-    ensures { λ r. ⌜ Laid (now (out .entry)) at (classWords w (partsIn (now (q .entry)))) r (now (out .exit)) ⌝ }
+fn lay_class(w: u32, pad: u32, q: &[u32], out: &mut [u32], at: usize) -> usize
+    requires { ⌜ HeaderFor w (now q) × (classed w ≡ true → pad < 32) × (at + length (classWords pad w (partsIn (now q))) ≤ length (now out)) ⌝ }
+    ensures { λ r. ⌜ Laid (now (out .entry)) at (classWords pad w (partsIn (now (q .entry)))) r (now (out .exit)) ⌝ }
 {
-    let second = class_word(q[parts::INFORMATION], q[parts::CODE]);
-    lay_two(packet::inner::has_class(w), q[parts::OUI], second, out, at)
+    if packet::inner::has_class(w) {
+        let first = class_first(pad, q[parts::OUI]);
+        let second = class_word(q[parts::INFORMATION], q[parts::CODE]);
+        return lay_two(true, first, second, out, at);
+    }
+    at
 }
 
 // The seconds and the fraction, from a place on.
@@ -90,12 +104,12 @@ fn lay_time(w: u32, q: &[u32], out: &mut [u32], at: usize) -> usize
 }
 
 // What stands before the body, from the start of a buffer.
-fn lay_prologue(w: u32, q: &[u32], out: &mut [u32]) -> usize
-    requires { ⌜ HeaderFor w (now q) × (length (prologueWords w (partsIn (now q))) ≤ length (now out)) ⌝ }
-    ensures { λ r. ⌜ Laid (now (out .entry)) 0 (prologueWords w (partsIn (now (q .entry)))) r (now (out .exit)) ⌝ }
+fn lay_prologue(w: u32, pad: u32, q: &[u32], out: &mut [u32]) -> usize
+    requires { ⌜ HeaderFor w (now q) × (classed w ≡ true → pad < 32) × (length (prologueWords pad w (partsIn (now q))) ≤ length (now out)) ⌝ }
+    ensures { λ r. ⌜ Laid (now (out .entry)) 0 (prologueWords pad w (partsIn (now (q .entry)))) r (now (out .exit)) ⌝ }
 {
     let a = lay_head(w, q, out);
-    let b = lay_class(w, q, out, a);
+    let b = lay_class(w, pad, q, out, a);
     lay_time(w, q, out, b)
 }
 
@@ -137,21 +151,21 @@ fn lay_trailer(w: u32, q: &[u32], out: &mut [u32]) -> usize
 }
 
 // The three in turn, each lent the part of the buffer that is left, from a place on.
-fn lay_parts(w: u32, q: &[u32], body: &[u32], out: &mut [u32], at: usize) -> usize
-    requires { ⌜ HeaderFor w (now q) ⌝ }
-    requires { ⌜ at + (length (prologueWords w (partsIn (now q))) + length (now body) + length (trailerWords w (partsIn (now q)))) ≤ length (now out) ⌝ }
-    ensures { λ r. ⌜ Laid (now (out .entry)) at (prologueWords w (partsIn (now (q .entry))) ++ now (body .entry) ++ trailerWords w (partsIn (now (q .entry)))) r (now (out .exit)) ⌝ }
+fn lay_parts(w: u32, pad: u32, q: &[u32], body: &[u32], out: &mut [u32], at: usize) -> usize
+    requires { ⌜ HeaderFor w (now q) × (classed w ≡ true → pad < 32) ⌝ }
+    requires { ⌜ at + (length (prologueWords pad w (partsIn (now q))) + length (now body) + length (trailerWords w (partsIn (now q)))) ≤ length (now out) ⌝ }
+    ensures { λ r. ⌜ Laid (now (out .entry)) at (prologueWords pad w (partsIn (now (q .entry))) ++ now (body .entry) ++ trailerWords w (partsIn (now (q .entry)))) r (now (out .exit)) ⌝ }
 {
-    let a = at + lay_prologue(w, q, &mut out[at..]);
+    let a = at + lay_prologue(w, pad, q, &mut out[at..]);
     let b = a + lay_body(body, &mut out[a..]);
     b + lay_trailer(w, q, &mut out[b..])
 }
 
 // A packet that nothing refuses, at its place; w is its header word but for its size.
-pub fn lay(w: u32, size: usize, q: &[u32], body: &[u32], out: &mut [u32], at: usize)
-    requires { ⌜ (length (now q) ≡ 15) × (writeChecks (partsIn (now q)) (now body) (length (now out)) at ≡ accepted tt) ⌝ }
+pub fn lay(w: u32, size: usize, pad: u32, q: &[u32], body: &[u32], out: &mut [u32], at: usize)
+    requires { ⌜ (length (now q) ≡ 15) × Layable pad (partsIn (now q)) (now body) (length (now out)) at ⌝ }
     requires { ⌜ (w ≡ headerWord (partsIn (now q)) 0) × (size ≡ sizeFor (partsIn (now q)) (length (now body))) ⌝ }
-    ensures { λ _. ⌜ now (out .exit) ≡ take at (now (out .entry)) ++ packetWords (partsIn (now (q .entry))) (now (body .entry)) ++ drop (at + size) (now (out .entry)) ⌝ }
+    ensures { λ _. ⌜ now (out .exit) ≡ take at (now (out .entry)) ++ packetWords pad (partsIn (now (q .entry))) (now (body .entry)) ++ drop (at + size) (now (out .entry)) ⌝ }
 {
-    lay_parts(w + size as u32, q, body, out, at);
+    lay_parts(w + size as u32, pad, q, body, out, at);
 }

@@ -1,4 +1,4 @@
-// The parts of a packet as fifteen words: where each stands. Inside this crate parts are read where they are written: fifteen numbers at hand are more than a
+// The parts of a packet as fifteen words, or with a pad count as sixteen: where each stands. Inside this crate parts are read where they are written: fifteen numbers at hand are more than a
 // processor's registers hold.
 
 // The type.
@@ -34,3 +34,5 @@ pub const HIGH: usize = 12;
 pub const LOW: usize = 13;
 
 pub const TRAILER: usize = 14;
+
+pub const PAD: usize = 15;

@@ -1,4 +1,5 @@
-// Writing a packet whose parts are words.
+// Writing a packet whose parts are words, as plain 49.0. `survey.rt` goes the same steps as 49A: each is compiled whole into its call for C, and through one
+// function that both call, a small plain packet would take a seventh more instructions.
 ghost use Rattle.words.specs.Kit.{_≡_, length};
 ghost use Rattle.words.specs.Outcome.{measured, Meets};
 ghost use Rattle.packet_write.specs.Write.{writeOf};
@@ -23,6 +24,6 @@ pub fn write_parts(q: &[u32], body: &[u32], out: &mut [u32], at: usize) -> words
     if let words::Check::Refused(n) = room {
         return words::Length::Refused(n);
     }
-    crate::laying::lay(w, size, q, body, out, at);
+    crate::laying::lay(w, size, 0, q, body, out, at);
     words::Length::Accepted(size)
 }

@@ -136,7 +136,7 @@ held-size : sizesOf (bitsOf 31 heldMask) ≡ 73
 unfolding bitsOf heldMask slotMask sizesOf fieldSize
 held-size = refl
 
-pub body-most : (held : ℕ) → bitAnd held heldMask ≡ held → pageBodyWords held ≤ 87
+pub body-most : (held : ℕ) → bitAnd held heldMask ≡ held → pageBodyWords held ≤ 88
 unfolding pageBodyWords
 body-most held w = omega (arith, sizes-within 31 held heldMask (λ b h y. within-bits heldMask held w b y), held-size)
 

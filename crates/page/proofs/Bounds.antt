@@ -1,5 +1,5 @@
--- How long a page is: "at least 2 + 16S" words (document 01), and "A body has at most 87 words and a page at most 2 + 89S" (C-11). The idea: a body has its 14
--- first words and at most the 73 words of all held fields (`body-most`). So no page reaches SIZE (`page-small`).
+-- How long a page is: "2 + 17S to 2 + 90S" words (document 02, C-13). The idea: a body has its 15 first words and at most the 73 words of all held fields
+-- (`body-most`). So no page reaches SIZE (`page-small`).
 use Rattle.words.proofs.Kit.{_≡_, ap, true, List, ℕ, zero, suc, _+_, _*_, _≤_, _<_, arith, length}
 use Rattle.record.specs.Layout.{headWords, heldOf}
 use Rattle.table.specs.Layout.{streamsOf, recordAt}
@@ -23,22 +23,22 @@ pieces-between (suc n) least most f h =
     (omega (arith, p .0, q .0, pieces-next n f), omega (arith, p .1, q .1, pieces-next n f))
 
 module _ (t : List ℕ) (w : wellMade t ≡ true) where
-  saved-between : (s : ℕ) → s < streamsOf t → (headWords ≤ length (savedBody t s)) × (length (savedBody t s) ≤ 87)
+  saved-between : (s : ℕ) → s < streamsOf t → (headWords ≤ length (savedBody t s)) × (length (savedBody t s) ≤ 88)
   unfolding savedBody pageBodyWords
   saved-between s h =
       let l = body-length (recordAt s t) (Records.record-length s t (layout-has t s (well-whole t w) h)) (well-record t w s h) in
       (omega (arith, l), omega (arith, l, body-most (heldOf (recordAt s t)) (good-within (recordAt s t) (well-record t w s h))))
 
   -- by the contents
-  pub body-between : (s : ℕ) → s < streamsOf t → (headWords ≤ lengthAt (pageOf t) s) × (lengthAt (pageOf t) s ≤ 87)
+  pub body-between : (s : ℕ) → s < streamsOf t → (headWords ≤ lengthAt (pageOf t) s) × (lengthAt (pageOf t) s ≤ 88)
   unfolding pageOf
   body-between s h =
       let l = length-at (streamsOf t) (savedBody t) s h in (omega (arith, l, saved-between s h .0), omega (arith, l, saved-between s h .1))
 
-  pub page-between : (2 + 16 * streamsOf t ≤ pageLength t) × (pageLength t ≤ 2 + 89 * streamsOf t)
+  pub page-between : (2 + 17 * streamsOf t ≤ pageLength t) × (pageLength t ≤ 2 + 90 * streamsOf t)
   unfolding pageLength offsetOf
   page-between =
-      let b = pieces-between (streamsOf t) headWords 87 (savedBody t) saved-between in
+      let b = pieces-between (streamsOf t) headWords 88 (savedBody t) saved-between in
       (omega (arith, b .0), omega (arith, b .1))
 
   -- so no page exceeds 65,535 words

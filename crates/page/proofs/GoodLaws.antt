@@ -25,8 +25,9 @@ use Rattle.fields.proofs.RuleLaws.{rule-own}
 use Rattle.fields.proofs.WalkLaws.{rules-cons}
 use Rattle.record.specs.Held.{slotMask, slotted}
 use Rattle.record.specs.State.{stateGood}
-use Rattle.record.specs.Layout.{headWords, heldOf, countAt, countWords, lastOf, slotOf}
-use Rattle.record.specs.Good.{countGoodAt, heldGood, recordGood}
+use Rattle.record.specs.Layout.{headWords, heldOf, countAt, countWords, lastOf, choiceOf, slotOf}
+use Rattle.record.specs.Good.{countGoodAt, heldGood, choiceGood, recordGood}
+use Rattle.record.specs.inner.Head.{headGood}
 use Rattle.record.proofs.SlotLaws.{placed, placed-split, slotted-low, slotted-high, slotted-all}
 use Rattle.record.proofs.HoldLaws.{within-small, within-slotted, held-within}
 use Rattle.record.proofs.GoodLaws.{slotRuled, slots-ruled, counts-at, last-at, zeros-good, good-head-ill, good-slots}
@@ -190,19 +191,22 @@ module _ (b : List ℕ) (l : length b ≡ pageBodyWords (heldOf b)) where
       counts-at b k ∙ rw (first, word 1 (omega arith), word 2 (omega arith)) (sym (counts-at (recordOf b) k))
 
   -- head is the test of the first words
-  module _ (head : Bool) (e : head ≡ both (heldGood (heldOf b) (lastOf (countWords 2 b))) (all 4 (countGoodAt b))) where
-    head-same : head ≡ both (heldGood (heldOf (recordOf b)) (lastOf (countWords 2 (recordOf b)))) (all 4 (countGoodAt (recordOf b)))
+  module _ (head : Bool) (e : head ≡ headGood b) where
+    head-same : head ≡ headGood (recordOf b)
+    unfolding headGood
     head-same =
         let h : heldOf b ≡ heldOf (recordOf b) = sym (record-word b 1 (omega arith) (body-some b l)) in
         let last : lastOf (countWords 2 b) ≡ lastOf (countWords 2 (recordOf b)) = last-at b ∙ sym (record-word b 10 (omega arith) (body-some b l))
         ∙ sym (last-at (recordOf b)) in
-        e ∙ ap₂ both (ap₂ heldGood h last) (all-same (countGoodAt b) (countGoodAt (recordOf b)) 4 count-same)
+        let chosen : choiceOf b ≡ choiceOf (recordOf b) = sym (record-word b 14 (omega arith) (body-some b l)) in
+        e ∙ ap₂ both (ap₂ heldGood h last) (ap₂ both (all-same (countGoodAt b) (countGoodAt (recordOf b)) 4 count-same) (ap choiceGood chosen))
 
     pub body-ill : not head ≡ true → false ≡ recordGood (recordOf b)
     body-ill i = good-head-ill (recordOf b) head head-same (not-true head i)
 
     module _ (i : not head ≡ false) where
       body-within : bitAnd (heldOf b) slotMask ≡ heldOf b
+      unfolding headGood
       body-within = held-within (heldOf b) (head-within b _ (sym e ∙ not-false head i))
 
       pub body-held : heldOf b < 2 ^ 31

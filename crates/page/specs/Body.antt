@@ -1,5 +1,6 @@
 -- Document 01, 'The table and its page': "A body: identifier, held indicator, for types 1, 3, 4, 5 three words each (seen, missing, last plus one or 0 if not
--- started), then the held words in field order." A record's first words are those of its body; the slots are squeezed to the held words.
+-- started), then the held words in field order"; and the choice (document 02, C-13), which stands behind the counts. A record's first words are those of its
+-- body; the slots are squeezed to the held words.
 use Rattle.words.specs.Kit.{ℕ, _+_, List, _++_}
 use lib.ListN.{replicate}
 use Rattle.words.specs.Part.{part}

@@ -72,24 +72,24 @@ fn read_save(ws: &mut [u32], page: &mut [u32]) {
     save_case(&ws[0..n], &mut page[0..room]);
 }
 
-// The case of a word: 1 a recording, 2 a page to be put back, 3 a table to be saved. Pages are saved into 2,850 words but in a case of saving.
+// The case of a word: 1 a recording, 2 a page to be put back, 3 a table to be saved. Pages are saved into 2,882 words but in a case of saving.
 fn asked(
     kind: u32,
-    ids: &mut [u32],
+    list: &mut [u32],
     table: &mut [u32],
     second: &mut [u32],
     page: &mut [u32],
     ws: &mut [u32],
 ) {
-    if page.len() < 2850 {
+    if page.len() < 2882 {
         return;
     }
     if kind == 1 {
-        resuming::recording(ids, table, &mut page[0..2850], second, ws);
+        resuming::recording(list, table, &mut page[0..2882], second, ws);
         return;
     }
     if kind == 2 {
-        read_put(ws, table, &mut page[0..2850]);
+        read_put(ws, table, &mut page[0..2882]);
         return;
     }
     read_save(ws, page);
@@ -98,7 +98,7 @@ fn asked(
 // Case k; whether there was one.
 fn one_case(
     k: u64,
-    ids: &mut [u32],
+    list: &mut [u32],
     table: &mut [u32],
     second: &mut [u32],
     page: &mut [u32],
@@ -109,25 +109,26 @@ fn one_case(
         return false;
     };
     lines::inner::number(k);
-    asked(kind, ids, table, second, page, ws);
+    asked(kind, list, table, second, page, ws);
     true
 }
 
-// Tables have at most 2,900 words here, pages at most 3,000, and the packets of a recording at most 60,000.
+// A list has at most 32 identifiers and as many choices here, a table at most 2,900 words, a page at most 3,000, and the packets of a recording at most
+// 60,000.
 fn main() {
-    let mut id_space = [0u32; 32];
+    let mut list_space = [0u32; 64];
     let mut table_space = [0u32; 2900];
     let mut second_space = [0u32; 2900];
     let mut page_space = [0u32; 3000];
     let mut word_space = [0u32; 60000];
-    let ids: &mut [u32] = &mut id_space;
+    let list: &mut [u32] = &mut list_space;
     let table: &mut [u32] = &mut table_space;
     let second: &mut [u32] = &mut second_space;
     let page: &mut [u32] = &mut page_space;
     let ws: &mut [u32] = &mut word_space;
     let mut k: u64 = 0;
     while k < 0xFFFF_FFFF {
-        if one_case(k, ids, table, second, page, ws) {
+        if one_case(k, list, table, second, page, ws) {
             k += 1;
         } else {
             return;

@@ -98,9 +98,9 @@ fn play_cut(
     stop(first, page, second, ws, walk, packets - cut);
 }
 
-// The line of a cut.
+// The line of a cut. The list has the identifiers, and then as many choices.
 fn one_cut(
-    ids: &[u32],
+    list: &[u32],
     first: &mut [u32],
     page: &mut [u32],
     second: &mut [u32],
@@ -113,14 +113,15 @@ fn one_cut(
     lines::inner::pattern(first);
     lines::inner::pattern(page);
     lines::inner::pattern(second);
-    table::start(ids, first);
+    let n = list.len() / 2;
+    table::start(&list[0..n], &list[n..], first);
     play_cut(first, page, second, ws, cut, packets);
     crate::showing::end_line();
 }
 
 // The cuts of a recording.
 fn all_cuts(
-    ids: &[u32],
+    list: &[u32],
     first: &mut [u32],
     page: &mut [u32],
     second: &mut [u32],
@@ -130,14 +131,14 @@ fn all_cuts(
     let cuts = lines::inner::word();
     let mut c = 0;
     while c < cuts {
-        one_cut(ids, first, page, second, ws, packets);
+        one_cut(list, first, page, second, ws, packets);
         c += 1;
     }
 }
 
 // The packets of a recording, and its cuts.
 fn read_packets(
-    ids: &[u32],
+    list: &[u32],
     first: &mut [u32],
     page: &mut [u32],
     second: &mut [u32],
@@ -149,28 +150,28 @@ fn read_packets(
         return;
     }
     lines::inner::fill(&mut ws[0..n]);
-    all_cuts(ids, first, page, second, &ws[0..n], packets);
+    all_cuts(list, first, page, second, &ws[0..n], packets);
 }
 
-// The identifiers of a recording, its packets, and its cuts.
+// The identifiers and the choices of a recording, its packets, and its cuts.
 fn read_list(
-    ids: &mut [u32],
+    list: &mut [u32],
     first: &mut [u32],
     page: &mut [u32],
     second: &mut [u32],
     ws: &mut [u32],
 ) {
-    let n = lines::inner::word() as usize;
-    if ids.len() < n {
+    let n = 2 * lines::inner::word() as usize;
+    if list.len() < n {
         return;
     }
-    lines::inner::fill(&mut ids[0..n]);
-    read_packets(&ids[0..n], first, page, second, ws);
+    lines::inner::fill(&mut list[0..n]);
+    read_packets(&list[0..n], first, page, second, ws);
 }
 
-// A recording: the rooms of the two tables, its identifiers, its packets, and its cuts.
+// A recording: the rooms of the two tables, its list, its packets, and its cuts.
 pub fn recording(
-    ids: &mut [u32],
+    list: &mut [u32],
     first: &mut [u32],
     page: &mut [u32],
     second: &mut [u32],
@@ -185,5 +186,5 @@ pub fn recording(
     if second.len() < other {
         return;
     }
-    read_list(ids, &mut first[0..room], page, &mut second[0..other], ws);
+    read_list(list, &mut first[0..room], page, &mut second[0..other], ws);
 }

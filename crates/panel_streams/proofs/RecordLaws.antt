@@ -24,12 +24,13 @@ unfolding recordAt
 word-there t s i h = getD-part (base s) recordWords i t h
 
 pub declared-there : (t : List ℕ) (s at : ℕ) → at ≡ base s
-    → accepted (record { identifier = getD t at 0; held = getD t (at + 1) 0 }) ≡ accepted (declaredIn (recordAt s t))
+    → accepted (record { identifier = getD t at 0; choice = getD t (at + 14) 0; held = getD t (at + 1) 0 }) ≡ accepted (declaredIn (recordAt s t))
 unfolding declaredIn
 declared-there t s at e =
     let i : getD (recordAt s t) 0 0 ≡ getD t at 0 = word-there t s 0 (omega arith) ∙ ap (λ (n : ℕ). getD t n 0) (omega (arith, e)) in
+    let c : getD (recordAt s t) 14 0 ≡ getD t (at + 14) 0 = word-there t s 14 (omega arith) ∙ ap (λ (n : ℕ). getD t n 0) (omega (arith, e)) in
     let h : getD (recordAt s t) 1 0 ≡ getD t (at + 1) 0 = word-there t s 1 (omega arith) ∙ ap (λ (n : ℕ). getD t n 0) (omega (arith, e)) in
-    rw (i, h)
+    rw (i, c, h)
 
 -- ---- counts: o is the order of the type, and c where its count begins in a record
 module _ (t : List ℕ) (s kind at o c : ℕ) (e : at ≡ base s) (f : o ≡ orderOf kind) (g : c ≡ countAt o) where

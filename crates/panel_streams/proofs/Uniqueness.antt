@@ -14,11 +14,11 @@ use Rattle.panel_streams.specs.declared.changes.Changed.the-variants as 
 
 -- ---- the left inverses
 abbrev identityBack : Outcome Declared → Identity
-identityBack (accepted d) = named.Declared (d .identifier) (d .held)
+identityBack (accepted d) = named.Declared (d .identifier) (d .choice) (d .held)
 identityBack (refused n) = named.Refused n
 
 identityLeft : (a : Identity) → identityBack (identityPaper a) ≡ a
-identityLeft (named.Declared identifier held) = refl
+identityLeft (named.Declared identifier choice held) = refl
 identityLeft (named.Refused n) = refl
 
 abbrev typeCountsBack : Outcome Count → TypeCounts

@@ -1,6 +1,6 @@
 -- What a table says of a stream, in reading order.
 
--- its identifier and its held indicator
+-- its identifier, its choice and its held indicator
 pub mod Identity
 -- what it counted of a type
 pub mod TypeCounts

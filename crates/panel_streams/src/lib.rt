@@ -1,5 +1,5 @@
-// What a table says of a stream beside its readings: who it is and which fields it holds, what it counted, its record as a table of its own, and which held
-// fields two records have not the same.
+// What a table says of a stream beside its readings: who it is, how its packets are read and which fields it holds, what it counted, its record as a table of
+// its own, and which held fields two records have not the same.
 mod changes;
 mod records;
 
@@ -19,8 +19,8 @@ pub enum TypeCounts {
     Refused(u32),
 }
 
-// The identifier of a stream, and its held indicator, which has the bit of each field that is held. TABLE for a table that is not well made, STREAM for a
-// stream number that is not in it.
+// The identifier of a stream, its choice, which is 0 for plain 49.0 and 1 for 49A, and its held indicator, which has the bit of each field that is held. TABLE
+// for a table that is not well made, STREAM for a stream number that is not in it.
 pub fn identity(table: &[u32], stream: usize) -> Identity
     ensures { λ r. ⌜ identityPaper r ≡ identityOf (now (table .entry)) stream ⌝ }
 {
@@ -40,7 +40,7 @@ pub fn counts(table: &[u32], stream: usize, kind: u32) -> TypeCounts
     }
 }
 
-// The record of a stream as a table of its own, of one stream, at the front of out; answers its words, 89. TABLE and STREAM as for an identity, then ROOM where out
+// The record of a stream as a table of its own, of one stream, at the front of out; answers its words, 90. TABLE and STREAM as for an identity, then ROOM where out
 // is shorter. Other words of out stay.
 pub fn own_table(table: &[u32], stream: usize, out: &mut [u32]) -> words::Length
     ensures { λ r. ⌜ Meets measured (ownTableOf (now (table .entry)) stream (now (out .entry))) (now (out .entry)) r (now (out .exit)) ⌝ }

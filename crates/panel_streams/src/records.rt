@@ -8,9 +8,13 @@ ghost use Rattle.panel_streams.specs.Identity.{declaredIn, identityPaper
 ghost use Rattle.panel_streams.specs.TypeCounts.{typeCountIn, typeCountsPaper};
 ghost use Rattle.panel_streams.specs.inner.Asked.{countAsked, ownAsked};
 
-// Who a stream is: its identifier, and its held indicator; or the number of the refusal.
+// Who a stream is: its identifier, its choice, and its held indicator; or the number of the refusal.
 pub enum Identity {
-    Declared { identifier: u32, held: u32 },
+    Declared {
+        identifier: u32,
+        choice: u32,
+        held: u32,
+    },
     Refused(u32),
 }
 
@@ -22,6 +26,7 @@ pub fn identity_at(table: &[u32], stream: usize) -> Identity
     let at = table::inner::record_at(stream);
     Identity::Declared {
         identifier: table[at],
+        choice: table[at + record::inner::CHOICE_AT],
         held: table[at + record::inner::HELD_AT],
     }
 }

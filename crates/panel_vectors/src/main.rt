@@ -98,7 +98,7 @@ fn ask_words(k: u64, table: &[u32], out: &mut [u32]) {
 }
 
 // The line of a half in the sweep: the three readings of its table.
-fn show_half(h: u32, table: &[u32; 89]) {
+fn show_half(h: u32, table: &[u32; 90]) {
     lines::inner::number(h as u64);
     show(panel::reading(table, 0, 24));
     show(panel::reading(table, 0, 23));
@@ -110,7 +110,7 @@ fn show_half(h: u32, table: &[u32; 89]) {
 fn sweep(k: u64) {
     lines::inner::number(k);
     lines::inner::text(b" sweep\n");
-    let mut table = [0u32; 89];
+    let mut table = [0u32; 90];
     table[0] = 1;
     table[1] = 7;
     table[2] = 0x0184_0000;
@@ -118,9 +118,9 @@ fn sweep(k: u64) {
     table[11] = 1;
     let mut h: u32 = 0;
     while h < 0x1_0000 {
-        table[26] = h;
-        table[27] = h + h * 40503 % 0x1_0000 * 0x1_0000;
-        table[34] = h;
+        table[27] = h;
+        table[28] = h + h * 40503 % 0x1_0000 * 0x1_0000;
+        table[35] = h;
         show_half(h, &table);
         h += 1;
     }

@@ -15,7 +15,7 @@ use Rattle.fields.proofs.PlaceLaws.{rest-whole, first-word}
 use Rattle.packet.specs.declared.Packet.{Packet}
 use Rattle.packet.specs.Header.{typeOf, sizeOf}
 use Rattle.packet.specs.Parts.{partsOf, packetOf}
-use Rattle.packet.specs.Read.{readList, readOf, readBy}
+use Rattle.packet.specs.Read.{listBy, readBy}
 use Rattle.packet.proofs.ReadLaws.{size-some, size-said, read-number}
 use Rattle.table.specs.Well.{wellMade}
 use Rattle.play.specs.declared.Heard.{Heard}
@@ -24,7 +24,7 @@ use Rattle.play.specs.declared.Played.the-variants as Played
 use Rattle.play.specs.declared.run.Entry.{Entry}
 use Rattle.play.specs.declared.streams.Sought.{Sought}
 use Rattle.play.specs.declared.streams.Sought.the-variants.{Unknown}
-use Rattle.play.specs.Play.{tableList, heardOf, tableAfter, stepOf, playOf, playedPaper}
+use Rattle.play.specs.Play.{tableList, heardOf, tableAfter, chosen, stepOf, playOf, playedPaper}
 use Rattle.play.specs.inner.Steps.{soughtOf, madeOf, soughtPaper}
 use Rattle.play.specs.Run.{goesOn, saidAt, leftAt, nextOf, Stepped, entryOf, entryAt, wordsOfEntry}
 use Rattle.play.specs.inner.Entered.{Headed, soughtIn, HeardAs, Entered, saidBy}
@@ -33,9 +33,9 @@ use Rattle.play.proofs.PlayLaws.{made-well, step-read, play-step}
 
 -- ---- a refusal of reading has a number
 
-read-some : (ws : List ℕ) (n : ℕ) → readOf ws ≡ refused n → 0 < n
+read-some : (survey : Bool) (ws : List ℕ) (n : ℕ) → readBy survey ws ≡ refused n → 0 < n
 unfolding readBy
-read-some ws n e = subst (Numbered (λ k. 0 < k)) e (number-among (λ k. 0 < k) (readList (getD ws 0 0) ws) _ (search needs) tt)
+read-some survey ws n e = subst (Numbered (λ k. 0 < k)) e (number-among (λ k. 0 < k) (listBy survey (getD ws 0 0) ws) _ (search needs) tt)
 
 -- ---- what is said of a packet of a size: a refusal has a number, and where a walk goes on the packet has a word
 
@@ -44,23 +44,26 @@ Whole (refused n) size = (0 < n) × (n ≡ STREAM → 0 < size)
 Whole (accepted h) size = (h .size ≡ size) × (0 < size)
 
 module _ (t ws : List ℕ) where
+  abbrev choice : Bool
+  choice = chosen t ws
+
   abbrev done : Packet → ℕ → Outcome (Done Heard (List ℕ))
   done p s = accepted (record { says = heardOf p s t; leaves = tableAfter p s ws t })
 
-  whole-sought : (p : Packet) → readOf ws ≡ accepted p → (o : Outcome ℕ) → soughtOf (p .parts .kind) (p .parts .identifier) t ≡ o
+  whole-sought : (p : Packet) → readBy choice ws ≡ accepted p → (o : Outcome ℕ) → soughtOf (p .parts .kind) (p .parts .identifier) t ≡ o
       → Whole (saidOf (onward o (done p))) (sizeOf (getD ws 0 0))
   unfolding heardOf
   whole-sought p e (refused n) f =
-      (omega (arith, sought-number (p .parts .kind) (p .parts .identifier) t n f), λ _. omega (arith, size-some false ws p e, size-said false ws p e))
-  whole-sought p e (accepted s) f = (size-said false ws p e, omega (arith, size-some false ws p e, size-said false ws p e))
+      (omega (arith, sought-number (p .parts .kind) (p .parts .identifier) t n f), λ _. omega (arith, size-some choice ws p e, size-said choice ws p e))
+  whole-sought p e (accepted s) f = (size-said choice ws p e, omega (arith, size-some choice ws p e, size-said choice ws p e))
 
-  whole-read : (o : Outcome Packet) → readOf ws ≡ o
+  whole-read : (o : Outcome Packet) → readBy choice ws ≡ o
       → Whole (saidOf (onward o (λ p. onward (soughtOf (p .parts .kind) (p .parts .identifier) t) (done p)))) (sizeOf (getD ws 0 0))
-  whole-read (refused n) e = (read-some ws n e, λ i. absurd (omega (arith, i, read-number false ws n e)))
+  whole-read (refused n) e = (read-some choice ws n e, λ i. absurd (read-number choice ws n e i))
   whole-read (accepted p) e = whole-sought p e (soughtOf (p .parts .kind) (p .parts .identifier) t) refl
 
   step-whole : Whole (saidOf (stepOf t ws)) (sizeOf (getD ws 0 0))
-  step-whole = rw step-read (whole-read (readOf ws) refl)
+  step-whole = rw step-read (whole-read (readBy choice ws) refl)
 
 said-whole : (t ws : List ℕ) (at : ℕ) → wellMade t ≡ true → Whole (saidAt t ws at) (sizeOf (getD ws at 0))
 unfolding saidAt
@@ -101,16 +104,17 @@ module _ (t ws : List ℕ) (w : wellMade t ≡ true) where
   unfolding entryAt saidAt leftAt entryOf
   entered-refused n size e i = record { entry = rw (play-step t ws w, e, i); table = rw (play-step t ws w, e) }
 
-  pub unread : (n : ℕ) → readOf ws ≡ refused n → Entered t ws 0 (record { number = n; size = 0; kind = 0; stream = 0; missing = 0 }) t
-  unread n e = entered-refused n 0 (rw (step-read, e)) (rw (ne-eqb n STREAM (λ i. omega (arith, read-number false ws n e))))
+  pub unread : (n : ℕ) → readBy (chosen t ws) ws ≡ refused n → Entered t ws 0 (record { number = n; size = 0; kind = 0; stream = 0; missing = 0 }) t
+  unread n e = entered-refused n 0 (rw (step-read, e)) (rw (ne-eqb n STREAM (read-number (chosen t ws) ws n e)))
 
   -- of a packet that a check refused
-  pub entered-unread : (answer : Check) (n m : ℕ) (r : Entry) → answer ≡ Check.Refused n → m ≡ numberOf (checked answer) → readOf ws ≡ refused n
+  pub entered-unread : (answer : Check) (n m : ℕ) (r : Entry) → answer ≡ Check.Refused n → m ≡ numberOf (checked answer)
+      → readBy (chosen t ws) ws ≡ refused n
       → r ≡ record { number = m; size = 0; kind = 0; stream = 0; missing = 0 } → Entered t ws 0 r t
   entered-unread answer n m r f u e i = let k : m ≡ n = cc in rw (i, k) (unread n e)
 
   -- of one that was read, with the header h: of no stream, and heard
-  module _ (h : ℕ) (p : Headed h ws) where
+  module _ (h : ℕ) (p : Headed h ws t) where
     pub entered-unsought : (sought : Sought) (n m size : ℕ) (r : Entry) → soughtPaper sought ≡ soughtIn h ws t → sought ≡ Unknown n
         → m ≡ numberOf (soughtPaper sought) → size ≡ sizeOf h → r ≡ record { number = m; size = size; kind = 0; stream = 0; missing = 0 } → Entered t ws 0 r t
     entered-unsought sought n m size r e f u z i =

@@ -11,7 +11,7 @@ use Rattle.words.proofs.PartLaws.{seen, lent-to, part-length}
 use Rattle.fields.specs.Layout.{contextOf}
 use Rattle.packet.specs.Header.{typeOf, countOf}
 use Rattle.packet.specs.Parts.{bodyAt, bodyLength, partsOf, packetOf}
-use Rattle.packet.specs.Read.{readList, readOf, readBy}
+use Rattle.packet.specs.Read.{listBy, readBy}
 use Rattle.packet.proofs.ReadLaws.{read-inside, body-inside, body-context}
 use Rattle.record.specs.Layout.{recordWords}
 use Rattle.record.specs.After.{recordAfter, addedBy}
@@ -21,7 +21,7 @@ use Rattle.table.specs.Layout.{streamsOf, base, recordAt, withRecord}
 use Rattle.table.specs.Identifiers.{streamOf}
 use Rattle.table.specs.Well.{wellMade}
 use Rattle.table.proofs.WellLaws.{well-whole, well-record, layout-has}
-use Rattle.play.specs.Play.{tableAfter, heardDone, tableList, streamList, stepOf, playOf}
+use Rattle.play.specs.Play.{tableAfter, heardDone, tableList, streamList, chosen, stepOf, playOf}
 use Rattle.play.specs.inner.Steps.{soughtOf, madeOf}
 use Rattle.play.specs.inner.Entered.{Headed, HeardAs}
 
@@ -56,13 +56,13 @@ module _ (at s : ℕ) (t : List ℕ) (e : at ≡ base s) where
 
 -- ---- the body of a Context packet, as it is lent
 
-module _ (w from to : ℕ) (ws : List ℕ) (p : Headed w ws) (f : from ≡ bodyAt w) (g : to ≡ bodyAt w + bodyLength w) where
+module _ (w from to : ℕ) (ws lent : List ℕ) (p : Headed w ws lent) (f : from ≡ bodyAt w) (g : to ≡ bodyAt w + bodyLength w) where
   pub body-starts : from ≤ to
   body-starts = omega (arith, f, g)
 
   pub body-ends : to ≤ length ws
   unfolding packetOf
-  body-ends = rw g (le-trans (body-inside false ws (packetOf w ws) (p .reads)) (read-inside false ws (packetOf w ws) (p .reads)))
+  body-ends = rw g (le-trans (body-inside (chosen lent ws) ws (packetOf w ws) (p .reads)) (read-inside (chosen lent ws) ws (packetOf w ws) (p .reads)))
 
   body-seen : take (to - from) (drop from ws) ≡ part (bodyAt w) (bodyLength w) ws
   body-seen = rw (f, g) (seen (bodyAt w) (bodyAt w + bodyLength w) (bodyLength w) ws refl)
@@ -70,7 +70,7 @@ module _ (w from to : ℕ) (ws : List ℕ) (p : Headed w ws) (f : from ≡ bodyA
   module _ (k : typeOf w ≡ 4) where
     pub body-good : contextOf (take (to - from) (drop from ws)) ≡ accepted tt
     unfolding packetOf partsOf
-    body-good = ap contextOf body-seen ∙ body-context false ws (packetOf w ws) (p .reads) k
+    body-good = ap contextOf body-seen ∙ body-context (chosen lent ws) ws (packetOf w ws) (p .reads) k
 
     -- the packet, heard by stream s
     pub heard-context : (at s : ℕ) (t : List ℕ) (count more : ℕ) (last : List ℕ) → at ≡ base s → count ≡ countOf w
@@ -85,10 +85,10 @@ module _ (w from to : ℕ) (ws : List ℕ) (p : Headed w ws) (f : from ≡ bodyA
 
 -- ---- a packet of a type other than 4, heard by stream s: its body does not matter
 
-pub heard-data : (w s more : ℕ) (ws t left : List ℕ) → Headed w ws → (typeOf w ≡ 4 → ⊥) → more ≡ addedBy (typeOf w) (countOf w) (recordAt s t)
+pub heard-data : (w s more : ℕ) (ws t left : List ℕ) → (typeOf w ≡ 4 → ⊥) → more ≡ addedBy (typeOf w) (countOf w) (recordAt s t)
     → left ≡ withRecord s (recordAfter (typeOf w) (countOf w) [] (recordAt s t)) t → HeardAs w s ws t more left
 unfolding packetOf partsOf tableAfter
-heard-data w s more ws t left p n m l = record {
+heard-data w s more ws t left n m l = record {
   adds = m;
   leaves = l ∙ ap (λ (r : List ℕ). withRecord s r t) (after-body (typeOf w) (countOf w) [] (part (bodyAt w) (bodyLength w) ws) (recordAt s t) n);
 }
@@ -96,11 +96,11 @@ heard-data w s more ws t left p n m l = record {
 -- ---- a packet on a table that is well made: it is read, its stream is looked for, and it is heard
 
 pub step-read : (t ws : List ℕ)
-    → stepOf t ws ≡ onward (readOf ws) (λ p. onward (soughtOf (p .parts .kind) (p .parts .identifier) t) (λ s. accepted (heardDone p s t ws)))
+    → stepOf t ws ≡ onward (readBy (chosen t ws) ws) (λ p. onward (soughtOf (p .parts .kind) (p .parts .identifier) t) (λ s. accepted (heardDone p s t ws)))
 unfolding stepOf readBy soughtOf
 step-read t ws =
     let p = packetOf (getD ws 0 0) ws in
-    let list = readList (getD ws 0 0) ws in
+    let list = listBy (chosen t ws) (getD ws 0 0) ws in
     let streams = streamList (p .parts .kind) (p .parts .identifier) t in
     sym (onward-first list p _ ∙ ap (firstGiven list) (onward-first streams (streamOf (p .parts .identifier) t) _))
 

@@ -246,6 +246,7 @@ kept-then {a} {b} {c} p q = record {
   whole = q .whole ∙ p .whole;
   streams = q .streams ∙ p .streams;
   list = λ u. q .list u ∙ p .list u;
+  choices = λ u. q .choices u ∙ p .choices u;
   past = ap (λ (n : ℕ). drop (base n) c) (sym (p .streams)) ∙ q .past ∙ ap (λ (n : ℕ). drop (base n) b) (p .streams) ∙ p .past;
 }
 

@@ -1,31 +1,34 @@
--- An accepted packet and its stream. The idea: reading accepts a packet of type 5 at most whose words are there (`headed-kind`, `headed-sized`); the types that
--- have an identifier are all but 0 and 2, so looking for it where there is one is looking by the type (`sought-in`).
-use Rattle.words.proofs.Kit.{_≡_, refl, sym, subst, _∙_, Bool, true, false, not, List, [], _∷_, ℕ, _+_, _≤_, _<_, arith, ne-eqb, ltb-false, le-leb}
-use Rattle.words.proofs.Kit.{lt-leb, eqb, leb, length, getD}
+-- A packet and its stream. The idea: a packet whose header and size are right is of type 5 at most, and its words are there (`sized-kind`, `sized-parts`); the
+-- types that have an identifier are all but 0 and 2, so looking for it where there is one is looking by the type (`sought-in`). Its choice is that of the
+-- stream that was found (`alike-found`, `alike-none`): of type 1 it is the same test, and of other types reading does not ask.
+use Rattle.words.proofs.Kit.{_≡_, refl, sym, ap, subst, _∙_, Bool, true, false, not, ⊎-elim, List, [], _∷_, ℕ, _+_, _^_, _≤_, _<_, arith, ne-eqb}
+use Rattle.words.proofs.Kit.{ltb-false, le-leb, lt-leb, eqb, leb, length, getD}
 use borrow.Author.Tests.{leb-false}
 use Rattle.words.specs.Numbers.{STREAM}
 use Rattle.words.specs.Tests.{pick, among, either}
 use Rattle.words.specs.All.{all}
 use Rattle.words.specs.Outcome.{Outcome, refused, accepted}
-use Rattle.words.proofs.Cases.{accepted-same, true-is-false}
+use Rattle.words.proofs.Cases.{le-or-lt, same-or-not, accepted-same, true-is-false}
 use Rattle.words.proofs.RefusalLaws.{Numbered, first-passed, either-passed, number-among}
 use Rattle.words.proofs.AllLaws.{all-at}
 use Rattle.packet.specs.Header.{typeOf, sizeOf}
-use Rattle.packet.specs.Parts.{streamed, wordIf, requiredOf, bodyOf, partsOf, packetOf}
-use Rattle.packet.specs.Read.{headerList}
-use Rattle.packet.specs.inner.Steps.{headerChecks, bodyChecks, frontChecks}
-use Rattle.packet.proofs.ReadLaws.{sized, Passed, read-accepts}
-use Rattle.packet.proofs.FrontLaws.{body-accepted}
+use Rattle.packet.specs.Parts.{streamed, wordIf, requiredOf, partsOf, packetOf}
+use Rattle.packet.specs.Read.{sizedList}
+use Rattle.packet.specs.inner.Steps.{sizedChecks, restChecks}
+use Rattle.packet.proofs.ReadLaws.{sized, read-accepts}
+use Rattle.packet.proofs.FrontLaws.{sized-fits, rest-other}
 use Rattle.table.specs.Layout.{streamsOf, base}
-use Rattle.table.specs.Identifiers.{declared, streamOf}
+use Rattle.table.specs.Identifiers.{declared, streamOf, surveyed}
 use Rattle.table.specs.Well.{wellMade}
+use Rattle.table.proofs.RecordLaws.{record-choice}
 use Rattle.table.proofs.ListLaws.{none-more, stream-found, stream-none}
 use Rattle.table.proofs.WellLaws.{well-whole, well-few, well-of}
+use Rattle.table.proofs.StreamLaws.{surveyed-at, surveyed-other}
 use Rattle.play.specs.declared.streams.Sought.{Sought}
 use Rattle.play.specs.declared.streams.Sought.the-variants.{At}
-use Rattle.play.specs.Play.{streamList}
+use Rattle.play.specs.Play.{streamList, chosen}
 use Rattle.play.specs.inner.Steps.{soughtOf, soughtPaper}
-use Rattle.play.specs.inner.Entered.{declaredOf, Headed, soughtIn}
+use Rattle.play.specs.inner.Entered.{declaredOf, Sized, Headed, soughtIn, chosenAt}
 
 -- ---- the stream of an identifier
 
@@ -35,8 +38,19 @@ pub record Seeking (t : List ℕ) (identifier n s : ℕ) : Type 0 where
   pub streams : n ≡ streamsOf t
   pub others : (i : ℕ) → i < s → eqb (declared t i) identifier ≡ false
 
+-- a table that is well made has a word, the number of its streams
+module _ (t : List ℕ) (w : wellMade t ≡ true) where
+  pub table-there : 0 < length t
+  table-there = omega (arith, well-whole t w)
+
+  pub table-few : getD t 0 0 < 2 ^ 64
+  table-few = omega (arith, well-few t w)
+
 pub seeking-start : (t : List ℕ) (identifier n : ℕ) → wellMade t ≡ true → n ≡ streamsOf t → Seeking t identifier n 0
 seeking-start t identifier n w e = record { below = omega (arith, well-of t w .list .some); streams = e; others = λ i h. absurd (omega arith) }
+
+pub seeking-small : (t : List ℕ) (identifier n s : ℕ) → Seeking t identifier n s → wellMade t ≡ true → s < 2 ^ 32
+seeking-small t identifier n s p w = omega (arith, p .below, p .streams, well-few t w)
 
 module _ (t : List ℕ) (identifier n s at : ℕ) (p : Seeking t identifier n s) (e : at ≡ base s) where
   pub seeking-inside : wellMade t ≡ true → at < length t
@@ -110,48 +124,109 @@ sought-data kind identifier t s h n e =
     let a = first-passed (streamList kind identifier t) _ s e .0 .0 in
     rw (ne-eqb kind 4 n, either-passed (among kind otherKinds) (leb (streamsOf t) (streamOf identifier t)) a .0) at (all-at dataLike 6 kind h refl)
 
--- ---- an accepted packet, whose header is w
+-- ---- a packet whose header w and size are right
 
--- words that pass both steps
-pub body-headed : (ws : List ℕ) → frontChecks false ws ≡ accepted tt → bodyChecks (typeOf (getD ws 0 0)) (bodyOf (getD ws 0 0) ws) ≡ accepted tt
-    → Headed (getD ws 0 0) ws
-body-headed ws f b = record { header = refl; reads = body-accepted false ws f b }
-
-module _ (w : ℕ) (ws : List ℕ) (p : Headed w ws) where
-  headed-passed : Passed false w ws
-  headed-passed = rw (p .header) (read-accepts false ws (packetOf w ws) (p .reads) .passes)
-
+module _ (w : ℕ) (ws : List ℕ) (p : Sized w ws) where
   -- its words are there
-  pub headed-sized : requiredOf w ≤ sizeOf w
-  headed-sized = sized w (length ws) (headed-passed .size) .0
+  pub sized-parts : requiredOf w ≤ sizeOf w
+  sized-parts = rw (p .header) (sized-fits ws (p .passes) .0)
 
-  pub headed-whole : sizeOf w ≤ length ws
-  headed-whole = sized w (length ws) (headed-passed .size) .1
+  pub sized-whole : sizeOf w ≤ length ws
+  sized-whole = rw (p .header) (sized-fits ws (p .passes) .1)
 
-  headed-kind : typeOf w < 6
-  unfolding headerChecks
-  headed-kind =
-      let k = ltb-false 5 (typeOf w) (first-passed (headerList w) _ tt (headed-passed .header) .0 .0) in
-      omega arith
+  sized-kind : typeOf w < 6
+  unfolding sizedChecks
+  sized-kind =
+      let k = ltb-false 5 (typeOf (getD ws 0 0)) (first-passed (sizedList (getD ws 0 0) ws) _ tt (p .passes) .0 .1 .0) in
+      rw (p .header) (omega arith)
 
   module _ (t : List ℕ) where
     -- its stream, as a program looks for it
     pub sought-in : (flag : Bool) (identifier : ℕ) (o : Outcome ℕ) → flag ≡ streamed w → identifier ≡ wordIf (streamed w) 1 ws
         → o ≡ pick flag (declaredOf identifier t) (refused STREAM) → o ≡ soughtIn w ws t
     unfolding streamed packetOf partsOf
-    sought-in flag identifier o f i e = e ∙ rw (f, i) (sought-streamed (typeOf w) (wordIf (streamed w) 1 ws) t headed-kind)
+    sought-in flag identifier o f i e = e ∙ rw (f, i) (sought-streamed (typeOf w) (wordIf (streamed w) 1 ws) t sized-kind)
 
     -- what `seek` found: stream s
-    module _ (sought : Sought) (s : ℕ) (e : soughtPaper sought ≡ soughtIn w ws t) (f : sought ≡ At s) where
-      pub found : soughtIn w ws t ≡ accepted s
-      found = cc
+    module _ (sought : Sought) (e : soughtPaper sought ≡ soughtIn w ws t) where
+      module _ (s : ℕ) (f : sought ≡ At s) where
+        pub found : soughtIn w ws t ≡ accepted s
+        found = cc
 
-      pub found-below : s < streamsOf t
-      found-below = sought-below (packetOf w ws .parts .kind) (packetOf w ws .parts .identifier) t s found
+        pub found-below : s < streamsOf t
+        found-below = sought-below (packetOf w ws .parts .kind) (packetOf w ws .parts .identifier) t s found
 
-      pub found-few : wellMade t ≡ true → s < 32
-      found-few v = omega (arith, found-below, well-few t v)
+        pub found-few : wellMade t ≡ true → s < 32
+        found-few v = omega (arith, found-below, well-few t v)
 
-      pub found-data : (typeOf w ≡ 4 → ⊥) → among (typeOf w) (1 ∷ 3 ∷ 5 ∷ []) ≡ true
+        pub found-data : (typeOf w ≡ 4 → ⊥) → among (typeOf w) (1 ∷ 3 ∷ 5 ∷ []) ≡ true
+        unfolding packetOf partsOf
+        found-data n = sought-data (typeOf w) (packetOf w ws .parts .identifier) t s sized-kind n found
+
+    -- of a stream that is known to be the packet's
+    module _ (s : ℕ) (f : soughtIn w ws t ≡ accepted s) where
+      pub known-below : s < streamsOf t
+      known-below = sought-below (packetOf w ws .parts .kind) (packetOf w ws .parts .identifier) t s f
+
+      pub known-few : wellMade t ≡ true → s < 32
+      known-few v = omega (arith, known-below, well-few t v)
+
+      pub known-data : (typeOf w ≡ 4 → ⊥) → among (typeOf w) (1 ∷ 3 ∷ 5 ∷ []) ≡ true
       unfolding packetOf partsOf
-      found-data n = sought-data (typeOf w) (packetOf w ws .parts .identifier) t s headed-kind n found
+      known-data n = sought-data (typeOf w) (packetOf w ws .parts .identifier) t s sized-kind n f
+
+-- ---- the choice that a packet is read by
+
+-- of type 1 it is that of the stream that was found, and plain where none was
+choice-found : (identifier : ℕ) (t : List ℕ) (s : ℕ) → soughtOf 1 identifier t ≡ accepted s → chosenAt s t ≡ surveyed identifier t
+unfolding soughtOf
+choice-found identifier t s e =
+    let a = first-passed (streamList 1 identifier t) _ s e in
+    let below = leb-false (streamsOf t) (streamOf identifier t) (a .0 .0) in
+    rw (← accepted-same (a .1)) (sym (surveyed-at identifier t (streamOf identifier t) refl below))
+
+choice-none : (identifier : ℕ) (t : List ℕ) (n : ℕ) → soughtOf 1 identifier t ≡ refused n → false ≡ surveyed identifier t
+unfolding soughtOf
+choice-none identifier t n e =
+    ⊎-elim (λ (h : streamsOf t ≤ streamOf identifier t). sym (surveyed-other identifier t h))
+    (λ (h : streamOf identifier t < streamsOf t). absurd (unlike (rw (lt-leb (streamsOf t) (streamOf identifier t) h) at e)))
+    (le-or-lt (streamsOf t) (streamOf identifier t))
+  where
+    unlike : {m k : ℕ} → accepted m ≡ refused k → ⊥
+    unlike e = let z : _≡_ {A = ℕ} 0 1 = cc in omega arith
+
+-- so a packet is read alike by that and by the list's choice: types other than 1 are plain by either
+read-alike : (survey : Bool) (w : ℕ) (ws t : List ℕ) → w ≡ getD ws 0 0 → (typeOf w ≡ 1 → survey ≡ chosen t ws)
+    → restChecks survey w ws ≡ restChecks (chosen t ws) w ws
+read-alike survey w ws t h same =
+    ⊎-elim (λ one. ap (λ (b : Bool). restChecks b w ws) (same one))
+    (λ other. rest-other w ws survey other ∙ sym (rest-other w ws (chosen t ws) other))
+    (same-or-not (typeOf w) 1)
+
+module _ (w : ℕ) (ws t : List ℕ) (h : w ≡ getD ws 0 0) where
+  pub alike-found : (s : ℕ) → soughtIn w ws t ≡ accepted s → restChecks (chosenAt s t) w ws ≡ restChecks (chosen t ws) w ws
+  unfolding packetOf partsOf
+  alike-found s e = read-alike (chosenAt s t) w ws t h (λ one. choice-found _ t s (rw one at e) ∙ rw (← h))
+
+  pub alike-none : (n : ℕ) → soughtIn w ws t ≡ refused n → restChecks false w ws ≡ restChecks (chosen t ws) w ws
+  unfolding packetOf partsOf
+  alike-none n e = read-alike false w ws t h (λ one. choice-none _ t n (rw one at e) ∙ rw (← h))
+
+-- where a program finds the choice of stream s, whose record begins at a place
+module _ (t : List ℕ) (s at : ℕ) (w : wellMade t ≡ true) (below : s < streamsOf t) where
+  pub chosen-small : s < 2 ^ 32
+  chosen-small = omega (arith, below, well-few t w)
+
+  module _ (e : at ≡ base s) where
+    pub chosen-inside : at + 14 < length t
+    chosen-inside = omega (arith, below, well-whole t w)
+
+    pub chosen-read : eqb (getD t (at + 14) 0) 1 ≡ chosenAt s t
+    chosen-read = rw e (ap (λ (n : ℕ). eqb n 1) (sym (record-choice s t)))
+
+-- ---- an accepted packet
+
+module _ (w : ℕ) (ws t : List ℕ) (p : Headed w ws t) where
+  -- its words are there
+  pub headed-parts : requiredOf w ≤ sizeOf w
+  headed-parts = sized w (length ws) (rw (p .header) (read-accepts (chosen t ws) ws (packetOf w ws) (p .reads) .passes .size)) .0

@@ -1,5 +1,6 @@
--- Document 01: "Play: TABLE, read order, STREAM". "Play answers size, type, stream number (place in the list, from 0) and missing added."
-use Rattle.words.specs.Kit.{ℕ, not, List, [], _∷_, _++_, leb, getD}
+-- Document 01: "Play: TABLE, read order, STREAM". "Play answers size, type, stream number (place in the list, from 0) and missing added." Document 02, C-13:
+-- each packet is read by its stream's choice; "packets of no declared stream .. stay plain".
+use Rattle.words.specs.Kit.{ℕ, Bool, not, List, [], _∷_, _++_, leb, getD}
 use Rattle.words.specs.Numbers.{STREAM, TABLE}
 use Rattle.words.specs.Tests.{among, either}
 use Rattle.words.specs.Part.{part}
@@ -7,10 +8,10 @@ use Rattle.words.specs.Outcome.{Outcome, refused, accepted, Done}
 use Rattle.words.specs.Refusals.{Refusals, firstGiven}
 use Rattle.packet.specs.declared.Packet.{Packet}
 use Rattle.packet.specs.Parts.{packetOf}
-use Rattle.packet.specs.Read.{readList}
+use Rattle.packet.specs.Read.{listBy}
 use Rattle.record.specs.After.{recordAfter, addedBy}
 use Rattle.table.specs.Layout.{streamsOf, recordAt, withRecord}
-use Rattle.table.specs.Identifiers.{streamOf}
+use Rattle.table.specs.Identifiers.{streamOf, surveyed}
 use Rattle.table.specs.Well.{wellMade}
 use Rattle.play.specs.declared.Heard.{Heard}
 use Rattle.play.specs.declared.Played.{Played}
@@ -38,9 +39,15 @@ tableList t = (TABLE, not (wellMade t)) ∷ []
 abbrev pub streamList : ℕ → ℕ → List ℕ → Refusals
 streamList kind identifier t = (STREAM, either (among kind (0 ∷ 2 ∷ [])) (leb (streamsOf t) (streamOf identifier t))) ∷ []
 
+-- the choice that the packet at the front of the words is read by: that of its stream
+abbrev pub chosen : List ℕ → List ℕ → Bool
+chosen t ws = surveyed (packetOf (getD ws 0 0) ws .parts .identifier) t
+
 -- those of a packet on a table that is known to be well made
 abbrev pub stepList : List ℕ → List ℕ → Refusals
-stepList t ws = let p = packetOf (getD ws 0 0) ws in readList (getD ws 0 0) ws ++ streamList (p .parts .kind) (p .parts .identifier) t
+stepList t ws =
+    let p = packetOf (getD ws 0 0) ws in
+    listBy (chosen t ws) (getD ws 0 0) ws ++ streamList (p .parts .kind) (p .parts .identifier) t
 
 abbrev pub playList : List ℕ → List ℕ → Refusals
 playList t ws = tableList t ++ stepList t ws

@@ -1,10 +1,11 @@
-// The entry of one packet, from its words: what play says of the packet, as plain numbers. The front of a packet is checked first, and a body only of type
+// The entry of one packet, from its words: what play says of the packet, as plain numbers. The header and the size are checked first, and a body only of type
 // 4, so that a data packet pays for no body. Data and Context packets have a function each, so that the compiler puts both in line where a run calls `enter`.
 ghost use Rattle.words.specs.Kit.{_≡_, true, _<_};
+ghost use Rattle.words.specs.Outcome.{accepted};
 ghost use Rattle.packet.specs.Header.{typeOf, sizeOf};
 ghost use Rattle.table.specs.Well.{wellMade};
 ghost use Rattle.play.specs.Play.{playedPaper};
-ghost use Rattle.play.specs.inner.Entered.{Headed, Entered, saidBy};
+ghost use Rattle.play.specs.inner.Entered.{Sized, soughtIn, chosenAt, Entered, saidBy};
 use crate::run::Entry;
 
 // The entry of a refusal: its number, and the words that the walk goes on by.
@@ -34,27 +35,61 @@ fn entry_heard(w: u32, s: usize, missing: u32) -> Entry
     }
 }
 
-// The entry of an accepted packet of a type other than 4.
-fn enter_data(table: &mut [u32], given: &[u32], w: u32) -> Entry
-    requires { ⌜ (wellMade (now table) ≡ true) × Headed w (now given) × (typeOf w ≡ 4 → ⊥) ⌝ }
+// The entry of a packet of stream s, of a type other than 4, whose header and size are right, where 49A is chosen for the stream.
+fn enter_survey(table: &mut [u32], given: &[u32], w: u32, s: usize) -> Entry
+    requires { ⌜ (wellMade (now table) ≡ true) × Sized w (now given) × (typeOf w ≡ 4 → ⊥) ⌝ }
+    requires { ⌜ (soughtIn w (now given) (now table) ≡ accepted s) × (chosenAt s (now table) ≡ true) ⌝ }
     ensures { λ r. ⌜ Entered (now (table .entry)) (now (given .entry)) 0 r (now (table .exit)) ⌝ }
 {
-    let sought = crate::streams::seek(table, given, w);
-    let crate::streams::Sought::At(s) = sought else {
-        return entry_refused(
-            crate::streams::number_of_sought(sought),
-            packet::inner::size_of(w),
-        );
+    let rest = packet::inner::check_survey(w, given);
+    let words::Check::Fine = rest else {
+        return entry_refused(crate::streams::number_of_check(rest), 0);
     };
     let missing = crate::streams::hear_data(table, s, w);
     entry_heard(w, s, missing)
 }
 
-// The entry of an accepted Context packet.
-fn enter_context(table: &mut [u32], given: &[u32], w: u32) -> Entry
-    requires { ⌜ (wellMade (now table) ≡ true) × Headed w (now given) × (typeOf w ≡ 4) ⌝ }
+// The entry of a packet of a type other than 4 whose header and size are right. Its stream is sought first, since its class is read by the stream's choice; a
+// packet of no stream is plain, and else STREAM. A plain packet's checks are asked here, so that the compiler puts them in line.
+fn enter_data(table: &mut [u32], given: &[u32], w: u32) -> Entry
+    requires { ⌜ (wellMade (now table) ≡ true) × Sized w (now given) × (typeOf w ≡ 4 → ⊥) ⌝ }
     ensures { λ r. ⌜ Entered (now (table .entry)) (now (given .entry)) 0 r (now (table .exit)) ⌝ }
 {
+    let sought = crate::streams::seek(table, given, w);
+    let crate::streams::Sought::At(s) = sought else {
+        let prologue = packet::inner::check_prologue(false, w, given);
+        let words::Check::Fine = prologue else {
+            return entry_refused(crate::streams::number_of_check(prologue), 0);
+        };
+        return entry_refused(
+            crate::streams::number_of_sought(sought),
+            packet::inner::size_of(w),
+        );
+    };
+    if crate::streams::is_survey(table, s) {
+        return enter_survey(table, given, w, s);
+    }
+    let prologue = packet::inner::check_prologue(false, w, given);
+    let words::Check::Fine = prologue else {
+        return entry_refused(crate::streams::number_of_check(prologue), 0);
+    };
+    let missing = crate::streams::hear_data(table, s, w);
+    entry_heard(w, s, missing)
+}
+
+// The entry of a Context packet whose header and size are right.
+fn enter_context(table: &mut [u32], given: &[u32], w: u32) -> Entry
+    requires { ⌜ (wellMade (now table) ≡ true) × Sized w (now given) × (typeOf w ≡ 4) ⌝ }
+    ensures { λ r. ⌜ Entered (now (table .entry)) (now (given .entry)) 0 r (now (table .exit)) ⌝ }
+{
+    let prologue = packet::inner::check_prologue(false, w, given);
+    let words::Check::Fine = prologue else {
+        return entry_refused(crate::streams::number_of_check(prologue), 0);
+    };
+    let body = packet::inner::check_body(w, given);
+    let words::Check::Fine = body else {
+        return entry_refused(crate::streams::number_of_check(body), 0);
+    };
     let sought = crate::streams::seek(table, given, w);
     let crate::streams::Sought::At(s) = sought else {
         return entry_refused(
@@ -71,18 +106,14 @@ pub fn enter(table: &mut [u32], given: &[u32]) -> Entry
     requires { ⌜ wellMade (now table) ≡ true ⌝ }
     ensures { λ r. ⌜ Entered (now (table .entry)) (now (given .entry)) 0 r (now (table .exit)) ⌝ }
 {
-    let front = packet::inner::check_front(false, given);
-    let words::Check::Fine = front else {
-        return entry_refused(crate::streams::number_of_check(front), 0);
+    let sized = packet::inner::check_sized(given);
+    let words::Check::Fine = sized else {
+        return entry_refused(crate::streams::number_of_check(sized), 0);
     };
     let w = given[0];
     if packet::inner::type_of(w) != 4 {
         return enter_data(table, given, w);
     }
-    let body = packet::inner::check_context(w, given);
-    let words::Check::Fine = body else {
-        return entry_refused(crate::streams::number_of_check(body), 0);
-    };
     enter_context(table, given, w)
 }
 

@@ -8,7 +8,7 @@ ghost use Rattle.record.specs.After.{recordAfter, addedBy};
 ghost use Rattle.table.specs.Layout.{streamsOf, recordAt, withRecord};
 ghost use Rattle.table.specs.Well.{wellMade};
 ghost use Rattle.play.specs.inner.Steps.{madeOf, soughtPaper};
-ghost use Rattle.play.specs.inner.Entered.{declaredOf, Headed, soughtIn, HeardAs};
+ghost use Rattle.play.specs.inner.Entered.{declaredOf, Sized, Headed, soughtIn, chosenAt, HeardAs};
 
 // The stream of a packet: its number, or the number of the refusal.
 pub enum Sought {
@@ -51,7 +51,7 @@ fn seek_stream(table: &[u32], identifier: u32) -> Sought
     requires { ⌜ wellMade (now table) ≡ true ⌝ }
     ensures { λ r. ⌜ soughtPaper r ≡ declaredOf identifier (now (table .entry)) ⌝ }
 {
-    let n = table::inner::streams(table);
+    let n = table[0] as usize;
     let mut s = 0;
     loop {
         if table[table::inner::record_at(s)] == identifier {
@@ -75,13 +75,21 @@ fn seek_streamed(table: &[u32], streamed: bool, identifier: u32) -> Sought
     Sought::Unknown(words::STREAM)
 }
 
-// The stream of an accepted packet; STREAM where the table has none for it.
+// The stream of a packet whose header and size are right; STREAM where the table has none for it.
 pub fn seek(table: &[u32], given: &[u32], w: u32) -> Sought
-    requires { ⌜ (wellMade (now table) ≡ true) × Headed w (now given) ⌝ }
+    requires { ⌜ (wellMade (now table) ≡ true) × Sized w (now given) ⌝ }
     ensures { λ r. ⌜ soughtPaper r ≡ soughtIn w (now (given .entry)) (now (table .entry)) ⌝ }
 {
     let identifier = packet::inner::identifier_of(w, given);
     seek_streamed(table, packet::inner::has_stream(w), identifier)
+}
+
+// Whether 49A is chosen for stream s.
+pub fn is_survey(table: &[u32], s: usize) -> bool
+    requires { ⌜ (wellMade (now table) ≡ true) × (s < streamsOf (now table)) ⌝ }
+    ensures { λ r. ⌜ r ≡ chosenAt s (now (table .entry)) ⌝ }
+{
+    table[table::inner::record_at(s) + record::inner::CHOICE_AT] == 1
 }
 
 // Takes an accepted packet of a type other than 4 into the record of its stream. Gives the missing that it adds.
@@ -98,7 +106,7 @@ pub fn hear_data(table: &mut [u32], s: usize, w: u32) -> u32
 
 // Takes an accepted Context packet into the record of its stream. Gives the missing that it adds.
 pub fn hear_context(table: &mut [u32], s: usize, given: &[u32], w: u32) -> u32
-    requires { ⌜ (wellMade (now table) ≡ true) × (s < streamsOf (now table)) × Headed w (now given) × (typeOf w ≡ 4) ⌝ }
+    requires { ⌜ (wellMade (now table) ≡ true) × (s < streamsOf (now table)) × Headed w (now given) (now table) × (typeOf w ≡ 4) ⌝ }
     ensures { λ r. ⌜ HeardAs w s (now (given .entry)) (now (table .entry)) r (now (table .exit)) ⌝ }
 {
     let count = packet::inner::count_of(w);

@@ -1,5 +1,5 @@
 // Plays the recordings of standard input with `table::start` and `play::play`, and writes what they answer and the table that they leave.
-// A recording is the room of the table, S and S identifiers, D and D stores (place, word) after the start, P, and P packets (n, and n words).
+// A recording is the room of the table, S and S identifiers, C and C choices, D and D stores (place, word) after the start, P, and P packets (n, and n words).
 use play::Played;
 use words::Length;
 
@@ -115,22 +115,38 @@ fn pass_over(n: u32, table: &[u32]) {
     skip_packets(lines::inner::word());
 }
 
-// Starts a table for the next identifiers of the input, and plays the recording.
-fn recording(table: &mut [u32], ids: &mut [u32], ws: &mut [u32]) {
-    let n = lines::inner::word() as usize;
-    if ids.len() < n {
-        return;
-    }
-    lines::inner::fill(&mut ids[0..n]);
+// Starts a table for a list, and plays the recording.
+fn recording(ids: &[u32], choices: &[u32], table: &mut [u32], ws: &mut [u32]) {
     lines::inner::pattern(table);
-    match table::start(&ids[0..n], table) {
+    match table::start(ids, choices, table) {
         Length::Accepted(length) => play_recording(length, table, ws),
         Length::Refused(number) => pass_over(number, table),
     }
 }
 
+// Reads the next list of the input, S identifiers and C choices, and plays its recording.
+fn listed(table: &mut [u32], ids: &mut [u32], choices: &mut [u32], ws: &mut [u32]) {
+    let n = lines::inner::word() as usize;
+    if ids.len() < n {
+        return;
+    }
+    lines::inner::fill(&mut ids[0..n]);
+    let m = lines::inner::word() as usize;
+    if choices.len() < m {
+        return;
+    }
+    lines::inner::fill(&mut choices[0..m]);
+    recording(&ids[0..n], &choices[0..m], table, ws);
+}
+
 // Plays recording k; whether there was one.
-fn one_case(k: u64, table: &mut [u32], ids: &mut [u32], ws: &mut [u32]) -> bool {
+fn one_case(
+    k: u64,
+    table: &mut [u32],
+    ids: &mut [u32],
+    choices: &mut [u32],
+    ws: &mut [u32],
+) -> bool {
     let next = lines::inner::next_word();
     let lines::inner::Input::Word(w) = next else {
         return false;
@@ -140,7 +156,7 @@ fn one_case(k: u64, table: &mut [u32], ids: &mut [u32], ws: &mut [u32]) -> bool 
         return false;
     }
     lines::inner::number(k);
-    recording(&mut table[0..room], ids, ws);
+    listed(&mut table[0..room], ids, choices, ws);
     true
 }
 
@@ -148,13 +164,15 @@ fn one_case(k: u64, table: &mut [u32], ids: &mut [u32], ws: &mut [u32]) -> bool 
 fn main() {
     let mut table_space = [0u32; 2900];
     let mut id_space = [0u32; 64];
+    let mut choice_space = [0u32; 64];
     let mut word_space = [0u32; 4096];
     let table: &mut [u32] = &mut table_space;
     let ids: &mut [u32] = &mut id_space;
+    let choices: &mut [u32] = &mut choice_space;
     let ws: &mut [u32] = &mut word_space;
     let mut k: u64 = 0;
     while k < 0xFFFF_FFFF {
-        if one_case(k, table, ids, ws) {
+        if one_case(k, table, ids, choices, ws) {
             k += 1;
         } else {
             return;

@@ -1,6 +1,8 @@
-// Reads the cases of standard input with `packet::read` and writes what it answers. A case is a word n and then n words.
+// Reads the cases of standard input with `packet::read` and `packet::read_survey` and writes what they answer. A case is 0 to read plainly or 1 to read a
+// survey packet, a word n, and then n words.
 use packet::Packet;
 use packet::Parsed;
+use packet::ParsedSurvey;
 ghost use Rattle.words.specs.Kit.{_+_, _≤_, length};
 
 // The line of a field of a type 4 body, where the body has it.
@@ -25,11 +27,10 @@ fn show_fields(body: &[u32]) {
     }
 }
 
-// The lines of an accepted packet.
-fn show_packet(p: Packet, ws: &[u32])
+// The lines of an accepted packet's fields, where it is of type 4.
+fn show_context(p: Packet, ws: &[u32])
     requires { ⌜ p .place + p .length ≤ length (now ws) ⌝ }
 {
-    lines::inner::show_packet(p);
     let parts = p.parts;
     let body = p.place;
     let end = body + p.length;
@@ -38,32 +39,59 @@ fn show_packet(p: Packet, ws: &[u32])
     }
 }
 
-// The lines of case k.
-fn show(k: u64, ws: &[u32]) {
-    lines::inner::number(k);
+// The line of a refusal.
+fn show_refused(n: u32) {
+    lines::inner::named(b"refused", n as u64);
+    lines::inner::text(b"\n");
+}
+
+// The lines of words that are read plainly.
+fn show_plain(ws: &[u32]) {
     let answer = packet::read(ws);
     match answer {
-        Parsed::Accepted(p) => show_packet(p, ws),
-        Parsed::Refused(n) => {
-            lines::inner::named(b"refused", n as u64);
-            lines::inner::text(b"\n");
+        Parsed::Accepted(p) => {
+            lines::inner::show_packet(p);
+            show_context(p, ws);
         }
+        Parsed::Refused(n) => show_refused(n),
+    }
+}
+
+// The lines of words that are read as a survey packet.
+fn show_survey(ws: &[u32]) {
+    let answer = packet::read_survey(ws);
+    match answer {
+        ParsedSurvey::Accepted(s) => {
+            lines::inner::show_survey(s);
+            show_context(s.packet, ws);
+        }
+        ParsedSurvey::Refused(n) => show_refused(n),
+    }
+}
+
+// The lines of case k.
+fn show(k: u64, survey: bool, ws: &[u32]) {
+    lines::inner::number(k);
+    if survey {
+        show_survey(ws);
+    } else {
+        show_plain(ws);
     }
 }
 
 // Reads case k into the buffer and writes its lines; whether there was one.
 fn one_case(k: u64, buffer: &mut [u32]) -> bool {
     let next = lines::inner::next_word();
-    let lines::inner::Input::Word(w) = next else {
+    let lines::inner::Input::Word(choice) = next else {
         return false;
     };
-    let n = w as usize;
+    let n = lines::inner::word() as usize;
     if buffer.len() < n {
         return false;
     }
     let whole = lines::inner::fill(&mut buffer[0..n]);
     if whole {
-        show(k, &buffer[0..n]);
+        show(k, choice == 1, &buffer[0..n]);
     }
     whole
 }

@@ -15,14 +15,14 @@ use Rattle.words.proofs.Cases.{le-or-lt, same-or-not, true-or-false, both-left,
 use Rattle.words.proofs.BitLaws.{has-and, has-or, word-same}
 use Rattle.words.proofs.SetBitLaws.{above-agree}
 use Rattle.words.proofs.PartLaws.{seen, lent-to, part-length, part-word, set-put, put-length, part-put, part-put-before, part-put-after, part-set-before}
-use Rattle.words.proofs.PartLaws.{getD-put-before}
+use Rattle.words.proofs.PartLaws.{getD-part, getD-put-before}
 use Rattle.fields.specs.Sizes.{fieldSize, sizesOf}
 use Rattle.fields.specs.Layout.{indicatorOf, fieldOf, bodyWords, contextOf}
 use Rattle.fields.proofs.SizeLaws.{words-fixed}
 use Rattle.fields.proofs.BodyLaws.{context-fits, fromField, field-inside, field-length, place-fixed, field-fixed}
 use Rattle.record.specs.Held.{slotMask, slotted, slotBits, slotAt, heldMask, holds, inOrder}
 use Rattle.record.specs.State.{stateAfter}
-use Rattle.record.specs.Layout.{headWords, slotWords, recordWords, identifierOf, heldOf, countAt, countWords, slotIn, slotsOf, slotOf}
+use Rattle.record.specs.Layout.{headWords, slotWords, recordWords, identifierOf, heldOf, countAt, countWords, choiceOf, slotIn, slotsOf, slotOf}
 use Rattle.record.specs.Counts.{countedOf, countRecord}
 use Rattle.record.specs.After.{slotAfter, slotAfterBody, slotsAfter, heldAfter, holdRecord, refilled, Inside}
 use Rattle.record.proofs.SlotLaws.{in-order-same, in-order-length, in-order-at, in-order-parts, slots-small, slotted-low, slotted-high, slotted-all}
@@ -285,12 +285,18 @@ module _ (body r : List ℕ) (l : length r ≡ recordWords) (ok : contextOf body
   unfolding holdRecord
   hold-held = getD-set-same (put headWords slotWords new r) 1 _ 0 (omega (arith, put-whole))
 
-  -- the identifier and the counts are as they were
+  -- the identifier, the choice and the counts are as they were
   pub hold-identifier : identifierOf (holdRecord body r) ≡ identifierOf r
   unfolding holdRecord
   hold-identifier =
       getD-set-other (put headWords slotWords new r) 1 0 _ 0 (λ e. omega arith)
       ∙ getD-put-before headWords slotWords new r fits new-slots 0 (omega arith)
+
+  pub hold-choice : choiceOf (holdRecord body r) ≡ choiceOf r
+  unfolding holdRecord
+  hold-choice =
+      getD-set-other (put headWords slotWords new r) 1 14 _ 0 (λ e. omega arith)
+      ∙ getD-put-before headWords slotWords new r fits new-slots 14 (omega arith)
 
   pub hold-count : (k : ℕ) → k < 4 → countWords k (holdRecord body r) ≡ countWords k r
   unfolding holdRecord countWords
@@ -339,3 +345,9 @@ module _ (k count : ℕ) (r : List ℕ) (l : length r ≡ recordWords) (h : k < 
   pub count-identifier : identifierOf (countRecord k count r) ≡ identifierOf r
   unfolding countRecord
   count-identifier = getD-put-before (countAt k) 3 (countedOf count (countWords k r)) r within three 0 (omega arith)
+
+  pub count-choice : choiceOf (countRecord k count r) ≡ choiceOf r
+  unfolding countRecord
+  count-choice =
+      sym (getD-part 14 1 0 (put (countAt k) 3 (countedOf count (countWords k r)) r) (omega arith))
+      ∙ ap (λ (ws : List ℕ). getD ws 0 0) (part-put-after (countAt k) 3 _ r within three 14 1 (omega arith)) ∙ getD-part 14 1 0 r (omega arith)

@@ -12,7 +12,8 @@ use Rattle.words.specs.Word.{has}
 use Rattle.words.specs.Part.{part}
 use Rattle.words.specs.All.{all}
 use Rattle.words.specs.Outcome.{accepted}
-use Rattle.words.proofs.Cases.{true-or-false, same-or-not, both-left, both-right, both-true, both-yes, both-no, both-assoc, neither, pick-true, true-is-false}
+use Rattle.words.proofs.Cases.{le-or-lt, true-or-false, same-or-not, both-left, both-right, both-true, both-yes, both-no, both-assoc, neither, pick-true}
+use Rattle.words.proofs.Cases.{true-is-false}
 use Rattle.words.proofs.AllLaws.{all-none, all-more, all-end, all-fails, all-at, all-intro, all-same, all-both, all-only}
 use Rattle.words.proofs.PartLaws.{seen, getD-part, part-part, part-length, part-whole}
 use Rattle.fields.specs.Sizes.{fieldSize}
@@ -24,15 +25,18 @@ use Rattle.fields.specs.Layout.{indicatorOf, fieldOf, contextOf}
 use Rattle.fields.proofs.BodyLaws.{context-fits, field-rule}
 use Rattle.record.specs.Held.{slotted, slotAt, heldMask, holds}
 use Rattle.record.specs.State.{stateAfter, stateGood}
-use Rattle.record.specs.Layout.{headWords, slotWords, recordWords, heldOf, countAt, countWords, seenOf, missingOf, lastOf, slotIn, slotsOf, slotOf}
+use Rattle.record.specs.Layout.{headWords, slotWords, recordWords, heldOf, countAt, countWords, seenOf, missingOf, lastOf, choiceOf}
+use Rattle.record.specs.Layout.{slotIn, slotsOf, slotOf}
 use Rattle.record.specs.Counts.{countedOf, countRecord}
 use Rattle.record.specs.After.{slotAfter, heldAfter, holdRecord}
-use Rattle.record.specs.Good.{zeros, countGood, countGoodAt, heldGood, heldRule, slotGood, recordGood, GoodCount, Good}
+use Rattle.record.specs.Good.{zeros, countGood, countGoodAt, heldGood, heldRule, slotGood, choiceGood, recordGood, GoodCount, Good}
+use Rattle.record.specs.inner.Head.{headGood}
 use Rattle.record.proofs.SlotLaws.{slotted-not, slotted-low, slotted-high, slotted-all, held-small}
 use Rattle.record.proofs.StateLaws.{state-ruled, state-none, state-stays-good}
 use Rattle.record.proofs.CopyLaws.{size-slotted, size-eleven}
 use Rattle.record.proofs.HoldLaws.{slot-inside, within-bits, within-mask}
-use Rattle.record.proofs.AfterLaws.{hold-slot, hold-held, hold-count, held-bit, count-count, count-other, count-slot, count-held}
+use Rattle.record.proofs.AfterLaws.{hold-slot, hold-held, hold-choice, hold-count, held-bit, count-count, count-other, count-slot, count-held}
+use Rattle.record.proofs.AfterLaws.{count-choice}
 
 -- ---- the words of a count, where a program reads them
 
@@ -79,16 +83,39 @@ module _ (r : List ℕ) (k : ℕ) (p : Passing 4 (countGoodAt r) k) (h : k < 4) 
   pub counts-turn : not t ≡ false → Passing 4 (countGoodAt r) (k + 1)
   counts-turn o = passing-turn p h t count-tested o
 
+-- ---- a choice
+
+pub choice-made : (c : ℕ) → c ≤ 1 → choiceGood c ≡ true
+unfolding choiceGood
+choice-made c h =
+    ⊎-elim (λ (e : c ≡ 0). rw (eq-eqb c 0 e)) (λ (n : c ≡ 0 → ⊥). rw (ne-eqb c 0 n, eq-eqb c 1 (omega arith))) (same-or-not c 0)
+
+pub choice-over : (c : ℕ) → 1 < c → choiceGood c ≡ false
+unfolding choiceGood
+choice-over c h = rw (ne-eqb c 0 (λ e. omega arith), ne-eqb c 1 (λ e. omega arith))
+
+pub choice-most : (c : ℕ) → choiceGood c ≡ true → c ≤ 1
+choice-most c e = ⊎-elim (λ h. h) (λ (h : 1 < c). absurd (true-is-false (sym e ∙ choice-over c h))) (le-or-lt c 1)
+
+-- ---- the words before the slots, as a program tests them
+
+pub head-chosen : (r : List ℕ) → 1 < choiceOf r → false ≡ headGood r
+unfolding headGood
+head-chosen r h =
+    rw (choice-over (choiceOf r) h, both-no (all 4 (countGoodAt r))) (sym (both-no (heldGood (heldOf r) (lastOf (countWords 2 r)))))
+
 -- the held indicator, by the count of type 4
 module _ (r : List ℕ) (at : ℕ) (e : at ≡ countAt 2) (t : Bool) (h : t ≡ heldGood (heldOf r) (getD r (at + 2) 0)) where
   held-tested : t ≡ heldGood (heldOf r) (lastOf (countWords 2 r))
   held-tested = h ∙ rw (e, last-at r)
 
-  pub head-ill : not t ≡ true → false ≡ both (heldGood (heldOf r) (lastOf (countWords 2 r))) (all 4 (countGoodAt r))
+  pub head-ill : not t ≡ true → false ≡ headGood r
+  unfolding headGood
   head-ill o = rw (← held-tested, not-true t o)
 
-  pub head-counts : (s : Bool) → not t ≡ false → s ≡ all 4 (countGoodAt r) → s ≡ both (heldGood (heldOf r) (lastOf (countWords 2 r))) (all 4 (countGoodAt r))
-  head-counts s o f = rw (← held-tested, not-false t o) f
+  pub head-counts : (s : Bool) → not t ≡ false → choiceOf r ≤ 1 → s ≡ all 4 (countGoodAt r) → s ≡ headGood r
+  unfolding headGood
+  head-counts s o c f = rw (← held-tested, not-false t o, choice-made (choiceOf r) c) (f ∙ sym (both-yes (all 4 (countGoodAt r))))
 
 -- ---- the slot of a bit, as a program tests it: it stands from `at` on among the slots and has n words
 
@@ -283,10 +310,17 @@ facts-count seen missing last g =
     (same-or-not last 0)
 
 -- the words before the slots, and then the slots: as a program tests a record
-module _ (r : List ℕ) (head : Bool) (e : head ≡ both (heldGood (heldOf r) (lastOf (countWords 2 r))) (all 4 (countGoodAt r))) where
+pub head-slots : (r : List ℕ) → both (headGood r) (all 31 (slotGood r)) ≡ recordGood r
+unfolding recordGood headGood
+head-slots r =
+    let held : Bool = heldGood (heldOf r) (lastOf (countWords 2 r)) in
+    let counts : Bool = all 4 (countGoodAt r) in
+    let slots : Bool = all 31 (slotGood r) in
+    both-assoc held (both counts (choiceGood (choiceOf r))) slots ∙ ap (both held) (both-assoc counts (choiceGood (choiceOf r)) slots)
+
+module _ (r : List ℕ) (head : Bool) (e : head ≡ headGood r) where
   good-tests : both head (all 31 (slotGood r)) ≡ recordGood r
-  unfolding recordGood
-  good-tests = rw e (both-assoc (heldGood (heldOf r) (lastOf (countWords 2 r))) (all 4 (countGoodAt r)) (all 31 (slotGood r)))
+  good-tests = rw e (head-slots r)
 
   pub good-head-ill : head ≡ false → false ≡ recordGood r
   good-head-ill h = rw h at good-tests
@@ -300,18 +334,21 @@ unfolding recordGood heldGood slotGood countGoodAt holds
 good-of r l e =
     let held : Bool = heldGood (heldOf r) (lastOf (countWords 2 r)) in
     let counts : Bool = all 4 (countGoodAt r) in
+    let choice : Bool = choiceGood (choiceOf r) in
     let slots : Bool = all 31 (slotGood r) in
-    let a = both-left held (both counts slots) e in
-    let o = both-right held (both counts slots) e in
+    let a = both-left held (both counts (both choice slots)) e in
+    let o = both-right held (both counts (both choice slots)) e in
+    let q = both-right counts (both choice slots) o in
     let w : bitAnd (heldOf r) heldMask ≡ heldOf r = eqb-true _ _ (both-left (eqb (bitAnd (heldOf r) heldMask) (heldOf r)) _ a) in
     let s = both-right (eqb (bitAnd (heldOf r) heldMask) (heldOf r)) _ a in
     let slot : (b : ℕ) → slotted b ≡ true → pick (has (heldOf r) b) (heldRule b (slotOf b r)) (zeros (slotOf b r)) ≡ true =
-    λ b h. rw h at (all-at (slotGood r) 31 b (slotted-high b h) (both-right counts slots o)) in
+    λ b h. rw h at (all-at (slotGood r) 31 b (slotted-high b h) (both-right choice slots q)) in
     record {
       bits = within-bits heldMask (heldOf r) w;
       small = rw w at (lt-of-le-of-lt (and-le-r (heldOf r) heldMask) held-small);
       started = λ z. eqb-true (heldOf r) 0 (rw (eq-eqb _ 0 z) at s);
-      counts = λ k h. count-facts _ _ _ (all-at (countGoodAt r) 4 k h (both-left counts slots o));
+      counts = λ k h. count-facts _ _ _ (all-at (countGoodAt r) 4 k h (both-left counts (both choice slots) o));
+      choice = choice-most (choiceOf r) (both-left choice slots q);
       unheld = λ b h n. zeros-are (slotOf b r) (rw n at (slot b h)) ∙ ap (λ (m : ℕ). replicate m 0) (slot-length b r l h);
       obeys = λ b h y. rw y at (slot b h);
     }
@@ -323,7 +360,7 @@ of-good r g =
     (both-true _ _ (eq-eqb _ _ (within-mask heldMask (heldOf r) (g .small) (g .bits)))
     (pick-true (eqb (lastOf (countWords 2 r)) 0) (eqb (heldOf r) 0) (λ z. eq-eqb (heldOf r) 0 (g .started (eqb-true (lastOf (countWords 2 r)) 0 z)))))
     (both-true _ _ (all-intro (countGoodAt r) 4 (λ k h. facts-count _ _ _ (g .counts k h)))
-    (all-intro (slotGood r) 31 (λ b h. pick-true (slotted b) _ (λ o. slot b o))))
+    (both-true _ _ (choice-made (choiceOf r) (g .choice)) (all-intro (slotGood r) 31 (λ b h. pick-true (slotted b) _ (λ o. slot b o)))))
   where
     slot : (b : ℕ) → slotted b ≡ true → pick (has (heldOf r) b) (heldRule b (slotOf b r)) (zeros (slotOf b r)) ≡ true
     slot b o =
@@ -331,17 +368,17 @@ of-good r g =
         (λ n. ap (λ (t : Bool). pick t (heldRule b (slotOf b r)) (zeros (slotOf b r))) n ∙ ap zeros (g .unheld b o n) ∙ zeros-good (fieldSize b))
         (true-or-false (has (heldOf r) b))
 
--- ---- a record of zeros but for its identifier is good
+-- ---- a record of zeros but for its identifier and its choice is good
 
-module _ (r : List ℕ) (l : length r ≡ recordWords) (z : (i : ℕ) → getD r (suc i) 0 ≡ 0) where
-  blank-word : (i : ℕ) → 1 ≤ i → getD r i 0 ≡ 0
-  blank-word i h = let e : i ≡ suc (i - 1) = omega arith in ap (λ (j : ℕ). getD r j 0) e ∙ z (i - 1)
+module _ (r : List ℕ) (l : length r ≡ recordWords) (c : choiceOf r ≤ 1) (z : (i : ℕ) → 1 ≤ i → (i ≡ 14 → ⊥) → getD r i 0 ≡ 0) where
+  blank-held : heldOf r ≡ 0
+  blank-held = z 1 (omega arith) (λ e. omega arith)
 
   blank-bit : (b : ℕ) → has (heldOf r) b ≡ false
-  blank-bit b = ap (λ (n : ℕ). has n b) (z 0) ∙ ap (λ (n : ℕ). eqb (n % 2) 1) (zero-div (2 ^ b))
+  blank-bit b = ap (λ (n : ℕ). has n b) blank-held ∙ ap (λ (n : ℕ). eqb (n % 2) 1) (zero-div (2 ^ b))
 
-  blank-count : (k i : ℕ) → i < 3 → getD (countWords k r) i 0 ≡ 0
-  blank-count k i h = count-word k i r h ∙ blank-word (countAt k + i) (omega arith)
+  blank-count : (k i : ℕ) → k < 4 → i < 3 → getD (countWords k r) i 0 ≡ 0
+  blank-count k i g h = count-word k i r h ∙ z (countAt k + i) (omega arith) (λ e. omega arith)
 
   blank-slot : (b : ℕ) → slotted b ≡ true → slotOf b r ≡ replicate (fieldSize b) 0
   unfolding slotOf slotIn slotsOf
@@ -351,17 +388,18 @@ module _ (r : List ℕ) (l : length r ≡ recordWords) (z : (i : ℕ) → getD r
       (λ i h.
       getD-part (slotAt b) (fieldSize b) i (part headWords slotWords r) (omega arith)
       ∙ getD-part headWords slotWords (slotAt b + i) r (omega (arith, slot-inside b o))
-      ∙ blank-word (headWords + (slotAt b + i)) (omega arith) ∙ sym (zero-at (fieldSize b) i))
+      ∙ z (headWords + (slotAt b + i)) (omega arith) (λ e. omega arith) ∙ sym (zero-at (fieldSize b) i))
 
   pub blank-good : Good r
   blank-good = record {
     bits = λ b e. absurd (true-is-false (sym e ∙ blank-bit b));
-    small = omega (arith, z 0);
-    started = λ _. z 0;
+    small = omega (arith, blank-held);
+    started = λ _. blank-held;
     counts = λ k h. record {
-      unstarted = λ _. (blank-count k 0 (omega arith), blank-count k 1 (omega arith));
-      most = omega (arith, blank-count k 2 (omega arith));
+      unstarted = λ _. (blank-count k 0 h (omega arith), blank-count k 1 h (omega arith));
+      most = omega (arith, blank-count k 2 h (omega arith));
     };
+    choice = c;
     unheld = λ b o e. blank-slot b o;
     obeys = λ b o e. absurd (true-is-false (sym e ∙ blank-bit b));
   }
@@ -414,6 +452,7 @@ module _ (k count : ℕ) (r : List ℕ) (l : length r ≡ recordWords) (h : k < 
         counts = λ j i.
             ⊎-elim (λ (e : j ≡ k). rw (e, count-count k count r l h) counted-good)
             (λ (n : j ≡ k → ⊥). rw (count-other k count r l h j i n) (g .counts j i)) (same-or-not j k);
+        choice = rw (count-choice k count r l h) (g .choice);
         unheld = λ b o n. count-slot k count r l h b ∙ g .unheld b o (sym (ap (λ (m : ℕ). has m b) (count-held k count r l h)) ∙ n);
         obeys = λ b o y. ap (heldRule b) (count-slot k count r l h b) ∙ g .obeys b o (sym (ap (λ (m : ℕ). has m b) (count-held k count r l h)) ∙ y);
       }
@@ -459,6 +498,7 @@ module _ (body r : List ℕ) (l : length r ≡ recordWords) (ok : contextOf body
         small = rw (hold-held body r l ok) (or-lt 31 (heldOf r) (bitAnd ind heldMask) (g .small) (lt-of-le-of-lt (and-le-r ind heldMask) held-small));
         started = λ z. absurd (began (sym (ap lastOf (hold-count body r l ok 2 (omega arith))) ∙ z));
         counts = λ k h. rw (hold-count body r l ok k h) (g .counts k h);
+        choice = rw (hold-choice body r l ok) (g .choice);
         unheld = λ b o n.
             let u = neither (has (heldOf r) b) (gains b) (sym (bit-after b) ∙ n) in
             hold-slot body r l ok b o ∙ slot-stays b (has ind b) (fieldOf b body) (slotOf b r) (u .1) ∙ g .unheld b o (u .0);

@@ -6,12 +6,12 @@ use Rattle.words.specs.Outcome.{accepted}
 use Rattle.words.proofs.Cases.{same-or-not}
 use Rattle.fields.specs.Layout.{indicatorOf, contextOf}
 use Rattle.record.specs.Held.{slotted}
-use Rattle.record.specs.Layout.{recordWords, identifierOf, heldOf, orderOf, countWords, lastOf, slotOf}
+use Rattle.record.specs.Layout.{recordWords, identifierOf, heldOf, orderOf, countWords, lastOf, choiceOf, slotOf}
 use Rattle.record.specs.Counts.{countedOf, countRecord, addedTo}
 use Rattle.record.specs.After.{slotAfterBody, heldAfter, holdRecord, recordAfter, addedBy}
 use Rattle.record.specs.Good.{recordGood, Good}
-use Rattle.record.proofs.AfterLaws.{count-length, count-count, count-other, count-slot, count-held, count-identifier}
-use Rattle.record.proofs.AfterLaws.{hold-length, hold-slot, hold-held, hold-count, hold-identifier}
+use Rattle.record.proofs.AfterLaws.{count-length, count-count, count-other, count-slot, count-held, count-identifier, count-choice}
+use Rattle.record.proofs.AfterLaws.{hold-length, hold-slot, hold-held, hold-count, hold-identifier, hold-choice}
 use Rattle.record.proofs.GoodLaws.{good-of, of-good, count-good, hold-good}
 
 pub order-small : (kind : ℕ) → orderOf kind < 4
@@ -85,6 +85,11 @@ module _ (kind count : ℕ) (body r : List ℕ) (l : length r ≡ recordWords) (
   after-identifier =
       let i = count-identifier (orderOf kind) count r l (order-small kind) in
       by-kind identifierOf (identifierOf r) (λ e. hold-identifier body counted whole (ok e) ∙ i) i
+
+  pub after-choice : choiceOf (recordAfter kind count body r) ≡ choiceOf r
+  after-choice =
+      let i = count-choice (orderOf kind) count r l (order-small kind) in
+      by-kind choiceOf (choiceOf r) (λ e. hold-choice body counted whole (ok e) ∙ i) i
 
   -- its type is counted
   pub after-count : countWords (orderOf kind) (recordAfter kind count body r) ≡ countedOf count (countWords (orderOf kind) r)

@@ -1,5 +1,6 @@
 -- A stream's record. Its first words are those of its body in a page: identifier, held indicator, "for types 1, 3, 4, 5 three words each (seen,
--- missing, last plus one or 0 if not started)"; then a slot for each held field, in field order.
+-- missing, last plus one or 0 if not started)", and the choice, of which document 02, C-13 says that "the page body records it in one word more"; then a slot
+-- for each held field, in field order.
 use Rattle.words.specs.Kit.{ℕ, _+_, _*_, Bool, List, [], _∷_, eqb, getD}
 use Rattle.words.specs.Tests.{pick}
 use Rattle.words.specs.Word.{has}
@@ -9,7 +10,7 @@ use Rattle.record.specs.Held.{slotAt}
 
 -- the words before the slots, those of the slots, and all
 abbrev pub headWords : ℕ
-headWords = 14
+headWords = 15
 
 abbrev pub slotWords : ℕ
 slotWords = 74
@@ -51,6 +52,10 @@ missingOf count = getD count 1 0
 -- last plus one, or 0 where the count has not started
 abbrev pub lastOf : List ℕ → ℕ
 lastOf count = getD count 2 0
+
+-- the choice: "plain 49.0 (word 0) or 49A (1)"
+abbrev pub choiceOf : List ℕ → ℕ
+choiceOf r = getD r 14 0
 
 -- the slot of bit b among the slots, and in a record
 unfoldable pub slotIn : ℕ → List ℕ → List ℕ

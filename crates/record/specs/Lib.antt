@@ -12,3 +12,5 @@ pub mod Counts
 pub mod After
 -- when a record is good
 pub mod Good
+-- what only the contracts inside cite
+pub mod inner

@@ -22,11 +22,13 @@ pub use held::slot_in;
 pub use state::state_good;
 
 // The words of a record before its slots, those of its slots, and all.
-pub const HEAD_WORDS: usize = 14;
+pub const HEAD_WORDS: usize = 15;
 
 pub const SLOT_WORDS: usize = 74;
 
 pub const RECORD_WORDS: usize = HEAD_WORDS + SLOT_WORDS;
 
-// Where the held indicator stands in a record.
+// Where the held indicator and the choice stand in a record.
 pub const HELD_AT: usize = 1;
+
+pub const CHOICE_AT: usize = 14;

@@ -11,9 +11,10 @@ fn show_refusal(n: u32) {
     lines::inner::named(b"refused", n as u64);
 }
 
-// An identifier and a held indicator.
-fn show_declared(identifier: u32, held: u32) {
+// An identifier, a choice and a held indicator.
+fn show_declared(identifier: u32, choice: u32, held: u32) {
     lines::inner::named(b"identifier", identifier as u64);
+    lines::inner::named(b"choice", choice as u64);
     lines::inner::named(b"held", held as u64);
 }
 
@@ -30,7 +31,11 @@ fn ask_identity(k: u64, table: &[u32]) {
     let stream = lines::inner::word() as usize;
     lines::inner::number(k);
     match panel_streams::identity(table, stream) {
-        Identity::Declared { identifier, held } => show_declared(identifier, held),
+        Identity::Declared {
+            identifier,
+            choice,
+            held,
+        } => show_declared(identifier, choice, held),
         Identity::Refused(n) => show_refusal(n),
     }
     lines::inner::text(b"\n");

@@ -4,11 +4,11 @@
 pub mod TestLaws
 -- records of a table: read, replaced
 pub mod RecordLaws
--- lists of identifiers
+-- lists of identifiers, and choices
 pub mod ListLaws
 -- a well-made table
 pub mod WellLaws
--- a stream's number
+-- a stream's number, and whether 49A is chosen for an identifier
 pub mod StreamLaws
 -- a fresh table
 pub mod StartLaws

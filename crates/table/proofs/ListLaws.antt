@@ -1,15 +1,17 @@
--- Lists of identifiers. The idea: `listGood` says what `GoodList` says in facts (`list-of`, `of-list`), and looks at the identifiers alone, not where they
--- stand (`list-same`).
-use Rattle.words.proofs.Kit.{_≡_, sym, ap, _∙_, Bool, true, false, not, ⊎-elim, List, ℕ, _+_, _*_, _≤_, _<_, arith, eq-eqb, ne-eqb, le-leb, not-true}
-use Rattle.words.proofs.Kit.{eqb, leb, length, getD}
+-- Lists of identifiers, and their choices. The idea: `listGood` says what `GoodList` says in facts (`list-of`, `of-list`), and looks at the identifiers alone,
+-- not where they stand (`list-same`); so does the stream of an identifier (`stream-same`).
+use Rattle.words.proofs.Kit.{_≡_, refl, sym, ap, _∙_, Bool, true, false, not, ⊎-elim, List, ℕ, _+_, _*_, _≤_, _<_, arith, eq-eqb, ne-eqb, eqb-true, le-leb}
+use Rattle.words.proofs.Kit.{not-true, eqb, leb, length, getD}
 use native.Mathlib.Nat.{mul-le-mul-left, mul-suc, zero-add, one-mul, le-of-lt}
 use borrow.Author.Tests.{leb-true, eqb-false}
 use Rattle.words.specs.Tests.{both}
 use Rattle.words.specs.All.{all}
 use Rattle.words.proofs.Cases.{le-or-lt, both-left, both-right, both-true}
 use Rattle.words.proofs.AllLaws.{all-none, all-more, all-fails, all-at, all-intro, all-same, First, first-is, first-one}
+use Rattle.record.specs.Good.{choiceGood}
+use Rattle.record.proofs.GoodLaws.{choice-made, choice-over, choice-most}
 use Rattle.table.specs.Layout.{streamsOf}
-use Rattle.table.specs.Identifiers.{spaced, listed, declared, apart, listGood, streamOf}
+use Rattle.table.specs.Identifiers.{spaced, listed, declared, apart, listGood, choicesGood, streamOf}
 use Rattle.table.specs.Well.{GoodList}
 use Rattle.table.proofs.TestLaws.{test-ended}
 
@@ -76,6 +78,39 @@ list-same n id other e =
 pub list-next : (ids : List ℕ) → listGood (length ids) (spaced 0 1 ids) ≡ listGood (length ids) (listed ids)
 list-next ids = list-same (length ids) (spaced 0 1 ids) (listed ids) (λ s h. ap (λ (i : ℕ). getD ids i 0) (zero-add (1 * s) ∙ one-mul s))
 
+-- ---- the choices
+
+-- the choice of identifier s is 0 or 1
+abbrev pub chosen : List ℕ → ℕ → Bool
+chosen choices s = choiceGood (getD choices s 0)
+
+module _ (n : ℕ) (choices : List ℕ) where
+  -- in facts: as many as identifiers, and each at most 1
+  pub choices-many : choicesGood n choices ≡ true → length choices ≡ n
+  unfolding choicesGood
+  choices-many e = eqb-true (length choices) n (both-left (eqb (length choices) n) (all n (chosen choices)) e)
+
+  pub choices-most : choicesGood n choices ≡ true → (s : ℕ) → s < n → getD choices s 0 ≤ 1
+  unfolding choicesGood
+  choices-most e s h =
+      choice-most (getD choices s 0) (all-at (chosen choices) n s h (both-right (eqb (length choices) n) (all n (chosen choices)) e))
+
+  -- as a program asks: the choices before s are good
+  pub choices-unlike : (length choices ≡ n → ⊥) → false ≡ choicesGood n choices
+  unfolding choicesGood
+  choices-unlike o = rw (ne-eqb (length choices) n o)
+
+  pub choices-fail : (s : ℕ) → length choices ≡ n → s < n → 1 < getD choices s 0 → false ≡ choicesGood n choices
+  unfolding choicesGood
+  choices-fail s l h g = rw (eq-eqb (length choices) n l) (sym (all-fails (chosen choices) n s h (choice-over (getD choices s 0) g)))
+
+  pub choices-turn : (s : ℕ) → all s (chosen choices) ≡ true → getD choices s 0 ≤ 1 → all (s + 1) (chosen choices) ≡ true
+  choices-turn s a g = all-more (chosen choices) s a (choice-made (getD choices s 0) g)
+
+  pub choices-end : (s : ℕ) → length choices ≡ n → all s (chosen choices) ≡ true → s ≤ n → n ≤ s → true ≡ choicesGood n choices
+  unfolding choicesGood
+  choices-end s l a h g = rw (eq-eqb (length choices) n l) (test-ended (chosen choices) n s a h g)
+
 -- ---- the stream of an identifier
 
 -- one more is not it
@@ -98,3 +133,21 @@ module _ (t : List ℕ) (identifier s n : ℕ) (e : n ≡ streamsOf t) (before :
 pub stream-is : (identifier : ℕ) (t : List ℕ) → First (streamsOf t) (λ s. eqb (declared t s) identifier) (streamOf identifier t)
 unfolding streamOf
 stream-is identifier t = first-is (streamsOf t) (λ s. eqb (declared t s) identifier)
+
+-- the identifiers of a list stand once, so each has its own place
+pub stream-own : (t : List ℕ) (s : ℕ) → GoodList (streamsOf t) (declared t) → s < streamsOf t → streamOf (declared t s) t ≡ s
+stream-own t s g h =
+    sym (stream-found t (declared t s) s (streamsOf t) refl (λ i k. ne-eqb (declared t i) (declared t s) (g .apart i s k h)) h refl)
+
+-- it looks at the identifiers alone
+pub stream-same : (identifier : ℕ) (t u : List ℕ) → streamsOf t ≡ streamsOf u → ((s : ℕ) → s < streamsOf u → declared t s ≡ declared u s)
+    → streamOf identifier t ≡ streamOf identifier u
+unfolding streamOf
+stream-same identifier t u n e =
+    let q = stream-is identifier t in
+    first-one (streamsOf u) (streamOf identifier t) (λ s. eqb (declared u s) identifier)
+    (record {
+      most = omega (arith, q .most);
+      passes = λ h. ap (λ (i : ℕ). eqb i identifier) (sym (e _ h)) ∙ q .passes (omega arith);
+      before = λ i h. ap (λ (m : ℕ). eqb m identifier) (sym (e i (omega (arith, q .most)))) ∙ q .before i h;
+    })

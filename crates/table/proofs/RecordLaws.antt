@@ -1,10 +1,10 @@
 -- Records of a table. The idea: a record is a part of the table and replacing it is a `put`, so these are the laws of parts at the records' places; two
 -- records lie apart, and word 0 and the words past the layout apart from all.
-use Rattle.words.proofs.Kit.{_≡_, sym, ap, _∙_, ⊎-elim, List, ℕ, _≤_, _<_, arith, length, drop, getD}
+use Rattle.words.proofs.Kit.{_≡_, sym, ap, _∙_, ⊎-elim, List, ℕ, _+_, _≤_, _<_, arith, length, drop, getD}
 use native.Mathlib.Nat.{add-zero}
 use Rattle.words.proofs.Cases.{le-or-lt, same-or-not}
 use Rattle.words.proofs.PartLaws.{getD-part, part-length, put-length, part-put, part-put-before, part-put-after, getD-put-before, drop-put-after}
-use Rattle.record.specs.Layout.{recordWords, identifierOf}
+use Rattle.record.specs.Layout.{recordWords, identifierOf, choiceOf}
 use Rattle.table.specs.Layout.{streamsOf, base, layoutWords, Has, recordAt, withRecord}
 use Rattle.table.specs.Identifiers.{declared}
 
@@ -16,6 +16,11 @@ record-length s t h = part-length (base s) recordWords t h
 pub record-identifier : (s : ℕ) (t : List ℕ) → identifierOf (recordAt s t) ≡ declared t s
 unfolding recordAt
 record-identifier s t = getD-part (base s) recordWords 0 t (omega arith) ∙ ap (λ (i : ℕ). getD t i 0) (add-zero (base s))
+
+-- where its choice stands in the table
+pub record-choice : (s : ℕ) (t : List ℕ) → choiceOf (recordAt s t) ≡ getD t (base s + 14) 0
+unfolding recordAt
+record-choice s t = getD-part (base s) recordWords 14 t (omega arith)
 
 module _ (s : ℕ) (r t : List ℕ) (h : Has s t) (l : length r ≡ recordWords) where
   pub with-length : length (withRecord s r t) ≡ length t

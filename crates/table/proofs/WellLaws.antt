@@ -1,6 +1,6 @@
 -- A well-made table. The idea: `wellMade` says what `WellMade` says in facts (`well-of`, `of-well`); a record replaced by a good one of the same identifier
 -- keeps each of these facts (`well-with`).
-use Rattle.words.proofs.Kit.{_≡_, refl, sym, ap, _∙_, Bool, true, false, not, ⊎-elim, List, ℕ, _+_, _-_, _^_, _≤_, _<_, arith, le-leb, lt-leb}
+use Rattle.words.proofs.Kit.{_≡_, refl, sym, ap, _∙_, Bool, true, false, not, ⊎-elim, List, ℕ, _+_, _-_, _≤_, _<_, arith, le-leb, lt-leb}
 use Rattle.words.proofs.Kit.{not-true, not-false, leb, length, take, drop}
 use borrow.Author.Tests.{leb-true}
 use Rattle.words.specs.Part.{part}
@@ -113,9 +113,6 @@ module _ (t : List ℕ) (n m : ℕ) (e : n ≡ streamsOf t) (f : m ≡ layoutWor
 -- a list that was passed is short
 pub listed-few : (l : Bool) (n : ℕ) (id : ℕ → ℕ) → l ≡ listGood n id → not l ≡ false → n ≤ 32
 listed-few l n id g o = list-of n id (sym g ∙ not-false l o) .few
-
-pub listed-small : (l : Bool) (n : ℕ) (id : ℕ → ℕ) → l ≡ listGood n id → not l ≡ false → n < 2 ^ 32
-listed-small l n id g o = omega (arith, listed-few l n id g o)
 
 pub layout-there : (t : List ℕ) (n m : ℕ) → m ≡ layoutWords n → m ≤ length t → base n ≤ length t
 layout-there t n m f h = omega arith

@@ -2,7 +2,7 @@
 
 -- word 0, and the records behind it
 pub mod Layout
--- when a list of identifiers is valid, and where one stands in it
+-- when a list of identifiers and its choices are valid, where an identifier stands in it, and whether 49A is chosen for one
 pub mod Identifiers
 -- when a table is well made
 pub mod Well

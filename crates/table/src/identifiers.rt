@@ -1,7 +1,8 @@
-// Whether a list of identifiers is valid. The identifiers stand at equal distances: in a list one after the other, in a table a record apart.
+// Whether a list of identifiers is valid, and the choices beside it. The identifiers stand at equal distances: in a list one after the other, in a table a
+// record apart.
 ghost use Rattle.words.specs.Kit.{_≡_, _+_, _*_, _≤_, _<_, length};
 ghost use Rattle.words.specs.All.{all};
-ghost use Rattle.table.specs.Identifiers.{spaced, apart, listGood};
+ghost use Rattle.table.specs.Identifiers.{spaced, apart, listGood, choicesGood};
 
 // Whether no identifier before number s is that of s.
 fn is_apart(ws: &[u32], first: usize, step: usize, s: usize) -> bool
@@ -46,4 +47,21 @@ pub fn list_good(ws: &[u32], first: usize, step: usize, n: usize) -> bool
         return false;
     }
     all_apart(ws, first, step, n)
+}
+
+// Whether there are as many choices as identifiers, n, and each is 0 or 1.
+pub fn choices_good(choices: &[u32], n: usize) -> bool
+    ensures { λ r. ⌜ r ≡ choicesGood n (now (choices .entry)) ⌝ }
+{
+    if choices.len() != n {
+        return false;
+    }
+    let mut s = 0;
+    while s < n {
+        if 1 < choices[s] {
+            return false;
+        }
+        s += 1;
+    }
+    true
 }

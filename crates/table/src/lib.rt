@@ -10,13 +10,15 @@ ghost use Rattle.words.specs.Outcome.{measured, Meets};
 ghost use Rattle.table.specs.Well.{wellMade};
 ghost use Rattle.table.specs.Start.{startOf};
 
-// Starts a table for a list of identifiers, and answers the layout's length: LIST for 0 or over 32 of them, or one twice; ROOM where the table is shorter than
-// the layout. Words past the layout stay.
-pub fn start(ids: &[u32], table: &mut [u32]) -> words::Length
-    ensures { λ r. ⌜ Meets measured (startOf (now (ids .entry)) (now (table .entry))) (now (table .entry)) r (now (table .exit)) ⌝ }
+// Starts a table for a list of identifiers and their choices, 0 for plain 49.0 and 1 for 49A, and answers the layout's length: LIST for 0 or over 32
+// identifiers, one twice, choices unlike them in number, or another choice; ROOM where the table is shorter than the layout. Words past the layout stay.
+pub fn start(ids: &[u32], choices: &[u32], table: &mut [u32]) -> words::Length
+    ensures { λ r. ⌜ Meets measured (startOf (now (ids .entry)) (now (choices .entry)) (now (table .entry))) (now (table .entry)) r (now (table .exit)) ⌝ }
 {
     let n = ids.len();
-    if !identifiers::list_good(ids, 0, 1, n) {
+    let listed = identifiers::list_good(ids, 0, 1, n);
+    let chosen = identifiers::choices_good(choices, n);
+    if !words::inner::both_of(listed, chosen) {
         return words::Length::Refused(words::LIST);
     }
     let length = layout::layout_words(n);
@@ -24,7 +26,7 @@ pub fn start(ids: &[u32], table: &mut [u32]) -> words::Length
         return words::Length::Refused(words::ROOM);
     }
     table[0] = n as u32;
-    records::write_records(table, ids);
+    records::write_records(table, ids, choices);
     words::Length::Accepted(length)
 }
 

@@ -7,7 +7,9 @@ use Rattle.words.specs.Refusals.{Refusals, firstGiven, numbersIn}
 use Rattle.words.proofs.RefusalLaws.{Numbers, Numbered, number-among}
 use Rattle.fields.specs.Layout.{contextOf}
 use Rattle.packet.specs.Read.{readBy}
+use Rattle.packet.specs.Survey.{readSurveyOf}
 use Rattle.packet_trailer.specs.Trailer.{trailerWordOf}
+use Rattle.packet_write.specs.Write.{padFits}
 use Rattle.payload_format.specs.Count.{neededOf}
 use Rattle.payload_format.specs.Signs.{signedOf}
 use Rattle.payload_order.specs.Numbering.{coordinatesOf, itemOf}
@@ -26,7 +28,7 @@ use Rattle.panel_streams.specs.TypeCounts.{typeCountsOf}
 use Rattle.panel_streams.specs.OwnTable.{ownTableOf}
 use Rattle.panel_streams.specs.Changed.{changedOf}
 use Rattle.vrt49.specs.Answers.{Tells, placesOf}
-use Rattle.vrt49.specs.Packets.{writeWordsOf}
+use Rattle.vrt49.specs.Packets.{writeWordsBy}
 use Rattle.vrt49.specs.Calls.{CallForC, answers, tells, OnceForC, SomeForC, LeavesForC, OrderForC, ZeroForC, EachForC, callsForC}
 
 -- ---- what every promise gives
@@ -65,10 +67,12 @@ abbrev pub _and_ : {A B : Type 0} → A → B → A × B
 a and b = (a, b)
 
 listed : EachForC Listed callsForC
-unfolding readBy writeWordsOf trailerWordOf contextOf unpackOf packOf neededOf coordinatesOf itemOf signedOf startOf playOf runOf lengthOf saveOf putBackOf
-    readingOf readingsOf heldWordsOf identityOf typeCountsOf ownTableOf changedOf
+unfolding readBy readSurveyOf writeWordsBy padFits trailerWordOf contextOf unpackOf packOf neededOf coordinatesOf itemOf signedOf startOf playOf runOf
+    lengthOf saveOf putBackOf readingOf readingsOf heldWordsOf identityOf typeCountsOf ownTableOf changedOf
 listed =
     (λ h. ((_, refl), refl, search needs))
+    and (λ h. ((_, refl), refl, search needs))
+    and (λ h. ((_, refl), refl, search needs))
     and (λ h. ((_, refl), refl, search needs))
     and (λ h. ((_, refl), refl, tt))
     and (λ h. ((_, refl), refl, search needs))

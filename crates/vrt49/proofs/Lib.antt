@@ -4,6 +4,8 @@
 pub mod AnswerLaws
 -- the parts of a packet as words
 pub mod PartsLaws
+-- what a reading as 49A tells
+pub mod SurveyLaws
 -- the numbers of a packet fit words
 pub mod SmallLaws
 -- what a reading tells

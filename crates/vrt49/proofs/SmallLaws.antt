@@ -1,40 +1,30 @@
 -- The numbers of an accepted packet fit the words that they are told in. The idea: each follows from a bound that the call's own definition has.
-use Rattle.words.proofs.Kit.{_≡_, ap, subst, false, List, ℕ, _%_, _≤_, _<_, arith, getD}
-use native.Mathlib.Nat.{mod-lt}
+use Rattle.words.proofs.Kit.{_≡_, ap, subst, List, ℕ, _^_, _≤_, _<_, arith}
 use Rattle.words.specs.Outcome.{accepted, Done, Meets}
 use Rattle.words.proofs.MeetLaws.{meets-accepted}
-use Rattle.packet.specs.declared.Packet.{Packet}
-use Rattle.packet.specs.Parts.{packetOf}
-use Rattle.packet.specs.Read.{readOf}
-use Rattle.packet.proofs.ReadLaws.{read-accepts}
+use Rattle.packet.proofs.ReadLaws.{size-small}
 use Rattle.table.proofs.WellLaws.{well-few}
 use Rattle.play.specs.declared.Heard.{Heard}
 use Rattle.play.specs.declared.Played.{Played}
 use Rattle.play.specs.declared.Played.the-variants.{Accepted}
-use Rattle.play.specs.Play.{heardOf, playOf, playedPaper}
+use Rattle.play.specs.Play.{chosen, heardOf, playOf, playedPaper}
 use Rattle.play.proofs.StreamLaws.{sought-below}
 use Rattle.play.proofs.KeepLaws.{play-taken}
 
--- the size of an accepted packet has sixteen bits
-pub size-small : (ws : List ℕ) (p : Packet) → readOf ws ≡ accepted p → p .size ≤ 65535
-unfolding packetOf
-size-small ws p e =
-    let h : getD ws 0 0 % 65536 < 65536 = mod-lt (getD ws 0 0) (omega arith) in
-    rw (← read-accepts false ws p e .says) (omega arith)
-
--- and there are at most 32 streams
+-- the size of an accepted packet has sixteen bits, and there are at most 32 streams
 abbrev SmallHeard : Heard → Type 0
-SmallHeard h = (h .size ≤ 65535) × (h .stream ≤ 31)
+SmallHeard h = (h .size < 2 ^ 16) × (h .stream ≤ 31)
 
 heard-few : (t ws : List ℕ) (d : Done Heard (List ℕ)) → playOf t ws ≡ accepted d → SmallHeard (d .says)
 unfolding heardOf
 heard-few t ws d e =
     let k = play-taken t ws d e in
     let p = k .1 in
-    rw (← p .says) (size-small ws (p .packet) (p .reads), omega (arith, sought-below _ _ t (p .stream) (p .seeks), well-few t (k .0)))
+    rw (← p .says)
+    (size-small (chosen t ws) ws (p .packet) (p .reads), omega (arith, sought-below _ _ t (p .stream) (p .seeks), well-few t (k .0)))
 
 pub heard-small : (t ws left : List ℕ) (r : Played) (h : Heard) → Meets playedPaper (playOf t ws) t r left → r ≡ Accepted h
-    → (h .size ≤ 65535) × (h .stream ≤ 31)
+    → (h .size < 2 ^ 16) × (h .stream ≤ 31)
 heard-small t ws left r h m e =
     let d = meets-accepted m (ap playedPaper e) in
     subst SmallHeard (d .says) (heard-few t ws (d .done) (d .wants))

@@ -1,16 +1,17 @@
 -- Every call for C, with its promise and its refusals. No call has a `requires`: it may be handed any numbers and words. The promise of a call that refuses
 -- nothing and answers its value is `r ≡ want h`; that of every other call is `Tells values (want h) (lent h) r after`, of what it is handed, h, the number r
 -- that it answers, and the lent places afterwards. These are the `ensures` of the calls, word for word; `want` is the definition of the call inside.
-use Rattle.words.specs.Kit.{_≡_, ℕ, _<_, List, [], _∷_, _++_, length, getD}
+use Rattle.words.specs.Kit.{_≡_, ℕ, _<_, true, List, [], _∷_, _++_, length, getD}
 use lib.IntN.{ℤ}
 use lib.Ieee.{Float}
 use Rattle.words.specs.Numbers.{EMPTY, TYPE, BITS, SHORT, CUT, CLASS, TIME, INDICATOR, LAYOUT, FIELD}
-use Rattle.words.specs.Numbers.{STREAM, LIST, ROOM, VALUE, SIZE, FORMAT, COUNT, TABLE, PAGE}
+use Rattle.words.specs.Numbers.{STREAM, LIST, ROOM, VALUE, SIZE, FORMAT, COUNT, TABLE, PAGE, PAD}
 use Rattle.words.specs.Tests.{when}
 use Rattle.words.specs.Outcome.{Outcome, accepted, numberOf}
 use Rattle.words.specs.Refusals.{Refusals, firstGiven, numbersIn}
 use Rattle.fields.specs.Layout.{fieldCount, foundOf, contextList, contextOf}
-use Rattle.packet.specs.Read.{readList, readOf}
+use Rattle.packet.specs.Read.{listBy, readList, readOf}
+use Rattle.packet.specs.Survey.{readSurveyOf}
 use Rattle.packet_trailer.specs.Trailer.{trailerOf, trailerList, trailerWordOf}
 use Rattle.payload_format.specs.Count.{neededList, neededOf}
 use Rattle.payload_format.specs.Signs.{signedList, signedOf}
@@ -32,7 +33,8 @@ use Rattle.panel_streams.specs.TypeCounts.{typeCountsList, typeCountsOf}
 use Rattle.panel_streams.specs.OwnTable.{ownTableList, ownTableOf}
 use Rattle.panel_streams.specs.Changed.{changedList, changedOf}
 use Rattle.vrt49.specs.Answers.{Tells, plain, left, beside}
-use Rattle.vrt49.specs.Packets.{packetValues, trailerValues, foundValues, writeWordsList, writeWordsOf}
+use Rattle.vrt49.specs.Packets.{packetValues, surveyValues, trailerValues, foundValues}
+use Rattle.vrt49.specs.Packets.{writeWordsList, writeWordsOf, writeSurveyWordsList, writeSurveyWordsOf}
 use Rattle.vrt49.specs.Payloads.{coordinatesValues, coordinatesIn}
 use Rattle.vrt49.specs.Tables.{heardValues, reachedValues}
 use Rattle.vrt49.specs.Readings.{readingValues, readingsValues}
@@ -90,11 +92,24 @@ forRead =
     tells (λ (h : List ℕ × List ℕ). readOf (h .0)) packetValues (λ h. h .1)
     (λ h. readList (getD (h .0) 0 0) (h .0)) readNumbers
 
+-- 49A: "CLASS is not given for 49A; 20 PAD, after FIELD"; CLASS is given for types that 49A does not govern
+abbrev pub forReadSurvey : CallForC
+forReadSurvey =
+    tells (λ (h : List ℕ × List ℕ). readSurveyOf (h .0)) surveyValues (λ h. h .1)
+    (λ h. listBy true (getD (h .0) 0 0) (h .0)) (readNumbers ++ (PAD ∷ []))
+
 -- "Write: TYPE, VALUE, SHORT, SIZE, TIME, INDICATOR, LAYOUT, FIELD, ROOM."
 abbrev pub forWrite : CallForC
 forWrite =
     tells (λ (h : List ℕ × List ℕ × List ℕ × ℕ × ℕ). writeWordsOf (h .0) (h .1) (h .2) (h .3)) (beside plain) (λ h. (h .2, h .4))
     (λ h. writeWordsList (h .0) (h .1) (length (h .2)) (h .3)) (TYPE ∷ VALUE ∷ SHORT ∷ SIZE ∷ TIME ∷ INDICATOR ∷ LAYOUT ∷ FIELD ∷ ROOM ∷ [])
+
+-- 49A: PAD after FIELD
+abbrev pub forWriteSurvey : CallForC
+forWriteSurvey =
+    tells (λ (h : List ℕ × List ℕ × List ℕ × ℕ × ℕ). writeSurveyWordsOf (h .0) (h .1) (h .2) (h .3)) (beside plain) (λ h. (h .2, h .4))
+    (λ h. writeSurveyWordsList (h .0) (h .1) (length (h .2)) (h .3))
+    (TYPE ∷ VALUE ∷ SHORT ∷ SIZE ∷ TIME ∷ INDICATOR ∷ LAYOUT ∷ FIELD ∷ PAD ∷ ROOM ∷ [])
 
 abbrev pub forTrailerParts : CallForC
 forTrailerParts = tells (λ (h : ℕ × List ℕ). accepted (trailerOf (h .0))) trailerValues (λ h. h .1) (λ h. []) []
@@ -144,11 +159,12 @@ forItemAt =
 abbrev pub forSigned : CallForC
 forSigned = tells (λ (h : ℕ × ℕ × ℤ). signedOf (h .0) (h .1)) plain (λ h. h .2) (λ h. signedList (h .0) (h .1)) (FORMAT ∷ VALUE ∷ [])
 
--- ---- tables and pages: "Start: LIST, ROOM. Play: TABLE, read order, STREAM. Save: TABLE, SIZE, ROOM. Put back: PAGE, ROOM."
+-- ---- tables and pages: "Start: LIST, ROOM. Play: TABLE, read order, STREAM. Save: TABLE, SIZE, ROOM. Put back: PAGE, ROOM." PAD is last in the read order.
 
 abbrev pub forStart : CallForC
 forStart =
-    tells (λ (h : List ℕ × List ℕ × ℕ). startOf (h .0) (h .1)) (beside plain) (λ h. (h .1, h .2)) (λ h. startList (h .0) (h .1)) (LIST ∷ ROOM ∷ [])
+    tells (λ (h : List ℕ × List ℕ × List ℕ × ℕ). startOf (h .0) (h .1) (h .2)) (beside plain) (λ h. (h .2, h .3))
+    (λ h. startList (h .0) (h .1) (h .2)) (LIST ∷ ROOM ∷ [])
 
 abbrev pub forWellMade : CallForC
 forWellMade = answers (λ (t : List ℕ). when (wellMade t) 1)
@@ -156,7 +172,7 @@ forWellMade = answers (λ (t : List ℕ). when (wellMade t) 1)
 abbrev pub forPlay : CallForC
 forPlay =
     tells (λ (h : List ℕ × List ℕ × List ℕ). playOf (h .0) (h .1)) (beside heardValues) (λ h. (h .0, h .2))
-    (λ h. playList (h .0) (h .1)) ((TABLE ∷ []) ++ readNumbers ++ (STREAM ∷ []))
+    (λ h. playList (h .0) (h .1)) ((TABLE ∷ []) ++ readNumbers ++ (PAD ∷ STREAM ∷ []))
 
 abbrev pub forPlayRun : CallForC
 forPlayRun =
@@ -195,7 +211,7 @@ forHeldWords =
 
 abbrev pub forIdentity : CallForC
 forIdentity =
-    tells (λ (h : List ℕ × ℕ × ℕ × ℕ). identityOf (h .0) (h .1)) identityValues (λ h. (h .2, h .3))
+    tells (λ (h : List ℕ × ℕ × ℕ × ℕ × ℕ). identityOf (h .0) (h .1)) identityValues (λ h. (h .2, h .3, h .4))
     (λ h. streamNumberList (h .0) (h .1)) (TABLE ∷ STREAM ∷ [])
 
 abbrev pub forCounts : CallForC
@@ -217,7 +233,7 @@ forChanged =
 
 abbrev pub callsForC : List {1} CallForC
 callsForC =
-    forRead ∷ forWrite ∷ forTrailerParts ∷ forTrailerWord ∷ forFieldCount ∷ forCheckBody ∷ forFind
+    forRead ∷ forReadSurvey ∷ forWrite ∷ forWriteSurvey ∷ forTrailerParts ∷ forTrailerWord ∷ forFieldCount ∷ forCheckBody ∷ forFind
     ∷ forUnpack ∷ forPack ∷ forWordsNeeded ∷ forCoordinatesOf ∷ forItemAt ∷ forSigned
     ∷ forStart ∷ forWellMade ∷ forPlay ∷ forPlayRun
     ∷ forPageLength ∷ forSave ∷ forPutBack

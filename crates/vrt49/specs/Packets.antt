@@ -1,14 +1,15 @@
 -- Packets, trailers and the fields of a body: the values of each answer in the order of include/vrt49.h, and a packet's parts as words.
-use Rattle.words.specs.Kit.{ℕ, _/_, _%_, _^_, Bool, not, List, [], _∷_, _++_, ltb, length, getD}
+use Rattle.words.specs.Kit.{ℕ, _/_, _%_, _^_, Bool, true, false, not, List, [], _∷_, _++_, ltb, length, getD}
 use Rattle.words.specs.Numbers.{TYPE, VALUE}
-use Rattle.words.specs.Tests.{when, either}
+use Rattle.words.specs.Tests.{when, both, either}
 use Rattle.words.specs.Outcome.{Outcome, accepted, Done}
-use Rattle.words.specs.Refusals.{Refusals, firstGiven}
+use Rattle.words.specs.Refusals.{Refusals, firstGiven, onlyWhere}
 use Rattle.packet.specs.declared.Packet.{Packet}
+use Rattle.packet.specs.declared.Survey.{Survey}
 use Rattle.packet.specs.Read.{bodyList}
 use Rattle.packet_trailer.specs.declared.Trailer.{Trailer}
 use Rattle.packet_write.specs.AsWords.{partsIn}
-use Rattle.packet_write.specs.Write.{sizeFor, partsFit, measureList, roomList, writtenDone}
+use Rattle.packet_write.specs.Write.{sizeFor, partsFit, padFits, governs, padFor, measureList, padList, roomList, writtenDone}
 
 -- ---- the values
 
@@ -20,6 +21,10 @@ packetValues p =
     ∷ p .size
     ∷ p .parts .identifier ∷ p .parts .oui ∷ p .parts .information ∷ p .parts .code ∷ p .parts .seconds
     ∷ p .parts .fraction / 2 ^ 32 ∷ p .parts .fraction % 2 ^ 32 ∷ p .place ∷ p .length ∷ p .parts .trailer ∷ []
+
+-- those of a packet; then the pad count, the two words of the payload's format, and its items
+abbrev pub surveyValues : Survey → List ℕ
+surveyValues s = packetValues (s .packet) ++ (s .pad ∷ s .first ∷ s .second ∷ s .items ∷ [])
 
 -- enables, indicators, E, associated count
 abbrev pub trailerValues : Trailer → List ℕ
@@ -43,7 +48,21 @@ wordsList ws = (TYPE, ltb 5 (getD ws 0 0)) ∷ (VALUE, flagsOver ws) ∷ []
 unfoldable pub wordsChecks : List ℕ → Outcome Unit
 wordsChecks ws = firstGiven (wordsList ws) (accepted tt)
 
--- "Write: TYPE, VALUE, SHORT, SIZE, TIME, INDICATOR, LAYOUT, FIELD, ROOM": as `writeList` has them, and VALUE of the flags too
+-- "Write: TYPE, VALUE, SHORT, SIZE, TIME, INDICATOR, LAYOUT, FIELD, ROOM": as `writeListBy` has them, PAD of 49A among them, and VALUE of the flags too
+abbrev pub writeWordsListBy : (survey : Bool) → ℕ → List ℕ → List ℕ → ℕ → ℕ → Refusals
+writeWordsListBy survey pad ws body room at =
+    let p = partsIn ws in
+    let n = length body in
+    ((TYPE, ltb 5 (p .kind)) ∷ (VALUE, either (flagsOver ws) (not (both (padFits survey pad p) (partsFit p)))) ∷ [])
+    ++ measureList p n ++ bodyList (p .kind) body ++ onlyWhere (governs survey p) (padList pad p body) ++ roomList room at (sizeFor p n)
+
+-- what writing a packet whose parts are words answers and leaves
+unfoldable pub writeWordsBy : (survey : Bool) → ℕ → List ℕ → List ℕ → List ℕ → ℕ → Outcome (Done ℕ (List ℕ))
+writeWordsBy survey pad ws body out at =
+    let p = partsIn ws in
+    firstGiven (writeWordsListBy survey pad ws body (length out) at) (accepted (writtenDone (padFor survey pad p) p body out at))
+
+-- plain 49.0: no pad count, and no PAD
 abbrev pub writeWordsList : List ℕ → List ℕ → ℕ → ℕ → Refusals
 writeWordsList ws body room at =
     let p = partsIn ws in
@@ -51,6 +70,15 @@ writeWordsList ws body room at =
     ((TYPE, ltb 5 (p .kind)) ∷ (VALUE, either (flagsOver ws) (not (partsFit p))) ∷ [])
     ++ measureList p n ++ bodyList (p .kind) body ++ roomList room at (sizeFor p n)
 
--- what writing a packet whose parts are words answers and leaves
-unfoldable pub writeWordsOf : List ℕ → List ℕ → List ℕ → ℕ → Outcome (Done ℕ (List ℕ))
-writeWordsOf ws body out at = firstGiven (writeWordsList ws body (length out) at) (accepted (writtenDone (partsIn ws) body out at))
+abbrev pub writeWordsOf : List ℕ → List ℕ → List ℕ → ℕ → Outcome (Done ℕ (List ℕ))
+writeWordsOf ws body out at = writeWordsBy false 0 ws body out at
+
+-- 49A: the pad count is a sixteenth word
+abbrev pub padIn : List ℕ → ℕ
+padIn ws = getD ws 15 0
+
+abbrev pub writeSurveyWordsList : List ℕ → List ℕ → ℕ → ℕ → Refusals
+writeSurveyWordsList ws body room at = writeWordsListBy true (padIn ws) ws body room at
+
+abbrev pub writeSurveyWordsOf : List ℕ → List ℕ → List ℕ → ℕ → Outcome (Done ℕ (List ℕ))
+writeSurveyWordsOf ws body out at = writeWordsBy true (padIn ws) ws body out at

@@ -3,9 +3,9 @@ use Rattle.words.specs.Kit.{ℕ, List, [], _∷_}
 use Rattle.panel_streams.specs.Identity.{Declared}
 use Rattle.panel_streams.specs.TypeCounts.{Count, started, notStarted}
 
--- the identifier, and the held indicator
-abbrev pub identityValues : Declared → ℕ × ℕ
-identityValues d = (d .identifier, d .held)
+-- the identifier, the choice, and the held indicator
+abbrev pub identityValues : Declared → ℕ × ℕ × ℕ
+identityValues d = (d .identifier, d .choice, d .held)
 
 -- four zeros where the type has not started; else 1, seen, missing and last
 abbrev pub countValues : Count → List ℕ

@@ -1,15 +1,16 @@
 // Packets, trailers and the fields of a body.
-ghost use Rattle.words.specs.Kit.{_≡_, _+_, _≤_, length};
+ghost use Rattle.words.specs.Kit.{_≡_, _+_, _^_, _≤_, _<_, length};
 ghost use Rattle.words.specs.Outcome.{accepted, checked, measured, Meets};
 ghost use Rattle.fields.specs.Layout.{fieldCount, foundOf, contextOf};
 ghost use Rattle.packet.specs.Read.{readOf};
+ghost use Rattle.packet.specs.Survey.{readSurveyOf};
 ghost use Rattle.packet_trailer.specs.Trailer.{trailerOf, trailerWordOf};
 ghost use Rattle.vrt49.specs.Answers.{Tells, plain, beside};
-ghost use Rattle.vrt49.specs.Packets.{packetValues, trailerValues, foundValues, wordsChecks, writeWordsOf};
+ghost use Rattle.vrt49.specs.Packets.{packetValues, surveyValues, trailerValues, foundValues, wordsChecks, writeWordsOf, writeSurveyWordsOf};
 
 // What reading says of a packet, as words.
 fn packet_words(p: packet::Packet) -> [u32; 18]
-    requires { ⌜ (p .size ≤ 65535) × (p .place + p .length ≤ p .size) ⌝ }
+    requires { ⌜ (p .size < 2 ^ 16) × (p .place + p .length ≤ p .size) ⌝ }
     ensures { λ r. ⌜ r ≡ packetValues p ⌝ }
 {
     let parts = p.parts;
@@ -49,9 +50,38 @@ pub extern "C" fn vrt49_read(words: &[u32], answer: &mut [u32; 18]) -> u32
     }
 }
 
+// What reading says of a survey packet, as words: those of the packet, and four more.
+fn survey_words(s: packet::Survey) -> [u32; 22]
+    requires { ⌜ (s .packet .size < 2 ^ 16) × (s .packet .place + s .packet .length ≤ s .packet .size) ⌝ }
+    ensures { λ r. ⌜ r ≡ surveyValues s ⌝ }
+{
+    let mut values = [0; 22];
+    words::inner::copy_part(&mut values, 0, &packet_words(s.packet), 0, 18);
+    values[18] = s.pad;
+    values[19] = s.first;
+    values[20] = s.second;
+    values[21] = s.items;
+    values
+}
+
+// Reads the packet at the front of the words as 49A; answers what reading refuses, 1 to 10, and PAD. Twenty-two values: those of `vrt49_read`, the pad count,
+// the two words of the payload's format, and its items; these four are zero of a type other than 1.
+#[no_mangle]
+pub extern "C" fn vrt49_read_survey(words: &[u32], answer: &mut [u32; 22]) -> u32
+    ensures { λ r. ⌜ Tells surveyValues (readSurveyOf (now (words .entry))) (now (answer .entry)) r (now (answer .exit)) ⌝ }
+{
+    match packet::read_survey(words) {
+        packet::ParsedSurvey::Refused(n) => n,
+        packet::ParsedSurvey::Accepted(s) => {
+            *answer = survey_words(s);
+            0
+        }
+    }
+}
+
 // TYPE and VALUE, of the words that give the parts of a packet.
 fn check_words(parts: &[u32]) -> words::Check
-    requires { ⌜ length (now parts) ≡ 15 ⌝ }
+    requires { ⌜ 15 ≤ length (now parts) ⌝ }
     ensures { λ r. ⌜ checked r ≡ wordsChecks (now (parts .entry)) ⌝ }
 {
     if 5 < parts[0] {
@@ -93,6 +123,32 @@ pub extern "C" fn vrt49_write(
     ensures { λ r. ⌜ Tells (beside plain) (writeWordsOf (now (parts .entry)) (now (body .entry)) (now (out .entry)) at) (now (out .entry), now (length .entry)) r (now (out .exit), now (length .exit)) ⌝ }
 {
     crate::answers::give_length(write_words(parts, body, out, at), length)
+}
+
+// Writes a packet as 49A, whose parts are words, the pad count the last of them.
+fn write_survey_words(parts: &[u32], body: &[u32], out: &mut [u32], at: usize) -> words::Length
+    requires { ⌜ length (now parts) ≡ 16 ⌝ }
+    ensures { λ r. ⌜ Meets measured (writeSurveyWordsOf (now (parts .entry)) (now (body .entry)) (now (out .entry)) at) (now (out .entry)) r (now (out .exit)) ⌝ }
+{
+    let checked = check_words(parts);
+    if let words::Check::Refused(n) = checked {
+        return words::Length::Refused(n);
+    }
+    packet_write::inner::write_survey_parts(parts, body, out, at)
+}
+
+// Writes a packet as 49A from a word of a buffer on; answers what writing refuses, PAD among it. `length` takes the words written.
+#[no_mangle]
+pub extern "C" fn vrt49_write_survey(
+    parts: &[u32; 16],
+    body: &[u32],
+    out: &mut [u32],
+    at: usize,
+    length: &mut usize,
+) -> u32
+    ensures { λ r. ⌜ Tells (beside plain) (writeSurveyWordsOf (now (parts .entry)) (now (body .entry)) (now (out .entry)) at) (now (out .entry), now (length .entry)) r (now (out .exit), now (length .exit)) ⌝ }
+{
+    crate::answers::give_length(write_survey_words(parts, body, out, at), length)
 }
 
 // A trailer word's parts; nothing is refused. Four values.

@@ -6,23 +6,26 @@ ghost use Rattle.panel_streams.specs.Changed.{changedOf};
 ghost use Rattle.vrt49.specs.Answers.{Tells, plain, beside};
 ghost use Rattle.vrt49.specs.Streams.{identityValues, countValues};
 
-// The identifier of a stream, and its held indicator; answers TABLE or STREAM.
+// The identifier of a stream, its choice, and its held indicator; answers TABLE or STREAM.
 #[no_mangle]
 pub extern "C" fn vrt49_identity(
     table: &[u32],
     stream: usize,
     identifier: &mut u32,
+    choice: &mut u32,
     held: &mut u32,
 ) -> u32
-    ensures { λ r. ⌜ Tells identityValues (identityOf (now (table .entry)) stream) (now (identifier .entry), now (held .entry)) r (now (identifier .exit), now (held .exit)) ⌝ }
+    ensures { λ r. ⌜ Tells identityValues (identityOf (now (table .entry)) stream) (now (identifier .entry), now (choice .entry), now (held .entry)) r (now (identifier .exit), now (choice .exit), now (held .exit)) ⌝ }
 {
     match panel_streams::identity(table, stream) {
         panel_streams::Identity::Refused(n) => n,
         panel_streams::Identity::Declared {
             identifier: i,
+            choice: c,
             held: h,
         } => {
             *identifier = i;
+            *choice = c;
             *held = h;
             0
         }

@@ -1,5 +1,5 @@
 // Tables of streams: started, tested, and played on.
-ghost use Rattle.words.specs.Kit.{_≡_, _≤_};
+ghost use Rattle.words.specs.Kit.{_≡_, _^_, _≤_, _<_};
 ghost use Rattle.words.specs.Tests.{when};
 ghost use Rattle.table.specs.Start.{startOf};
 ghost use Rattle.table.specs.Well.{wellMade};
@@ -8,12 +8,17 @@ ghost use Rattle.play.specs.Run.{runOf};
 ghost use Rattle.vrt49.specs.Answers.{Tells, plain, beside};
 ghost use Rattle.vrt49.specs.Tables.{heardValues, reachedValues};
 
-// Starts a table for identifiers; answers LIST or ROOM. `length` takes the layout's words.
+// Starts a table for identifiers and their choices; answers LIST or ROOM. `length` takes the layout's words.
 #[no_mangle]
-pub extern "C" fn vrt49_start(ids: &[u32], table: &mut [u32], length: &mut usize) -> u32
-    ensures { λ r. ⌜ Tells (beside plain) (startOf (now (ids .entry)) (now (table .entry))) (now (table .entry), now (length .entry)) r (now (table .exit), now (length .exit)) ⌝ }
+pub extern "C" fn vrt49_start(
+    ids: &[u32],
+    choices: &[u32],
+    table: &mut [u32],
+    length: &mut usize,
+) -> u32
+    ensures { λ r. ⌜ Tells (beside plain) (startOf (now (ids .entry)) (now (choices .entry)) (now (table .entry))) (now (table .entry), now (length .entry)) r (now (table .exit), now (length .exit)) ⌝ }
 {
-    crate::answers::give_length(table::start(ids, table), length)
+    crate::answers::give_length(table::start(ids, choices, table), length)
 }
 
 // Whether a table is well made: 1 or 0.
@@ -26,7 +31,7 @@ pub extern "C" fn vrt49_well_made(table: &[u32]) -> u32
 
 // What playing says of a packet, as words.
 fn heard_words(h: play::Heard) -> [u32; 4]
-    requires { ⌜ (h .size ≤ 65535) × (h .stream ≤ 31) ⌝ }
+    requires { ⌜ (h .size < 2 ^ 16) × (h .stream ≤ 31) ⌝ }
     ensures { λ r. ⌜ r ≡ heardValues h ⌝ }
 {
     [h.size as u32, h.kind, h.stream as u32, h.missing]

@@ -82,14 +82,19 @@ fn refuse_list() -> usize {
     0
 }
 
-// Starts a table for the S identifiers behind word 0, and walks the packets after them. Gives the place where the walk stops.
+// Starts a table for the S identifiers behind word 0, each with the choice of plain 49.0, and walks the packets after them. Gives the place where the walk
+// stops. A list has at most 32 identifiers.
 fn play_packets(table: &mut [u32], ws: &[u32], s: u32) -> usize {
     let streams = s as usize;
     if ws.len() <= streams {
         return refuse_list();
     }
+    if 32 < streams {
+        return refuse_list();
+    }
+    let plain = [0u32; 32];
     let first = 1 + streams;
-    match table::start(&ws[1..first], table) {
+    match table::start(&ws[1..first], &plain[0..streams], table) {
         Length::Accepted(_) => walk(table, ws, first),
         Length::Refused(_) => refuse_list(),
     }
@@ -100,7 +105,7 @@ fn play_words(ws: &[u32]) -> usize {
     if ws.len() == 0 {
         return refuse_list();
     }
-    let mut space = [0u32; 2817];
+    let mut space = [0u32; 2849];
     let table: &mut [u32] = &mut space;
     play_packets(table, ws, ws[0])
 }

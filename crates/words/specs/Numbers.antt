@@ -1,4 +1,5 @@
--- The numbers of document 01's table 'Numbers given back', under their names there. src/numbers.rt has them for code, each with its sentence.
+-- The numbers of document 01's table 'Numbers given back', under their names there, and those that document 02 adds. src/numbers.rt has them for code, each
+-- with its sentence.
 use Prim.Native.Nat.{ℕ}
 
 abbrev pub EMPTY : ℕ
@@ -57,3 +58,6 @@ TABLE = 18
 
 abbrev pub PAGE : ℕ
 PAGE = 19
+
+abbrev pub PAD : ℕ
+PAD = 20

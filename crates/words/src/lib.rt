@@ -12,6 +12,7 @@ pub use numbers::FORMAT;
 pub use numbers::INDICATOR;
 pub use numbers::LAYOUT;
 pub use numbers::LIST;
+pub use numbers::PAD;
 pub use numbers::PAGE;
 pub use numbers::ROOM;
 pub use numbers::SHORT;

@@ -1,4 +1,4 @@
-// The numbers of document 01's table 'Numbers given back'. Above each stands when it is given.
+// The numbers of document 01's table 'Numbers given back', and those that document 02 adds. Above each stands when it is given.
 
 // No words.
 pub const EMPTY: u32 = 1;
@@ -45,7 +45,7 @@ pub const VALUE: u32 = 14;
 // A packet to be written, or a page, exceeds 65,535 words.
 pub const SIZE: u32 = 15;
 
-// Rule of field 15 broken, repeat not 1, bit 23 set, a processing-efficient field of 33 to 63 bits, or an item width outside 1 to 64.
+// Rule of field 15 broken, a processing-efficient field of 33 to 63 bits, or an item width outside 1 to 64.
 pub const FORMAT: u32 = 16;
 
 // Wrong number of items or words.
@@ -56,3 +56,6 @@ pub const TABLE: u32 = 18;
 
 // Page not well made.
 pub const PAGE: u32 = 19;
+
+// 49A: class or trailer absent, a class that does not fit its table, or a payload that is not padding and whole sample vectors.
+pub const PAD: u32 = 20;

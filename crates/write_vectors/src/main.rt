@@ -1,6 +1,9 @@
-// Runs the cases of standard input with `packet_write::write`, `packet::read` and `packet_trailer::trailer_word`, and writes what they answer and leave.
-// A case begins with a word that says what is asked: 1 to write, 2 to read, write again and read again, 3 to make a trailer word.
+// Runs the cases of standard input with `packet_write::write` and `write_survey`, `packet::read` and `read_survey`, and `packet_trailer::trailer_word`, and
+// writes what they answer and leave. A case begins with a word that says what is asked: 1 to write, 2 to read, write again and read again, 3 to make a trailer
+// word, 4 and 5 as 1 and 2 of a survey packet.
+use packet::Packet;
 use packet::Parsed;
+use packet::ParsedSurvey;
 use packet::Parts;
 use packet_trailer::TrailerWord;
 use words::Length;
@@ -17,6 +20,12 @@ fn show_buffer(ws: &[u32]) {
     lines::inner::text(b"\n");
 }
 
+// The line of a refusal.
+fn show_refused(n: u32) {
+    lines::inner::named(b"refused", n as u64);
+    lines::inner::text(b"\n");
+}
+
 // The line of what was answered; whether it was accepted.
 fn show_written(answer: Length) -> bool {
     match answer {
@@ -26,8 +35,7 @@ fn show_written(answer: Length) -> bool {
             true
         }
         Length::Refused(n) => {
-            lines::inner::named(b"refused", n as u64);
-            lines::inner::text(b"\n");
+            show_refused(n);
             false
         }
     }
@@ -68,29 +76,68 @@ fn next_parts() -> Parts {
     }
 }
 
-// Writes some parts and a body at a place of a buffer, and shows the answer and the buffer; whether it was accepted.
-fn write(parts: Parts, body: &[u32], out: &mut [u32], at: usize) -> bool {
+// The pad count of the next case, where it is a survey packet.
+fn next_pad(survey: bool) -> u32 {
+    if survey { lines::inner::word() } else { 0 }
+}
+
+// Writes some parts and a body at a place of a buffer, plainly or as a survey packet.
+fn write_by(
+    survey: bool,
+    parts: Parts,
+    pad: u32,
+    body: &[u32],
+    out: &mut [u32],
+    at: usize,
+) -> Length {
+    if survey {
+        return packet_write::write_survey(parts, pad, body, out, at);
+    }
+    packet_write::write(parts, body, out, at)
+}
+
+// The same, and shows the answer and the buffer; whether it was accepted.
+fn write(survey: bool, parts: Parts, pad: u32, body: &[u32], out: &mut [u32], at: usize) -> bool {
     lines::inner::pattern(out);
-    let written = show_written(packet_write::write(parts, body, out, at));
+    let written = show_written(write_by(survey, parts, pad, body, out, at));
     show_buffer(out);
     written
 }
 
-// Shows the packet at a place of a buffer.
-fn show_again(ws: &[u32], at: usize) {
-    if ws.len() < at {
-        return;
-    }
-    let answer = packet::read(&ws[at..]);
+// Shows the packet at the front of the words, where it is accepted.
+fn show_plain(ws: &[u32]) {
+    let answer = packet::read(ws);
     if let Parsed::Accepted(p) = answer {
         lines::inner::text(b" ");
         lines::inner::show_packet(p);
     }
 }
 
+// The same of a survey packet.
+fn show_survey(ws: &[u32]) {
+    let answer = packet::read_survey(ws);
+    if let ParsedSurvey::Accepted(s) = answer {
+        lines::inner::text(b" ");
+        lines::inner::show_survey(s);
+    }
+}
+
+// Shows the packet at a place of a buffer.
+fn show_again(survey: bool, ws: &[u32], at: usize) {
+    if ws.len() < at {
+        return;
+    }
+    if survey {
+        show_survey(&ws[at..]);
+    } else {
+        show_plain(&ws[at..]);
+    }
+}
+
 // A case that writes.
-fn write_case(body: &mut [u32], out: &mut [u32]) {
+fn write_case(survey: bool, body: &mut [u32], out: &mut [u32]) {
     let parts = next_parts();
+    let pad = next_pad(survey);
     let at = lines::inner::word() as usize;
     let room = lines::inner::word() as usize;
     let n = lines::inner::word() as usize;
@@ -101,35 +148,45 @@ fn write_case(body: &mut [u32], out: &mut [u32]) {
         return;
     }
     lines::inner::fill(&mut body[0..n]);
-    write(parts, &body[0..n], &mut out[0..room], at);
+    write(survey, parts, pad, &body[0..n], &mut out[0..room], at);
 }
 
 // A packet that was read, written again at a place of a buffer and read again.
-fn write_again(answer: Parsed, ws: &[u32], out: &mut [u32], at: usize) {
+fn write_again(survey: bool, p: Packet, pad: u32, ws: &[u32], out: &mut [u32], at: usize) {
+    let body = p.place;
+    let length = p.length;
+    if ws.len() < body {
+        return;
+    }
+    if ws.len() - body < length {
+        return;
+    }
+    let end = body + length;
+    if write(survey, p.parts, pad, &ws[body..end], out, at) {
+        show_again(survey, out, at);
+    }
+}
+
+// Words that are read plainly, and written and read again.
+fn plain_again(ws: &[u32], out: &mut [u32], at: usize) {
+    let answer = packet::read(ws);
     match answer {
-        Parsed::Refused(n) => {
-            lines::inner::named(b"refused", n as u64);
-            lines::inner::text(b"\n");
-        }
-        Parsed::Accepted(p) => {
-            let body = p.place;
-            let length = p.length;
-            if ws.len() < body {
-                return;
-            }
-            if ws.len() - body < length {
-                return;
-            }
-            let end = body + length;
-            if write(p.parts, &ws[body..end], out, at) {
-                show_again(out, at);
-            }
-        }
+        Parsed::Refused(n) => show_refused(n),
+        Parsed::Accepted(p) => write_again(false, p, 0, ws, out, at),
+    }
+}
+
+// The same as a survey packet.
+fn survey_again(ws: &[u32], out: &mut [u32], at: usize) {
+    let answer = packet::read_survey(ws);
+    match answer {
+        ParsedSurvey::Refused(n) => show_refused(n),
+        ParsedSurvey::Accepted(s) => write_again(true, s.packet, s.pad, ws, out, at),
     }
 }
 
 // A case that reads, writes again and reads again.
-fn again_case(ws: &mut [u32], out: &mut [u32]) {
+fn again_case(survey: bool, ws: &mut [u32], out: &mut [u32]) {
     let at = lines::inner::word() as usize;
     let room = lines::inner::word() as usize;
     let n = lines::inner::word() as usize;
@@ -140,8 +197,11 @@ fn again_case(ws: &mut [u32], out: &mut [u32]) {
         return;
     }
     lines::inner::fill(&mut ws[0..n]);
-    let given = &ws[0..n];
-    write_again(packet::read(given), given, &mut out[0..room], at);
+    if survey {
+        survey_again(&ws[0..n], &mut out[0..room], at);
+    } else {
+        plain_again(&ws[0..n], &mut out[0..room], at);
+    }
 }
 
 // A case that makes a trailer word.
@@ -166,11 +226,15 @@ fn one_case(k: u64, ws: &mut [u32], out: &mut [u32]) -> bool {
     };
     lines::inner::number(k);
     if op == 1 {
-        write_case(ws, out);
+        write_case(false, ws, out);
     } else if op == 2 {
-        again_case(ws, out);
-    } else {
+        again_case(false, ws, out);
+    } else if op == 3 {
         trailer_case();
+    } else if op == 4 {
+        write_case(true, ws, out);
+    } else {
+        again_case(true, ws, out);
     }
     true
 }

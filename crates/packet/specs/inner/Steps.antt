@@ -1,9 +1,12 @@
--- What each step of reading finds. That the steps, one after the other, find what reading answers say `headed-checks` and `read-front` of
--- `proofs/FrontLaws.antt`.
-use Rattle.words.specs.Kit.{ℕ, Bool, List, _++_, length, getD}
+-- What each step of reading finds. That the steps, one after the other, find what reading answers says `proofs/FrontLaws.antt`.
+use Rattle.words.specs.Kit.{ℕ, Bool, true, List, [], _∷_, _++_, getD}
+use Rattle.words.specs.Numbers.{PAD}
 use Rattle.words.specs.Outcome.{Outcome, accepted}
-use Rattle.words.specs.Refusals.{firstGiven}
-use Rattle.packet.specs.Read.{headerList, sizeList, prologueList, bodyList, frontList}
+use Rattle.words.specs.Refusals.{Refusals, firstGiven, onlyWhere}
+use Rattle.packet_survey.specs.Payload.{padBad}
+use Rattle.packet.specs.Header.{typeOf, classed, trailed}
+use Rattle.packet.specs.Parts.{bodyLength, bodyOf}
+use Rattle.packet.specs.Read.{headerList, sizeList, prologueList, bodyList, sizedList, governed, padList}
 
 -- of a header, a size, a prologue and a body
 unfoldable pub headerChecks : ℕ → Outcome Unit
@@ -18,9 +21,25 @@ prologueChecks free w ws = firstGiven (prologueList free w ws) (accepted tt)
 unfoldable pub bodyChecks : ℕ → List ℕ → Outcome Unit
 bodyChecks kind body = firstGiven (bodyList kind body) (accepted tt)
 
--- before the body is looked at, of words whose header is w, and of words as they are handed in
-unfoldable pub headedChecks : (free : Bool) → ℕ → List ℕ → Outcome Unit
-headedChecks free w ws = firstGiven (headerList w ++ sizeList w (length ws) ++ prologueList free w ws) (accepted tt)
+-- of words as they are handed in, before the prologue is looked at
+unfoldable pub sizedChecks : List ℕ → Outcome Unit
+sizedChecks ws = firstGiven (sizedList (getD ws 0 0) ws) (accepted tt)
 
-unfoldable pub frontChecks : (free : Bool) → List ℕ → Outcome Unit
-frontChecks free ws = firstGiven (frontList free (getD ws 0 0) ws) (accepted tt)
+-- of a packet that 49A governs, or does not
+unfoldable pub padChecks : (survey : Bool) → ℕ → List ℕ → Outcome Unit
+padChecks survey w ws = firstGiven (onlyWhere (governed survey w) (padList w ws)) (accepted tt)
+
+-- of the class's words, the trailer and the payload of a packet that it governs
+unfoldable pub payloadChecks : (w high low : ℕ) → Outcome Unit
+payloadChecks w high low = firstGiven ((PAD, padBad (classed w) (trailed w) high low (bodyLength w)) ∷ []) (accepted tt)
+
+-- and of its prologue before
+unfoldable pub governedChecks : ℕ → List ℕ → Outcome Unit
+governedChecks w ws = firstGiven (prologueList true w ws ++ padList w ws) (accepted tt)
+
+-- of a packet whose header and size are right: what is left of reading
+abbrev pub restList : (survey : Bool) → ℕ → List ℕ → Refusals
+restList survey w ws = prologueList (governed survey w) w ws ++ bodyList (typeOf w) (bodyOf w ws) ++ onlyWhere (governed survey w) (padList w ws)
+
+unfoldable pub restChecks : (survey : Bool) → ℕ → List ℕ → Outcome Unit
+restChecks survey w ws = firstGiven (restList survey w ws) (accepted tt)

@@ -4,10 +4,10 @@ use Rattle.page_vectors.proofs.main.Statement.{statement}
 use Rattle.page_vectors.proofs.main.Tie as tie
 
 abbrev Inv-loop : tie.InvT-loop
-Inv-loop ids₀ table₀ second₀ page₀ words₀ k₀ ids table second page words k = k ≤ 4294967295
+Inv-loop list₀ table₀ second₀ page₀ words₀ k₀ list table second page words k = k ≤ 4294967295
 
 abbrev μ-loop : tie.MeasureT-loop
-μ-loop ids₀ table₀ second₀ page₀ words₀ k₀ ids table second page words k = 4294967295 - k
+μ-loop list₀ table₀ second₀ page₀ words₀ k₀ list table second page words k = 4294967295 - k
 
 pub main-spec : {M : Type 1} → statement M
 main-spec =

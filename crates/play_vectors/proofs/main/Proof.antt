@@ -4,14 +4,14 @@ use Rattle.play_vectors.proofs.main.Statement.{statement}
 use Rattle.play_vectors.proofs.main.Tie as tie
 
 abbrev Inv-loop : tie.InvT-loop
-Inv-loop table₀ ids₀ words₀ k₀ table ids words k = k ≤ 4294967295
+Inv-loop table₀ ids₀ choices₀ words₀ k₀ table ids choices words k = k ≤ 4294967295
 
 abbrev μ-loop : tie.MeasureT-loop
-μ-loop table₀ ids₀ words₀ k₀ table ids words k = 4294967295 - k
+μ-loop table₀ ids₀ choices₀ words₀ k₀ table ids choices words k = 4294967295 - k
 
 pub main-spec : {M : Type 1} → statement M
 main-spec =
     tie.close
     (tie.spec
-    Inv-loop μ-loop (λ c. search needs) (λ c. search needs) (λ c. search needs) (λ c. search needs) (λ c κs. search needs) (λ c. search needs)
-    (λ c. search needs) (λ c. search needs) (λ c. search needs) (λ c. search needs))
+    Inv-loop μ-loop (λ c. search needs) (λ c. search needs) (λ c. search needs) (λ c. search needs) (λ c. search needs) (λ c κs. search needs)
+    (λ c. search needs) (λ c. search needs) (λ c. search needs) (λ c. search needs) (λ c. search needs))

@@ -1,12 +1,13 @@
 // Whether a record is good: a function for each rule, with one loop at most.
 ghost use Rattle.words.specs.Kit.{_≡_, true, [], _∷_, _+_, _≤_, _<_, length};
-ghost use Rattle.words.specs.Tests.{both, among};
+ghost use Rattle.words.specs.Tests.{among};
 ghost use Rattle.words.specs.Part.{part};
 ghost use Rattle.words.specs.All.{all, tabled};
 ghost use Rattle.fields.specs.Sizes.{fieldSize};
 ghost use Rattle.record.specs.Held.{slotted, slotAt};
-ghost use Rattle.record.specs.Layout.{headWords, recordWords, heldOf, countWords, lastOf};
+ghost use Rattle.record.specs.Layout.{headWords, recordWords};
 ghost use Rattle.record.specs.Good.{zeros, countGood, countGoodAt, heldGood, heldRule, slotGood, recordGood};
+ghost use Rattle.record.specs.inner.Head.{headGood};
 
 // Whether the two words from a place on are zero.
 fn two_zero(ws: &[u32], at: usize) -> bool
@@ -145,11 +146,14 @@ fn slots_good(rec: &[u32]) -> bool
     true
 }
 
-// Whether the words before the slots are good, of a record or of a body: the held indicator, and the counts.
+// Whether the words before the slots are good, of a record or of a body: the choice, the held indicator, and the counts.
 pub fn head_good(rec: &[u32]) -> bool
     requires { ⌜ headWords ≤ length (now rec) ⌝ }
-    ensures { λ r. ⌜ r ≡ both (heldGood (heldOf (now (rec .entry))) (lastOf (countWords 2 (now (rec .entry))))) (all 4 (countGoodAt (now (rec .entry)))) ⌝ }
+    ensures { λ r. ⌜ r ≡ headGood (now (rec .entry)) ⌝ }
 {
+    if 1 < rec[crate::inner::CHOICE_AT] {
+        return false;
+    }
     let context = crate::inner::counts::count_at(crate::inner::counts::CONTEXT_ORDER);
     let last = rec[context + crate::inner::counts::LAST];
     if !held_good(rec[crate::inner::HELD_AT], last) {

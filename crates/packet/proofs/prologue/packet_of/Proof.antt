@@ -7,10 +7,11 @@ use Rattle.packet.proofs.prologue.packet_of.Tie as tie
 returns : tie.Need-returns
 unfolding packetOf
 returns c =
-    let b = c .before .before in
-    let long : c .body-end .result - b .body-at .result ≡ bodyLength (b .before .before .before .args .w) = omega
-    (arith, c .body-end .ensures, b .body-at .ensures .0) in
-    rw (long, b .body-at .ensures .0, c .before .size-of .ensures .0, b .before .parts-of .ensures)
+    let at : tie.After-body-at = search in
+    let till : tie.After-body-end = search in
+    let long : till .body-end .result - at .body-at .result ≡ bodyLength (at .before .before .args .w) = omega
+    (arith, till .body-end .ensures, at .body-at .ensures .0) in
+    cc
 
 pub packet-of-spec : {M : Type 1} → statement M
 packet-of-spec =

@@ -27,6 +27,5 @@ parts-of-spec =
     tie.close
     (tie.spec
     (λ c κs. search needs) (λ c κs. search needs) (λ c κs. search needs) (λ c κs. search needs) (λ c κs. search needs) (λ c κs. search needs)
-    (λ c κs. search needs) (λ c κs. search needs) (λ c κs. search needs) (λ c κs. search needs) (λ c κs. search needs) (λ c κs. search needs)
-    (λ c κs. search seconds-there) (λ c κs. search needs) (λ c κs. search needs) (λ c κs. search needs) (λ c. search size-some)
-    (λ c κs. search trailer-there) returns)
+    (λ c κs. search needs) (λ c κs. search needs) (λ c κs. search needs) (λ c κs. search needs) (λ c κs. search seconds-there) (λ c κs. search needs)
+    (λ c κs. search needs) (λ c κs. search needs) (λ c. search size-some) (λ c κs. search trailer-there) returns)

@@ -12,7 +12,7 @@ use Rattle.packet.specs.Read.{timeOver}
 use Rattle.packet.specs.declared.Parts.{Parts}
 use Rattle.packet_write.specs.Write.{headerWord, sizeFor}
 use Rattle.packet_write.specs.AsWords.{partsIn}
-use Rattle.packet_write.specs.inner.Given.{contentChecks}
+use Rattle.packet_write.specs.inner.Steps.{contentChecks}
 use Rattle.packet_write.proofs.HeaderLaws.{short-is}
 use Rattle.packet_write.proofs.fit.check_content.Statement.{statement}
 use Rattle.packet_write.proofs.fit.check_content.Tie as tie

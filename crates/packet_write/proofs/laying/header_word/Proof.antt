@@ -6,7 +6,7 @@ use Rattle.packet_write.proofs.laying.header_word.Tie as tie
 
 -- no product and no sum is too large
 numbers : (c : tie.Start) → Small (c .args .q .now)
-numbers c = small _ (c .pre .1)
+numbers c = small _ (c .pre .1) (c .pre .2)
 
 pub header-word-spec : {M : Type 1} → statement M
 header-word-spec =

@@ -4,11 +4,11 @@ use Rattle.page_vectors.proofs.resuming.all_cuts.Statement.{statement}
 use Rattle.page_vectors.proofs.resuming.all_cuts.Tie as tie
 
 abbrev Inv-loop : tie.InvT-loop
-Inv-loop ids first₀ page₀ second₀ words packets cuts c₀ first page second c = (c ≤ cuts) × (length first ≡ length first₀)
+Inv-loop list first₀ page₀ second₀ words packets cuts c₀ first page second c = (c ≤ cuts) × (length first ≡ length first₀)
     × (length page ≡ length page₀) × (length second ≡ length second₀)
 
 abbrev μ-loop : tie.MeasureT-loop
-μ-loop ids first₀ page₀ second₀ words packets cuts c₀ first page second c = cuts - c
+μ-loop list first₀ page₀ second₀ words packets cuts c₀ first page second c = cuts - c
 
 pub all-cuts-spec : {M : Type 1} → statement M
 all-cuts-spec =

@@ -1,6 +1,8 @@
--- `enter_context` meets its promise: a packet of no stream of the table is STREAM, and another is counted and its fields are held.
-use Rattle.play.proofs.StreamLaws.{found, found-below, found-few}
-use Rattle.play.proofs.EntryLaws.{entered-unsought, entered-heard}
+-- `enter_context` meets its promise: what reading refuses is given, then a packet of no stream of the table is STREAM, and another is counted and its fields
+-- are held.
+use Rattle.play.proofs.StreamLaws.{sized-parts, sized-whole, found, found-below, found-few}
+use Rattle.play.proofs.CheckedLaws.{unread-prologue, unread-body, headed-context}
+use Rattle.play.proofs.EntryLaws.{entered-unread, entered-unsought, entered-heard}
 use borrow.Author.Needs.{needs}
 use Rattle.play.proofs.entries.enter_context.Statement.{statement}
 use Rattle.play.proofs.entries.enter_context.Tie as tie
@@ -9,5 +11,9 @@ pub enter-context-spec : {M : Type 1} → statement M
 enter-context-spec =
     tie.close
     (tie.spec
-    (λ c κs. search needs) (λ c. search needs) (λ c. search needs) (λ c κs. search needs) (λ c κs. search needs) (λ c κs. search needs) (λ c. search needs)
-    (λ c. search entered-unsought) (λ c κs. search found-below) (λ c κs. search found-few) (λ c. search needs) (λ c. search (entered-heard, found)))
+    (λ c κs. search (sized-parts, sized-whole)) (λ c. search needs) (λ c. search needs) (λ c κs. search needs) (λ c κs. search needs)
+    (λ c. search (entered-unread, unread-prologue)) (λ c κs. search (sized-parts, sized-whole)) (λ c. search needs) (λ c. search needs) (λ c κs. search needs)
+    (λ c κs. search needs) (λ c. search (entered-unread, unread-body)) (λ c κs. search needs) (λ c. search needs) (λ c. search needs)
+    (λ c κs. search needs) (λ c κs. search needs) (λ c κs. search needs) (λ c. search needs) (λ c. search (entered-unsought, headed-context))
+    (λ c κs. search (found-below, headed-context)) (λ c κs. search found-few) (λ c. search needs)
+    (λ c. search (entered-heard, found, headed-context)))

@@ -5,14 +5,14 @@ use Rattle.table.proofs.records.write_records.Statement.{statement}
 use Rattle.table.proofs.records.write_records.Tie as tie
 
 abbrev Inv-loop : tie.InvT-loop
-Inv-loop table₀ ids s₀ table s = Starting ids table₀ table s
+Inv-loop table₀ ids choices s₀ table s = Starting ids choices table₀ table s
 
 abbrev μ-loop : tie.MeasureT-loop
-μ-loop table₀ ids s₀ table s = length ids - s
+μ-loop table₀ ids choices s₀ table s = length ids - s
 
 pub write-records-spec : {M : Type 1} → statement M
 write-records-spec =
     tie.close
     (tie.spec
-    Inv-loop μ-loop (λ c. search writing-start) (λ c. search needs) (λ c. search needs) (λ c κs. search needs) (λ c. search needs) (λ c. search needs)
-    (λ c. search writing-turn) (λ c. search) (λ c. search writing-end))
+    Inv-loop μ-loop (λ c. search writing-start) (λ c. search needs) (λ c. search needs) (λ c. search needs) (λ c. search needs) (λ c κs. search needs)
+    (λ c. search needs) (λ c. search needs) (λ c. search writing-turn) (λ c. search) (λ c. search writing-end))

@@ -1,10 +1,9 @@
 -- `vrt49_read` meets its promise: what reading answers.
 use Rattle.words.proofs.Kit.{sym, ap, _∙_, needs, false}
 use Rattle.packet.specs.Read.{parsedPaper}
-use Rattle.packet.proofs.ReadLaws.{body-inside}
+use Rattle.packet.proofs.ReadLaws.{body-inside, size-small}
 use Rattle.vrt49.specs.Packets.{packetValues}
 use Rattle.vrt49.proofs.AnswerLaws.{tells-refused, tells-values}
-use Rattle.vrt49.proofs.SmallLaws.{size-small}
 use Rattle.vrt49.proofs.packets.vrt49_read.Statement.{statement}
 use Rattle.vrt49.proofs.packets.vrt49_read.Tie as tie
 
@@ -12,7 +11,7 @@ packet-words-requires : tie.Need-packet-words-requires
 packet-words-requires c κs =
     let k : tie.After-read = search in
     let e = sym (k .read .ensures) ∙ ap parsedPaper (c .before .p .given .1) in
-    (size-small _ _ e, body-inside false _ _ e)
+    (size-small false _ _ e, body-inside false _ _ e)
 
 returns : tie.Need-returns
 returns c =

@@ -1,4 +1,4 @@
--- `vrt49_identity` meets its promise: the identifier and the held indicator, or the number of the refusal.
+-- `vrt49_identity` meets its promise: the identifier, the choice and the held indicator, or the number of the refusal.
 use Rattle.words.proofs.Kit.{refl, sym, ap, _∙_, needs}
 use Rattle.panel_streams.specs.Identity.{identityPaper}
 use Rattle.vrt49.specs.Streams.{identityValues}

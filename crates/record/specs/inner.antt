@@ -1,0 +1,4 @@
+-- Definitions that only the contracts inside cite.
+
+-- when the words before the slots are good
+pub mod Head
