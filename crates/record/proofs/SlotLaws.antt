@@ -1,7 +1,7 @@
 -- Fields and their slots. The idea: `inOrder` over the set bits of a number lays each bit's words after those of the bits above it; so the
 -- words at a bit's place are its own (`in-order-at`), and words are what stands at the places of their bits (`in-order-parts`). Once over any bits: a
 -- record's slots are the bits of `slotMask`, a page's held words those of a held indicator.
-use Rattle.words.proofs.Kit.{_≡_, refl, sym, ap, _∙_, Bool, true, false, not, ⊎-elim, List, [], _∷_, _++_, ℕ, zero, suc, _+_, _^_, _≤_, _<_, arith}
+use Rattle.words.proofs.Kit.{_≡_, refl, sym, ap, _∙_, Bool, true, false, not, ⊎-elim, List, [], _∷_, _++_, ℕ, zero, suc, _+_, _-_, _^_, _≤_, _<_, arith}
 use Rattle.words.proofs.Kit.{not-true, ne-eqb, le-ltb, eqb, ltb, leb, length, drop, getD}
 use native.Mathlib.Nat.{lt-of-lt-of-le}
 use borrow.Author.Tests.{leb-true}
@@ -15,7 +15,7 @@ use Rattle.words.specs.All.{all, tabled}
 use Rattle.words.proofs.AllLaws.{all-at, tabled-at}
 use Rattle.words.proofs.Cases.{le-or-lt, true-or-false, true-is-false, both-left, both-no, agreed}
 use Rattle.words.proofs.PartLaws.{part-is, part-front, part-past, part-drop}
-use Rattle.words.proofs.SetBitLaws.{has-above, bits-zero, bits-yes, bits-no, bits-split, above-none, above-kept}
+use Rattle.words.proofs.SetBitLaws.{has-above, bits-zero, bits-yes, bits-no, bits-parts, above-none, above-kept}
 use Rattle.fields.specs.Sizes.{fieldSize, sizesOf}
 use Rattle.fields.proofs.SizeLaws.{sizes-none, sizes-more, sizes-append}
 use Rattle.fields.proofs.WalkLaws.{none-left}
@@ -38,10 +38,21 @@ placed-yes k n b e h = ap sizesOf (above-kept (has n k) b k (bitsOf k n) h) ∙ 
 placed-no : (k n b : ℕ) → has n k ≡ false → placed (suc k) n b ≡ placed k n b
 placed-no k n b e = ap (λ (l : List ℕ). sizesOf (above b l)) (bits-no k n e)
 
--- the words of the bits below b stand after b's own
+-- the words of the bits up to b stand after those above it
+pub placed-rest : (k n b : ℕ) → b < k → sizesOf (bitsOf k n) ≡ placed k n b + sizesOf (bitsOf (suc b) n)
+placed-rest k n b h = ap sizesOf (bits-parts k n b h) ∙ sizes-append (above b (bitsOf k n)) (bitsOf (suc b) n)
+
+-- those of the bits below b, after b's own
 pub placed-split : (k n b : ℕ) → b < k → has n b ≡ true → sizesOf (bitsOf k n) ≡ placed k n b + (fieldSize b + sizesOf (bitsOf b n))
 placed-split k n b h e =
-    ap sizesOf (bits-split k n b h e) ∙ sizes-append (above b (bitsOf k n)) (b ∷ bitsOf b n) ∙ ap (λ (m : ℕ). placed k n b + m) (sizes-more b (bitsOf b n))
+    placed-rest k n b h ∙ ap (λ (m : ℕ). placed k n b + m) (ap sizesOf (bits-yes b n e) ∙ sizes-more b (bitsOf b n))
+
+-- a place that runs along: from a bit to the next below it, the words of the one that is passed are added, and nothing where it is not set
+pub placed-past : (k n b : ℕ) → suc b < k → has n (suc b) ≡ true → placed k n b ≡ placed k n (suc b) + fieldSize (suc b)
+placed-past k n b h e = omega (arith, placed-rest k n b (omega arith), placed-split k n (suc b) h e)
+
+pub placed-over : (k n b : ℕ) → suc b < k → has n (suc b) ≡ false → placed k n b ≡ placed k n (suc b)
+placed-over k n b h e = omega (arith, placed-rest k n b (omega arith), placed-rest k n (suc b) h, ap sizesOf (bits-no (suc b) n e))
 
 pub placed-inside : (k n b : ℕ) → b < k → has n b ≡ true → placed k n b + fieldSize b ≤ sizesOf (bitsOf k n)
 placed-inside k n b h e = omega (arith, placed-split k n b h e)
@@ -185,6 +196,18 @@ never-held = held-is 22 (omega arith) ∙ both-no (slotted 22)
 pub slots-whole : sizesOf slotBits ≡ slotWords
 unfolding slotBits slotMask bitsOf sizesOf fieldSize
 slots-whole = refl
+
+-- a place that runs along the slots in field order: it begins with bit 30, and passes a slot by its field's words
+pub slot-first : slotAt 30 ≡ 0
+unfolding slotAt slotBits
+slot-first = placed-first 30 slotMask
+
+pub slot-next : (b slot n : ℕ) → slotted b ≡ true → slot ≡ slotAt b → n ≡ fieldSize b → slot + n ≡ slotAt (b - 1)
+unfolding slotAt slotBits slotted
+slot-next b slot n o e f =
+    let c : suc (b - 1) ≡ b = omega (arith, slotted-low b o) in
+    let past = placed-past 31 slotMask (b - 1) (omega (arith, slotted-high b o)) (rw c o) in
+    omega (arith, rw c at past)
 
 -- the table of places has each slot's, by a test that computes once over the whole table
 abbrev pub slotPlaces : List ℕ

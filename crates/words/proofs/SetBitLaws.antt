@@ -183,16 +183,20 @@ above-agree (suc k) b n m e =
     ))
     (le-or-lt k b)
 
--- a set bit stands in the list after those above it and before those below it
-split-step : (t : Bool) (b k : ℕ) (l tail : List ℕ) → b < k → l ≡ above b l ++ tail → pick t (k ∷ l) l ≡ above b (pick t (k ∷ l) l) ++ tail
-split-step true b k l tail h e = rw (above-kept true b k l h) (ap (λ (m : List ℕ). k ∷ m) e)
-split-step false b k l tail h e = e
+-- the list is those above b, and then those up to b
+parts-step : (t : Bool) (b k : ℕ) (l tail : List ℕ) → b < k → l ≡ above b l ++ tail → pick t (k ∷ l) l ≡ above b (pick t (k ∷ l) l) ++ tail
+parts-step true b k l tail h e = rw (above-kept true b k l h) (ap (λ (m : List ℕ). k ∷ m) e)
+parts-step false b k l tail h e = e
 
-pub bits-split : (k n b : ℕ) → b < k → has n b ≡ true → bitsOf k n ≡ above b (bitsOf k n) ++ (b ∷ bitsOf b n)
+pub bits-parts : (k n b : ℕ) → b < k → bitsOf k n ≡ above b (bitsOf k n) ++ bitsOf (suc b) n
 unfolding bitsOf
-bits-split k n b h e =
-    le-ind (λ (m : ℕ). bitsOf m n ≡ above b (bitsOf m n) ++ (b ∷ bitsOf b n)) (rw (above-none b (suc b) n (omega arith), e))
-    (λ m q f. split-step (has n m) b m (bitsOf m n) (b ∷ bitsOf b n) q f) k h
+bits-parts k n b h =
+    le-ind (λ (m : ℕ). bitsOf m n ≡ above b (bitsOf m n) ++ bitsOf (suc b) n) (rw (above-none b (suc b) n (omega arith)))
+    (λ m q f. parts-step (has n m) b m (bitsOf m n) (bitsOf (suc b) n) q f) k h
+
+-- a set bit stands between those above it and those below it
+pub bits-split : (k n b : ℕ) → b < k → has n b ≡ true → bitsOf k n ≡ above b (bitsOf k n) ++ (b ∷ bitsOf b n)
+bits-split k n b h e = bits-parts k n b h ∙ ap (λ (l : List ℕ). above b (bitsOf k n) ++ l) (bits-yes b n e)
 
 -- a number whose bits up to b are cleared has those above b
 -- (from k > b up it is the number itself, and a multiple of 2 ^ b has no set bit below b)
