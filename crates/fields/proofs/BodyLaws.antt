@@ -1,25 +1,25 @@
 -- What callers use of a type 4 body that is accepted. The idea: the carried bits are those above b, b, and those below it (`bits-split`), so the
 -- words and the rules of all fields are those of the fields before b's, of b's own, and of the rest (`body-split`, `rules-split`).
-use Rattle.words.proofs.Kit.{_≡_, refl, sym, ap, _∙_, Bool, true, false, List, [], _∷_, _++_, ℕ, _+_, _≤_, _<_, arith, eqb-true, not-false, le-ltb}
-use Rattle.words.proofs.Kit.{le-leb, ltb, length, take, drop}
-use native.Mathlib.Nat.{zero-add, add-assoc}
+use Rattle.words.proofs.Kit.{_≡_, refl, sym, ap, _∙_, Bool, true, false, ⊎-elim, List, [], _∷_, _++_, ℕ, zero, suc, _+_, _≤_, _<_, arith}
+use Rattle.words.proofs.Kit.{eqb-true, not-false, le-ltb, le-leb, ltb, length, take, drop}
+use native.Mathlib.Nat.{zero-add, add-zero, add-assoc}
 use borrow.Author.Tests.{ltb-true}
 use lib.ListN.{length-drop}
 use lib.Seq.{drop-drop, length-take-le}
-use Rattle.words.specs.Tests.{pick, both}
+use Rattle.words.specs.Tests.{pick, when, both}
 use Rattle.words.specs.Word.{bits, has}
 use Rattle.words.specs.SetBits.{bitsOf, above}
 use Rattle.words.specs.Outcome.{accepted}
 use Rattle.words.specs.Part.{part}
-use Rattle.words.proofs.Cases.{both-left, both-right, both-assoc}
+use Rattle.words.proofs.Cases.{true-or-false, both-left, both-right, both-assoc}
 use Rattle.words.proofs.RefusalLaws.{first-passed}
-use Rattle.words.proofs.SetBitLaws.{bits-split}
+use Rattle.words.proofs.SetBitLaws.{bits-zero, bits-yes, bits-no, bits-parts, bits-split}
 use Rattle.words.proofs.PartLaws.{part-is}
-use Rattle.fields.specs.Sizes.{fieldSize, sizesOf, wordsOf}
+use Rattle.fields.specs.Sizes.{fieldSize, sizesOf, asciiWords, listWords, wordsOf}
 use Rattle.fields.specs.Rules.{ruleOf}
 use Rattle.fields.specs.Layout.{spanOf, obeyed, carried, indicatorOf, bodyWords, placeOf, fieldOf, insideOf, foundOf, lowBitsSet, otherLength}
 use Rattle.fields.specs.Layout.{ruleBroken, contextList, contextOf}
-use Rattle.fields.proofs.SizeLaws.{words-fixed}
+use Rattle.fields.proofs.SizeLaws.{size-none, words-fixed, words-none, sizes-none, sizes-more, sizes-append}
 use Rattle.fields.proofs.RuleLaws.{rule-own}
 use Rattle.fields.proofs.WalkLaws.{span-cons, rules-cons}
 
@@ -132,6 +132,49 @@ pub span-fixed : (b : ℕ) (bs ws : List ℕ) → 9 ≤ b → spanOf (above b bs
 unfolding spanOf above sizesOf
 span-fixed b [] ws h = refl
 span-fixed b (x ∷ bs) ws h = fixed-step (ltb b x) b x (above b bs) ws h refl (λ us. span-fixed b bs us h)
+
+-- the fields of all bits: those of fixed size, then 9 and then 8, which stand last; lower bits have none
+sizes-low : (k n : ℕ) → k ≤ 10 → sizesOf (bitsOf k n) ≡ 0
+sizes-low zero n h = rw (bits-zero n) sizes-none
+sizes-low (suc k) n h =
+    ⊎-elim (λ (y : has n k ≡ true). ap sizesOf (bits-yes k n y) ∙ omega (arith, sizes-more k (bitsOf k n), size-none k (omega arith), sizes-low k n (omega arith)))
+    (λ (y : has n k ≡ false). ap sizesOf (bits-no k n y) ∙ sizes-low k n (omega arith)) (true-or-false (has n k))
+
+span-low : (k n : ℕ) (ws : List ℕ) → k ≤ 8 → spanOf (bitsOf k n) ws ≡ 0
+unfolding spanOf
+span-low zero n ws h = rw (bits-zero n)
+span-low (suc k) n ws h =
+    ⊎-elim (λ (y : has n k ≡ true). rw (bits-yes k n y, words-none k ws (omega arith), zero-add) (span-low k n ws (omega arith)))
+    (λ (y : has n k ≡ false). rw (bits-no k n y) (span-low k n ws (omega arith))) (true-or-false (has n k))
+
+span-lists : (n : ℕ) (ws : List ℕ) → spanOf (bitsOf 9 n) ws ≡ when (has n 8) (listWords ws)
+unfolding spanOf wordsOf
+span-lists n ws =
+    ⊎-elim (λ (y : has n 8 ≡ true). rw (bits-yes 8 n y, y, span-low 8 n (drop (listWords ws) ws) (omega arith)) (add-zero (listWords ws)))
+    (λ (y : has n 8 ≡ false). rw (bits-no 8 n y, y) (span-low 8 n ws (omega arith))) (true-or-false (has n 8))
+
+span-last : (n a : ℕ) (ws : List ℕ) → a ≡ when (has n 9) (asciiWords ws) → spanOf (bitsOf 10 n) ws ≡ a + when (has n 8) (listWords (drop a ws))
+unfolding spanOf wordsOf
+span-last n a ws e =
+    ⊎-elim (λ (y : has n 9 ≡ true). let f : a ≡ asciiWords ws = rw y at e in rw (bits-yes 9 n y, ← f, span-lists n (drop a ws)))
+    (λ (y : has n 9 ≡ false). let f : a ≡ 0 = rw y at e in rw (bits-no 9 n y, f, zero-add) (span-lists n ws)) (true-or-false (has n 9))
+
+-- as a program finds their end, in a body: f words of fixed size, a words of field 9 and l of field 8
+pub end-counted : (n f a l : ℕ) (body : List ℕ) → f ≡ sizesOf (bitsOf 31 n) → a ≡ when (has n 9) (asciiWords (drop (1 + f) body))
+    → l ≡ when (has n 8) (listWords (drop (1 + f + a) body)) → 1 + f + a + l ≡ 1 + spanOf (bitsOf 31 n) (drop 1 body)
+end-counted n f a l body ef ea el =
+    let all : List ℕ = bitsOf 31 n in
+    let ws : List ℕ = drop 1 body in
+    let parts : bitsOf 31 n ≡ above 9 all ++ bitsOf 10 n = bits-parts 31 n 9 (omega arith) in
+    let fixed : spanOf (above 9 all) ws ≡ f =
+    span-fixed 9 all ws (omega arith) ∙ omega (arith, ap sizesOf parts, sizes-append (above 9 all) (bitsOf 10 n), sizes-low 10 n (omega arith)) in
+    let behind : drop (1 + f) body ≡ drop f ws = sym (drop-drop f 1 body) in
+    let last = span-last n a (drop f ws) (ea ∙ ap (λ (us : List ℕ). when (has n 9) (asciiWords us)) behind) in
+    let past : drop (1 + f + a) body ≡ drop a (drop f ws) = sym (drop-drop a (1 + f) body) ∙ ap (drop a) behind in
+    let lists : l ≡ when (has n 8) (listWords (drop a (drop f ws))) = el ∙ ap (λ (us : List ℕ). when (has n 8) (listWords us)) past in
+    let whole : spanOf all ws ≡ f + spanOf (bitsOf 10 n) (drop f ws) =
+    ap (λ (bs : List ℕ). spanOf bs ws) parts ∙ span-append (above 9 all) (bitsOf 10 n) ws ∙ rw fixed in
+    omega (arith, whole, last, lists)
 
 pub place-fixed : (b : ℕ) (body : List ℕ) → 9 ≤ b → placeOf b body ≡ 1 + sizesOf (above b (carried (indicatorOf body)))
 unfolding placeOf

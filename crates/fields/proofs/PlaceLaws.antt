@@ -9,8 +9,9 @@ use lib.ListN.{length-drop}
 use lib.Seq.{getD-drop, take-all}
 use Rattle.words.specs.SetBits.{bitsOf}
 use Rattle.words.proofs.SetBitLaws.{bits-mod, bits-above}
-use Rattle.fields.specs.Sizes.{wordsOf}
+use Rattle.fields.specs.Sizes.{listWords, wordsOf}
 use Rattle.fields.specs.Layout.{spanOf, indicatorOf, placeOf, insideOf}
+use Rattle.fields.proofs.SizeLaws.{list-words-two}
 
 -- ---- the words from a place on
 
@@ -19,6 +20,10 @@ first-word at ws = getD-drop at ws 0 0 ∙ ap (λ (i : ℕ). getD ws i 0) (add-z
 
 pub second-word : (at : ℕ) (ws : List ℕ) → getD (drop at ws) 1 0 ≡ getD ws (at + 1) 0
 second-word at ws = getD-drop at ws 1 0
+
+-- field 8, by its first two words as a program reads them
+pub lists-at : (at u v n : ℕ) (ws : List ℕ) → u ≡ getD ws at 0 → v ≡ getD ws (at + 1) 0 → n ≡ listWords (u ∷ v ∷ []) → n ≡ listWords (drop at ws)
+lists-at at u v n ws e f g = g ∙ rw (list-words-two (drop at ws), first-word at ws, second-word at ws, e, f)
 
 pub rest-whole : (at : ℕ) (ws : List ℕ) → take (length ws - at) (drop at ws) ≡ drop at ws
 rest-whole at ws = take-all (length ws - at) (drop at ws) (omega (arith, length-drop at ws))

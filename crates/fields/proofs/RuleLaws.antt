@@ -7,6 +7,7 @@ use native.Mathlib.Nat.{mod-eq-of-lt, div-eq-of-lt, div-lt-iff-lt-mul}
 use lib.Pow.{pow-pos}
 use lib.Seq.{getD-take}
 use Rattle.words.specs.Tests.{pick, both, among}
+use Rattle.words.specs.Word.{has}
 use Rattle.words.specs.All.{all}
 use Rattle.words.proofs.Cases.{true-or-false, le-or-lt, true-is-false, both-yes, neither, agreed}
 use Rattle.words.proofs.AllLaws.{all-at}
@@ -105,13 +106,15 @@ module _ (b u at : ℕ) (body : List ℕ) (e : u ≡ getD body at 0) (below : Bo
       rule-more b (drop at body) below (f ∙ rw first-is) (rw (← first-is) h) under v more (g ∙ sym (second-word at body)) (rw first-is at m)
 
 -- ---- the fields that have a rule, as the bits of one constant
+abbrev pub ruledBits : ℕ
+ruledBits = 0x21278300
 
 bit-right : ℕ → Bool
-bit-right b = pick (eqb (0x21278300 / 2 ^ b % 2) 1) (ruled b) (not (ruled b))
+bit-right b = pick (has ruledBits b) (ruled b) (not (ruled b))
 
-pub ruled-bit : (b : ℕ) → b < 32 → eqb (0x21278300 / 2 ^ b % 2) 1 ≡ ruled b
+pub ruled-bit : (b : ℕ) → b < 32 → has ruledBits b ≡ ruled b
 unfolding bit-right all ruled
-ruled-bit b h = agreed (eqb (0x21278300 / 2 ^ b % 2) 1) (ruled b) (all-at bit-right 32 b h refl)
+ruled-bit b h = agreed (has ruledBits b) (ruled b) (all-at bit-right 32 b h refl)
 
 -- what is not among some numbers is none of them
 none-of : (b n : ℕ) (xs : List ℕ) → among b xs ≡ false → among n xs ≡ true → eqb b n ≡ false
@@ -120,18 +123,13 @@ none-of b n (x ∷ xs) e m =
     let apart = neither (eqb b x) (among b xs) e in
     ⊎-elim (λ t. let k : n ≡ x = eqb-true n x t in rw k (apart .0)) (λ f. none-of b n xs (apart .1) (rw f at m)) (true-or-false (eqb n x))
 
--- a field that has none is of fixed size and obeys, by the answer `has` to whether it has one
-module _ (b : ℕ) (ws : List ℕ) (has : Bool) (e : has ≡ ruled b) (none : has ≡ false) where
+-- a field that has none obeys, by the answer t to whether it has one
+module _ (b : ℕ) (ws : List ℕ) (t : Bool) (e : t ≡ ruled b) (none : t ≡ false) where
   other : (n : ℕ) → ruled n ≡ true → eqb b n ≡ false
   unfolding ruled
   other n m = none-of b n ruledFields (sym e ∙ none) m
 
-  pub unruled-past : (at n : ℕ) → n ≡ fieldSize b → at + n ≡ at + wordsOf b ws
-  unfolding ruled wordsOf
-  unruled-past at n size = rw (size, other 9 refl, other 8 refl)
-
-  pub unruled-kept : (kept : Bool) → kept ≡ both kept (ruleOf b ws)
+  pub unruled-kept : true ≡ ruleOf b ws
   unfolding ruled ruleOf
-  unruled-kept kept =
+  unruled-kept =
       rw (other 29 refl, other 21 refl, other 24 refl, other 18 refl, other 17 refl, other 16 refl, other 15 refl, other 9 refl, other 8 refl)
-      (sym (both-yes kept))

@@ -1,13 +1,20 @@
 -- The sizes of fields. The idea: what holds of the rows at every bit is one test that computes, and `wordsOf` looks only at the first two words, and
--- at none from bit 10 up.
-use Rattle.words.proofs.Kit.{_≡_, refl, sym, Bool, true, List, [], _∷_, _++_, ℕ, _+_, _-_, _*_, _^_, _≤_, _<_, arith, le-ltb, ne-eqb, ltb, leb}
-use Rattle.words.proofs.Kit.{length, getD}
-use native.Mathlib.Nat.{mul-le-mul-left, zero-add}
+-- at none from bit 10 up. A bit is in one group at most, so the words of any set bits are the counts of ones in the groups, each times its words, by one
+-- induction over the width (`size-grouped`, `sizes-counted`).
+use Rattle.words.proofs.Kit.{_≡_, refl, sym, ap, _∙_, Bool, true, false, ⊎-elim, List, [], _∷_, _++_, ℕ, zero, suc, _+_, _-_, _*_, _^_, _≤_, _<_, arith}
+use Rattle.words.proofs.Kit.{le-ltb, ne-eqb, eqb-true, eqb, ltb, leb, length, getD}
+use native.Mathlib.Nat.{mul-le-mul-left, zero-add, mod-eq-of-lt, lt-of-le-of-lt}
 use borrow.Author.Tests.{leb-true}
-use Rattle.words.specs.Tests.{pick}
+use lib.Bits.{bitAnd, and-le-r}
+use lib.Count.{ones}
+use Rattle.words.specs.Tests.{pick, when, both}
+use Rattle.words.specs.Word.{has}
 use Rattle.words.specs.SetBits.{bitsOf, above}
 use Rattle.words.specs.All.{all}
+use Rattle.words.proofs.Cases.{true-or-false, both-left, both-right}
 use Rattle.words.proofs.AllLaws.{all-at}
+use Rattle.words.proofs.BitLaws.{has-and}
+use Rattle.words.proofs.SetBitLaws.{bits-zero, bits-yes, bits-no, bits-counted, bits-few}
 use Rattle.fields.specs.Sizes.{fieldSize, sizesOf, listWords, wordsOf}
 use Rattle.fields.specs.Layout.{carried}
 
@@ -27,6 +34,14 @@ pub size-some : (b : ℕ) → 10 ≤ b → b < 31 → 1 ≤ fieldSize b
 unfolding some fieldSize all
 size-some b h g = leb-true 1 (fieldSize b) (rw (le-ltb b 10 h) at (all-at some 31 b g refl))
 
+-- bits below 10 have none of fixed size
+none : ℕ → Bool
+none b = eqb (fieldSize b) 0
+
+pub size-none : (b : ℕ) → b < 10 → fieldSize b ≡ 0
+unfolding none fieldSize all
+size-none b h = eqb-true (fieldSize b) 0 (all-at none 10 b h refl)
+
 -- ---- fields of fixed size
 
 -- document 01: "Bits 30 to 10 are 21 fields of 74 words together"; an indicator with every bit of 30 to 0 set carries them all
@@ -39,6 +54,11 @@ pub words-fixed : (b : ℕ) (ws : List ℕ) → 10 ≤ b → wordsOf b ws ≡ fi
 unfolding wordsOf
 words-fixed b ws h = rw (ne-eqb b 9 (λ e. omega arith), ne-eqb b 8 (λ e. omega arith))
 
+-- below bit 8 it has none
+pub words-none : (b : ℕ) (ws : List ℕ) → b < 8 → wordsOf b ws ≡ 0
+unfolding wordsOf
+words-none b ws h = rw (ne-eqb b 9 (λ e. omega arith), ne-eqb b 8 (λ e. omega arith)) (size-none b (omega arith))
+
 pub sizes-none : sizesOf [] ≡ 0
 unfolding sizesOf
 sizes-none = refl
@@ -46,6 +66,130 @@ sizes-none = refl
 pub sizes-more : (b : ℕ) (bs : List ℕ) → sizesOf (b ∷ bs) ≡ fieldSize b + sizesOf bs
 unfolding sizesOf
 sizes-more b bs = refl
+
+-- ---- the groups of document 01, and counts of ones
+
+-- the bits of the fields of 1 word, of 2, of 11 and of 13
+abbrev pub oneWord : ℕ
+oneWord = 0x41CD0400
+
+abbrev pub twoWords : ℕ
+twoWords = 0x3E328000
+
+abbrev pub elevenWords : ℕ
+elevenWords = 0x6000
+
+abbrev pub thirteenWords : ℕ
+thirteenWords = 0x1800
+
+-- the words of a bit, by the first group that has it, and as a sum over the groups
+abbrev firstGroup : ℕ → ℕ
+firstGroup b = pick (has twoWords b) 2 (pick (has oneWord b) 1 (pick (has elevenWords b) 11 (when (has thirteenWords b) 13)))
+
+abbrev allGroups : ℕ → ℕ
+allGroups b = when (has oneWord b) 1 + 2 * when (has twoWords b) 1 + 11 * when (has elevenWords b) 1 + 13 * when (has thirteenWords b) 1
+
+grouped : ℕ → Bool
+grouped b = both (eqb (fieldSize b) (firstGroup b)) (eqb (fieldSize b) (allGroups b))
+
+-- the groups are document 01's rows
+rows-grouped : all 32 grouped ≡ true
+unfolding grouped fieldSize all
+rows-grouped = refl
+
+-- as a program asks one group after the other
+pub size-first : (b : ℕ) → b < 32
+    → fieldSize b ≡ pick (has twoWords b) 2 (pick (has oneWord b) 1 (pick (has elevenWords b) 11 (when (has thirteenWords b) 13)))
+unfolding grouped
+size-first b h = eqb-true _ _ (both-left _ (eqb (fieldSize b) (allGroups b)) (all-at grouped 32 b h rows-grouped))
+
+pub size-grouped : (b : ℕ) → b < 32
+    → fieldSize b ≡ when (has oneWord b) 1 + 2 * when (has twoWords b) 1 + 11 * when (has elevenWords b) 1 + 13 * when (has thirteenWords b) 1
+unfolding grouped
+size-grouped b h = eqb-true _ _ (both-right (eqb (fieldSize b) (firstGroup b)) _ (all-at grouped 32 b h rows-grouped))
+
+-- one bit more of a group, where n has it and where not
+counted-step : (t : Bool) (k : ℕ) (l : List ℕ) → length (pick t (k ∷ l) l) ≡ when t 1 + length l
+counted-step true k l = omega arith
+counted-step false k l = omega arith
+
+counted-yes : (k n g : ℕ) → has n k ≡ true → length (bitsOf (suc k) (bitAnd n g)) ≡ when (has g k) 1 + length (bitsOf k (bitAnd n g))
+unfolding bitsOf
+counted-yes k n g e = rw (has-and n g k, e) (counted-step (has g k) k (bitsOf k (bitAnd n g)))
+
+counted-no : (k n g : ℕ) → has n k ≡ false → length (bitsOf (suc k) (bitAnd n g)) ≡ length (bitsOf k (bitAnd n g))
+counted-no k n g e = ap length (bits-no k (bitAnd n g) (has-and n g k ∙ rw e))
+
+pub sizes-counted : (k n : ℕ) → k ≤ 32
+    → sizesOf (bitsOf k n) ≡ length (bitsOf k (bitAnd n oneWord)) + 2 * length (bitsOf k (bitAnd n twoWords))
+    + 11 * length (bitsOf k (bitAnd n elevenWords)) + 13 * length (bitsOf k (bitAnd n thirteenWords))
+unfolding bitsOf
+sizes-counted zero n h = sizes-none
+sizes-counted (suc k) n h =
+    let lower = sizes-counted k n (omega arith) in
+    ⊎-elim
+    (λ (y : has n k ≡ true).
+    omega (
+      arith,
+      lower,
+      ap sizesOf (bits-yes k n y),
+      sizes-more k (bitsOf k n),
+      size-grouped k (omega arith),
+      counted-yes k n oneWord y,
+      counted-yes k n twoWords y,
+      counted-yes k n elevenWords y,
+      counted-yes k n thirteenWords y,
+    ))
+    (λ (y : has n k ≡ false).
+    omega (
+      arith,
+      lower,
+      ap sizesOf (bits-no k n y),
+      counted-no k n oneWord y,
+      counted-no k n twoWords y,
+      counted-no k n elevenWords y,
+      counted-no k n thirteenWords y,
+    ))
+    (true-or-false (has n k))
+
+-- as a program counts them
+pub group-ones : (n g : ℕ) → g < 2 ^ 31 → ones (bitAnd n g) ≡ length (bitsOf 31 (bitAnd n g))
+group-ones n g h = sym (bits-counted 31 (bitAnd n g) ∙ ap ones (mod-eq-of-lt (lt-of-le-of-lt (and-le-r n g) h)))
+
+pub group-few : (n g : ℕ) → g < 2 ^ 31 → ones (bitAnd n g) ≤ 31
+group-few n g h = rw (group-ones n g h) (bits-few 31 (bitAnd n g))
+
+-- fewer bits take fewer words
+pub sizes-within : (k n m : ℕ) → ((b : ℕ) → b < k → has n b ≡ true → has m b ≡ true) → sizesOf (bitsOf k n) ≤ sizesOf (bitsOf k m)
+sizes-within zero n m w = omega (arith, ap sizesOf (bits-zero n), ap sizesOf (bits-zero m))
+sizes-within (suc k) n m w =
+    let rest = sizes-within k n m (λ b h. w b (omega arith)) in
+    let more : (x : ℕ) → has x k ≡ true → sizesOf (bitsOf (suc k) x) ≡ fieldSize k + sizesOf (bitsOf k x) = λ x y. ap sizesOf (bits-yes k x y)
+    ∙ sizes-more k (bitsOf k x) in
+    ⊎-elim (λ (y : has n k ≡ true). omega (arith, rest, more n y, more m (w k (omega arith) y)))
+    (λ (y : has n k ≡ false).
+    ⊎-elim (λ (z : has m k ≡ true). omega (arith, rest, ap sizesOf (bits-no k n y), more m z))
+    (λ (z : has m k ≡ false). omega (arith, rest, ap sizesOf (bits-no k n y), ap sizesOf (bits-no k m z))) (true-or-false (has m k)))
+    (true-or-false (has n k))
+
+every-bit : (b : ℕ) → b < 31 → has (2 ^ 31 - 1) b ≡ true
+unfolding all
+every-bit b h = all-at (has (2 ^ 31 - 1)) 31 b h refl
+
+every-size : sizesOf (bitsOf 31 (2 ^ 31 - 1)) ≡ 74
+unfolding bitsOf sizesOf fieldSize
+every-size = refl
+
+pub sizes-most : (n : ℕ) → sizesOf (bitsOf 31 n) ≤ 74
+sizes-most n = omega (arith, sizes-within 31 n (2 ^ 31 - 1) (λ b h y. every-bit b h), every-size)
+
+module _ (n a b c d : ℕ) (e : a ≡ length (bitsOf 31 (bitAnd n oneWord))) (f : b ≡ length (bitsOf 31 (bitAnd n twoWords)))
+    (g : c ≡ length (bitsOf 31 (bitAnd n elevenWords))) (h : d ≡ length (bitsOf 31 (bitAnd n thirteenWords))) where
+  pub groups-sizes : a + 2 * b + 11 * c + 13 * d ≡ sizesOf (bitsOf 31 n)
+  groups-sizes = omega (arith, sizes-counted 31 n (omega arith))
+
+  pub groups-most : a + 2 * b + 11 * c + 13 * d ≤ 74
+  groups-most = omega (arith, groups-sizes, sizes-most n)
 
 pub sizes-append : (fs bs : List ℕ) → sizesOf (fs ++ bs) ≡ sizesOf fs + sizesOf bs
 unfolding sizesOf

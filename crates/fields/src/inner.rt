@@ -1,4 +1,4 @@
-// What the crates above use of the fields: the next field, sizes, rules and the walk over a body.
+// What the crates above use of the fields: the next field, sizes, rules and the layout of a body.
 mod carried;
 mod format;
 mod layout;
@@ -13,11 +13,10 @@ pub use format::format_ok;
 pub use format::item_size;
 pub use format::packing_size;
 pub use format::real_complex;
-pub use layout::Walked;
-pub use layout::walk;
+pub use layout::end_of;
+pub use layout::rules_kept;
 pub use rules::first_ok;
 pub use rules::more_ok;
-pub use sizes::SIZES;
 pub use sizes::field_size;
-pub use sizes::size_in;
+pub use sizes::fixed_words;
 pub use sizes::words_at;

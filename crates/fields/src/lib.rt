@@ -23,11 +23,11 @@ pub fn check_body(body: &[u32]) -> words::Check
     if indicator % 256 != 0 {
         return words::Check::Refused(words::INDICATOR);
     }
-    let found = crate::inner::walk(indicator % 0x8000_0000, body);
-    if found.end != body.len() {
+    let bits = indicator % 0x8000_0000;
+    if crate::inner::end_of(bits, body) != body.len() {
         return words::Check::Refused(words::LAYOUT);
     }
-    if found.kept {
+    if crate::inner::rules_kept(bits, body) {
         return words::Check::Fine;
     }
     words::Check::Refused(words::FIELD)

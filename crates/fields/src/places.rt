@@ -40,6 +40,5 @@ pub fn find(body: &[u32], bit: u32) -> Found
         return Found::Absent;
     }
     let above = ((indicator >> (bit + 1)) << (bit + 1)) % 0x8000_0000;
-    let fields = crate::inner::walk(above, body);
-    inside(bit, body, fields.end)
+    inside(bit, body, crate::inner::end_of(above, body))
 }

@@ -1,4 +1,4 @@
--- `check_body` meets its promise: each return is a line of the chain of refusals, its tests being what the walk found.
+-- `check_body` meets its promise: each return is a line of the chain of refusals, its tests being the end of the fields and what the walk found.
 use Rattle.words.proofs.Kit.{ℕ, _+_, _%_, _^_, _≡_, Bool, true, false, List, drop, length, eq-eqb, ne-eqb, needs}
 use Rattle.words.specs.Numbers.{INDICATOR, LAYOUT, FIELD}
 use Rattle.words.specs.Outcome.{refused, accepted}
@@ -33,4 +33,5 @@ pub check-body-spec : {M : Type 1} → statement M
 check-body-spec =
     tie.close
     (tie.spec
-    (λ c κs. search needs) (λ c. search low-bits) (λ c κs. search needs) (λ c. search other-length) (λ c. search fine) (λ c. search rule-broken))
+    (λ c κs. search needs) (λ c. search low-bits) (λ c κs. search needs) (λ c. search other-length) (λ c κs. search needs) (λ c. search fine)
+    (λ c. search rule-broken))

@@ -4,7 +4,7 @@ ghost use Rattle.fields.specs.Rules.{stateRule, listsRule, ruleOf};
 ghost use Rattle.fields.specs.inner.Limits.{ruled, limitOf, firstOk, deviceSecond, moreOk};
 
 // A bit for each field that has a rule: 29, 24, 21, 18, 17, 16, 15, 9 and 8.
-const RULED: u32 = 0x2127_8300;
+pub const RULED: u32 = 0x2127_8300;
 
 // Whether the field of a bit has a rule.
 pub fn has_rule(bit: u32) -> bool

@@ -1,63 +1,58 @@
-// How many words the field of each indicator bit takes.
-ghost use Rattle.words.specs.Kit.{_≡_, true, [], _∷_, _^_, _≤_, _<_, drop};
-ghost use Rattle.words.specs.All.{tabled};
-ghost use Rattle.fields.specs.Sizes.{fieldSize, asciiWords, listWords, wordsOf};
+// How many words the fields of indicator bits take: those of fixed size by the groups of document 01, and the two that say their own size.
+ghost use Rattle.words.specs.Kit.{_≡_, [], _∷_, _^_, _≤_, _<_, length, drop};
+ghost use lib.Bits.{bitAnd};
+ghost use Rattle.words.specs.SetBits.{bitsOf};
+ghost use Rattle.fields.specs.Sizes.{fieldSize, sizesOf, asciiWords, listWords, wordsOf};
 
-// Document 01, "Words for each bit": the fields of fixed size by their bit, 0 where a bit has none.
-pub const SIZES: [u8; 32] = [
-    0,
-    0,
-    0,
-    0,
-    0,
-    0,
-    0,
-    0,
-    0,
-    0,
-    1,
-    13,
-    13,
-    11,
-    11,
-    2,
-    1,
-    2,
-    1,
-    1,
-    2,
-    2,
-    1,
-    1,
-    1,
-    2,
-    2,
-    2,
-    2,
-    2,
-    1,
-    0,
-];
+// Document 01, "Words for each bit": the bits of the fields of 1 word, of 2, of 11 and of 13.
+const ONE: u32 = 0x41CD_0400;
 
-// The words of a field of fixed size, by the table, which a loop builds once and lends.
-pub fn size_in(sizes: &[u8; 32], bit: u32) -> usize
-    requires { ⌜ (tabled 32 fieldSize (now sizes) ≡ true) × (bit < 32) ⌝ }
-    ensures { λ r. ⌜ (r ≡ fieldSize bit) × (r ≤ 13) ⌝ }
+const TWO: u32 = 0x3E32_8000;
+
+const ELEVEN: u32 = 0x6000;
+
+const THIRTEEN: u32 = 0x1800;
+
+// How many of some bits are in a group: count of ones.
+fn in_group(bits: u32, group: u32) -> usize
+    requires { ⌜ group < 2 ^ 31 ⌝ }
+    ensures { λ r. ⌜ (r ≡ length (bitsOf 31 (bitAnd bits group))) × (r ≤ 31) ⌝ }
 {
-    sizes[bit as usize] as usize
+    u32::count_ones(bits & group) as usize
 }
 
-// The words of a field of fixed size.
+// The words that the fields of fixed size of some bits take together: of each group, how many there are, times its words.
+pub fn fixed_words(bits: u32) -> usize
+    ensures { λ r. ⌜ (r ≡ sizesOf (bitsOf 31 bits)) × (r ≤ 74) ⌝ }
+{
+    in_group(bits, ONE)
+        + 2 * in_group(bits, TWO)
+        + 11 * in_group(bits, ELEVEN)
+        + 13 * in_group(bits, THIRTEEN)
+}
+
+// The words of a field of fixed size, by the group that its bit is in; 0 for a bit in none.
 pub fn field_size(bit: u32) -> usize
     requires { ⌜ bit < 32 ⌝ }
     ensures { λ r. ⌜ (r ≡ fieldSize bit) × (r ≤ 13) ⌝ }
 {
-    let sizes = SIZES;
-    size_in(&sizes, bit)
+    if (TWO >> bit) % 2 == 1 {
+        return 2;
+    }
+    if (ONE >> bit) % 2 == 1 {
+        return 1;
+    }
+    if (ELEVEN >> bit) % 2 == 1 {
+        return 11;
+    }
+    if (THIRTEEN >> bit) % 2 == 1 {
+        return 13;
+    }
+    0
 }
 
 // The words of field 9 at a place of a body.
-fn ascii_words(body: &[u32], at: usize) -> usize
+pub fn ascii_words(body: &[u32], at: usize) -> usize
     requires { ⌜ at < 2 ^ 40 ⌝ }
     ensures { λ r. ⌜ (r ≡ asciiWords (drop at (now (body .entry)))) × (r ≤ 2 ^ 33) ⌝ }
 {
@@ -71,24 +66,15 @@ fn list_words(a: u32, b: u32) -> u32
     2 + a / 0x1_0000 % 512 + a % 512 + b / 0x1_0000 % 0x1_0000 + b % 0x8000 * (1 + b / 0x8000 % 2)
 }
 
-// The words of the field of a bit that stands at a place of a body, with the table lent.
-pub fn words_in(sizes: &[u8; 32], bit: u32, body: &[u32], at: usize) -> usize
-    requires { ⌜ (tabled 32 fieldSize (now sizes) ≡ true) × (bit < 32) × (at < 2 ^ 40) ⌝ }
-    ensures { λ r. ⌜ (r ≡ wordsOf bit (drop at (now (body .entry)))) × (r ≤ 2 ^ 33) ⌝ }
+// The words of field 8 at a place of a body.
+pub fn list_words_at(body: &[u32], at: usize) -> usize
+    requires { ⌜ at < 2 ^ 40 ⌝ }
+    ensures { λ r. ⌜ (r ≡ listWords (drop at (now (body .entry)))) × (r ≤ 2 ^ 33) ⌝ }
 {
-    if 9 < bit {
-        return size_in(sizes, bit);
-    }
-    if bit == 9 {
-        return ascii_words(body, at);
-    }
-    if bit == 8 {
-        return list_words(
-            words::inner::word_at(body, at),
-            words::inner::word_at(body, at + 1),
-        ) as usize;
-    }
-    size_in(sizes, bit)
+    list_words(
+        words::inner::word_at(body, at),
+        words::inner::word_at(body, at + 1),
+    ) as usize
 }
 
 // The words of the field of a bit that stands at a place of a body.
@@ -96,6 +82,14 @@ pub fn words_at(bit: u32, body: &[u32], at: usize) -> usize
     requires { ⌜ (bit < 32) × (at < 2 ^ 40) ⌝ }
     ensures { λ r. ⌜ (r ≡ wordsOf bit (drop at (now (body .entry)))) × (r ≤ 2 ^ 33) ⌝ }
 {
-    let sizes = SIZES;
-    words_in(&sizes, bit, body, at)
+    if 9 < bit {
+        return field_size(bit);
+    }
+    if bit == 9 {
+        return ascii_words(body, at);
+    }
+    if bit == 8 {
+        return list_words_at(body, at);
+    }
+    0
 }

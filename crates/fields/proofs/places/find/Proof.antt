@@ -1,4 +1,4 @@
--- `find` meets its promise: each return is a line of the definition; the walk over the bits above gives the place.
+-- `find` meets its promise: each return is a line of the definition; the place is the end of the fields of the bits above.
 use Rattle.words.proofs.Kit.{_≡_, now, needs}
 use Rattle.words.proofs.Cases.{cases}
 use Rattle.fields.specs.Layout.{placeOf, foundOf}
@@ -24,8 +24,8 @@ returns-4 c =
     let start : tie.Start = search in
     let w = c .before .before .before .word-at in
     let a = start .args in
-    let e : c .before .walk .result .end ≡ placeOf (a .bit) (now (a .body)) =
-    place-above (w .result) (a .bit) _ (now (a .body)) (w .ensures) (search needs) (c .before .walk .ensures .0) in
+    let e : c .before .end-of .result ≡ placeOf (a .bit) (now (a .body)) =
+    place-above (w .result) (a .bit) _ (now (a .body)) (w .ensures) (search needs) (c .before .end-of .ensures) in
     search (cases, ← w .ensures, ← e, c .inside .ensures)
 
 pub find-spec : {M : Type 1} → statement M

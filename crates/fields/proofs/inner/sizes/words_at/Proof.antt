@@ -1,14 +1,25 @@
--- `words_at` meets its promise: it lends the table, which has the rows of document 01.
-use Rattle.words.proofs.Kit.{refl, needs}
-use Rattle.words.specs.All.{all}
-use Rattle.fields.specs.Sizes.{fieldSize}
+-- `words_at` meets its promise: each return is a row of the definition, answered by that row's function.
+use Rattle.words.proofs.Kit.{sym, _∙_, needs}
+use Rattle.words.proofs.Cases.{cases}
+use Rattle.fields.specs.Sizes.{wordsOf}
+use Rattle.fields.proofs.SizeLaws.{words-fixed, words-none}
 use Rattle.fields.proofs.inner.sizes.words_at.Statement.{statement}
 use Rattle.fields.proofs.inner.sizes.words_at.Tie as tie
 
-words-in-requires : tie.Need-words-in-requires
-unfolding all fieldSize
-words-in-requires c κs = (refl, search needs, search needs)
+returns : tie.Need-returns
+returns c = (c .field-size .ensures .0 ∙ sym (words-fixed _ _ (search needs)), search needs)
+
+returns-2 : tie.Need-returns-2
+unfolding wordsOf
+returns-2 c = (search (cases, c .ascii-words .ensures .0), search needs)
+
+returns-3 : tie.Need-returns-3
+unfolding wordsOf
+returns-3 c = (search (cases, c .list-words-at .ensures .0), search needs)
 
 pub words-at-spec : {M : Type 1} → statement M
 words-at-spec =
-    tie.close (tie.spec words-in-requires (λ c. search needs))
+    tie.close
+    (tie.spec
+    (λ c κs. search needs) returns (λ c κs. search needs) returns-2 (λ c κs. search needs) returns-3
+    (λ c. (sym (words-none _ _ (search needs)), search needs)))
