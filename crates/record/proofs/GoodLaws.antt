@@ -1,6 +1,6 @@
 -- When a record is good. The idea: the tests of specs/Good.antt say what `Good` says in facts (`good-of`, `of-good`); a count and the fields of an accepted
 -- packet keep each of these facts, so a good record stays good.
-use Rattle.words.proofs.Kit.{_≡_, refl, sym, ap, _∙_, Bool, true, false, not, ⊎-elim, List, [], _∷_, ℕ, zero, suc, _+_, _-_, _/_, _%_, _^_, _≤_, _<_}
+use Rattle.words.proofs.Kit.{_≡_, refl, sym, ap, _∙_, Bool, true, false, not, ⊎-elim, List, [], _∷_, ℕ, zero, suc, _+_, _-_, _*_, _/_, _%_, _^_, _≤_, _<_}
 use Rattle.words.proofs.Kit.{arith, eq-eqb, ne-eqb, le-leb, eqb-true, not-true, not-false, eqb, length, take, drop, getD}
 use native.Mathlib.Nat.{add-zero, add-suc, add-assoc, zero-div, lt-of-le-of-lt}
 use borrow.Author.Tests.{leb-true}
@@ -31,7 +31,7 @@ use Rattle.record.specs.Counts.{countedOf, countRecord}
 use Rattle.record.specs.After.{slotAfter, heldAfter, holdRecord}
 use Rattle.record.specs.Good.{zeros, countGood, countGoodAt, heldGood, heldRule, slotGood, choiceGood, recordGood, GoodCount, Good}
 use Rattle.record.specs.inner.Head.{headGood}
-use Rattle.record.proofs.SlotLaws.{slotted-not, slotted-low, slotted-high, slotted-all, held-small}
+use Rattle.record.proofs.SlotLaws.{slotted-not, slotted-low, slotted-high, slotted-all, slot-first, slot-next, held-small}
 use Rattle.record.proofs.StateLaws.{state-ruled, state-none, state-stays-good}
 use Rattle.record.proofs.CopyLaws.{size-slotted, size-eleven}
 use Rattle.record.proofs.HoldLaws.{slot-inside, within-bits, within-mask}
@@ -65,10 +65,10 @@ module _ {n i : ℕ} {f : ℕ → Bool} (p : Passing n f i) where
   passing-end h = sym (all-end f n i (omega (arith, p .most)) (p .before))
 
   module _ (h : i < n) (t : Bool) (e : t ≡ f i) where
-    pub passing-fails : not t ≡ true → false ≡ all n f
+    passing-fails : not t ≡ true → false ≡ all n f
     passing-fails o = sym (all-fails f n i h (sym e ∙ not-true t o))
 
-    pub passing-turn : not t ≡ false → Passing n f (i + 1)
+    passing-turn : not t ≡ false → Passing n f (i + 1)
     passing-turn o = record { most = omega arith; before = all-more f i (p .before) (sym e ∙ not-false t o) }
 
 -- the counts of a record, each where it begins
@@ -117,12 +117,7 @@ module _ (r : List ℕ) (at : ℕ) (e : at ≡ countAt 2) (t : Bool) (h : t ≡ 
   unfolding headGood
   head-counts s o c f = rw (← held-tested, not-false t o, choice-made (choiceOf r) c) (f ∙ sym (both-yes (all 4 (countGoodAt r))))
 
--- ---- the slot of a bit, as a program tests it: it stands from `at` on among the slots and has n words
-
--- the slots of bits below 10 are not looked at
-pub slots-start : (r : List ℕ) → Passing 31 (slotGood r) 10
-unfolding slotGood
-slots-start r = record { most = omega arith; before = all-intro (slotGood r) 10 (λ b h. rw (slotted-not b h)) }
+-- ---- the slot of a bit, as a program tests it: it stands from `at` on in the record and has n words
 
 pub slot-length : (b : ℕ) (r : List ℕ) → length r ≡ recordWords → slotted b ≡ true → length (slotOf b r) ≡ fieldSize b
 unfolding slotOf slotIn slotsOf
@@ -130,35 +125,80 @@ slot-length b r l o =
     let m : length (part headWords slotWords r) ≡ slotWords = part-length headWords slotWords r (omega arith) in
     part-length (slotAt b) (fieldSize b) (part headWords slotWords r) (omega (arith, slot-inside b o))
 
-module _ (r : List ℕ) (b at n : ℕ) (l : length r ≡ recordWords) (o : slotted b ≡ true) (ea : at ≡ slotAt b) (en : n ≡ fieldSize b) where
-  pub slot-end : headWords + at + n ≤ length r
+module _ (r : List ℕ) (b at n : ℕ) (l : length r ≡ recordWords) (o : slotted b ≡ true) (ea : at ≡ headWords + slotAt b) (en : n ≡ fieldSize b) where
+  pub slot-end : at + n ≤ length r
   slot-end = omega (arith, slot-inside b o)
 
+  pub slot-fits : at + n < 2 ^ 64
+  slot-fits = omega (arith, slot-end)
+
+  pub slot-bytes : at * 4 < 2 ^ 64
+  slot-bytes = omega (arith, slot-end)
+
   abbrev there : List ℕ
-  there = take (headWords + at + n - (headWords + at)) (drop (headWords + at) r)
+  there = take (at + n - at) (drop at r)
 
   slot-seen : there ≡ slotOf b r
   unfolding slotOf slotIn slotsOf
-  slot-seen =
-      seen (headWords + at) (headWords + at + n) n r refl ∙ rw (ea, en) (sym (part-part (slotAt b) (fieldSize b) headWords slotWords r (slot-inside b o)))
+  slot-seen = seen at (at + n) n r refl ∙ rw (ea, en) (sym (part-part (slotAt b) (fieldSize b) headWords slotWords r (slot-inside b o)))
 
   -- the slot has a word
-  pub slot-there : 0 < length (take (headWords + at + n - (headWords + at)) (drop (headWords + at) r))
+  pub slot-there : 0 < length (take (at + n - at) (drop at r))
   slot-there = omega (arith, ap length slot-seen, slot-length b r l o, size-some b (slotted-low b o) (slotted-high b o))
 
   -- and 1, 2, 11 or 13 of them
-  pub slot-few : among (length (take (headWords + at + n - (headWords + at)) (drop (headWords + at) r))) (1 ∷ 2 ∷ 11 ∷ 13 ∷ []) ≡ true
+  pub slot-few : among (length (take (at + n - at) (drop at r))) (1 ∷ 2 ∷ 11 ∷ 13 ∷ []) ≡ true
   slot-few = size-slotted b _ o (ap length slot-seen ∙ slot-length b r l o)
 
   -- it is held, or not
   module _ (t : Bool) where
-    pub slot-ruled : heldOf r / 2 ^ b % 2 ≡ 1 → t ≡ heldRule b (take (headWords + at + n - (headWords + at)) (drop (headWords + at) r)) → t ≡ slotGood r b
+    pub slot-ruled : heldOf r / 2 ^ b % 2 ≡ 1 → t ≡ heldRule b (take (at + n - at) (drop at r)) → t ≡ slotGood r b
     unfolding slotGood
     slot-ruled h e = rw (o, eq-eqb (heldOf r / 2 ^ b % 2) 1 h) (e ∙ ap (heldRule b) slot-seen)
 
-    pub slot-zeroed : (heldOf r / 2 ^ b % 2 ≡ 1 → ⊥) → t ≡ zeros (take (headWords + at + n - (headWords + at)) (drop (headWords + at) r)) → t ≡ slotGood r b
+    pub slot-zeroed : (heldOf r / 2 ^ b % 2 ≡ 1 → ⊥) → t ≡ zeros (take (at + n - at) (drop at r)) → t ≡ slotGood r b
     unfolding slotGood
     slot-zeroed h e = rw (o, ne-eqb (heldOf r / 2 ^ b % 2) 1 h) (e ∙ ap zeros slot-seen)
+
+-- ---- the slots, as a program tests them from bit 30 down: those of the bits above b are good, and the slot of b begins at `at`
+
+pub record Testing (r : List ℕ) (b at : ℕ) : Type 0 where
+  pub low : 9 ≤ b
+  pub high : b ≤ 30
+  pub here : at ≡ headWords + slotAt b
+  pub good : (x : ℕ) → b < x → x < 31 → slotGood r x ≡ true
+
+pub testing-start : (r : List ℕ) → Testing r 30 headWords
+testing-start r = record {
+  low = omega arith;
+  high = omega arith;
+  here = omega (arith, slot-first);
+  good = λ x h g. absurd (omega arith);
+}
+
+module _ (r : List ℕ) (b at : ℕ) (p : Testing r b at) where
+  -- a bit below 10 has no slot
+  pub testing-end : b < 10 → true ≡ all 31 (slotGood r)
+  unfolding slotGood
+  testing-end h =
+      sym (all-intro (slotGood r) 31
+      (λ x l. ⊎-elim (λ (g : x ≤ b). rw (slotted-not x (omega arith))) (λ (g : b < x). p .good x g l) (le-or-lt x b)))
+
+  pub testing-slotted : 10 ≤ b → slotted b ≡ true
+  testing-slotted h = slotted-all b h (omega (arith, p .high))
+
+  module _ (h : 10 ≤ b) (t : Bool) (e : t ≡ slotGood r b) where
+    pub testing-fails : not t ≡ true → false ≡ all 31 (slotGood r)
+    testing-fails o = sym (all-fails (slotGood r) 31 b (omega (arith, p .high)) (sym e ∙ not-true t o))
+
+    pub testing-turn : (n : ℕ) → n ≡ fieldSize b → not t ≡ false → Testing r (b - 1) (at + n)
+    testing-turn n en o = record {
+      low = omega arith;
+      high = omega (arith, p .high);
+      here = omega (arith, p .here, slot-next b (slotAt b) n (testing-slotted h) refl en);
+      good = λ x g l.
+          ⊎-elim (λ (i : x ≡ b). rw i (sym e ∙ not-false t o)) (λ (d : x ≡ b → ⊥). p .good x (omega arith) l) (same-or-not x b);
+    }
 
 -- ---- the rule of a held field, as a program asks it: `below` is the answer to whether the first word is below its limit
 

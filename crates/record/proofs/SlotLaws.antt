@@ -28,7 +28,7 @@ use Rattle.record.specs.Layout.{slotWords}
 abbrev pub placed : ℕ → ℕ → ℕ → ℕ
 placed k n b = sizesOf (above b (bitsOf k n))
 
-placed-first : (k n : ℕ) → placed (suc k) n k ≡ 0
+pub placed-first : (k n : ℕ) → placed (suc k) n k ≡ 0
 placed-first k n = ap sizesOf (above-none k (suc k) n (omega arith)) ∙ sizes-none
 
 placed-yes : (k n b : ℕ) → has n k ≡ true → b < k → placed (suc k) n b ≡ fieldSize k + placed k n b

@@ -2,7 +2,7 @@
 ghost use Rattle.words.specs.Kit.{_≡_, true, [], _∷_, _+_, _≤_, _<_, length};
 ghost use Rattle.words.specs.Tests.{among};
 ghost use Rattle.words.specs.Part.{part};
-ghost use Rattle.words.specs.All.{all, tabled};
+ghost use Rattle.words.specs.All.{all};
 ghost use Rattle.fields.specs.Sizes.{fieldSize};
 ghost use Rattle.record.specs.Held.{slotted, slotAt};
 ghost use Rattle.record.specs.Layout.{headWords, recordWords};
@@ -114,13 +114,13 @@ fn rule_good(bit: u32, slot: &[u32]) -> bool
     false
 }
 
-// Whether the slot of a bit is good: zero where its field is not held, and else by the held field's rule. The tables are lent.
-fn slot_good(rec: &[u32], bit: u32, sizes: &[u8; 32], places: &[u8; 32]) -> bool
-    requires { ⌜ (length (now rec) ≡ recordWords) × (slotted bit ≡ true) × (tabled 32 fieldSize (now sizes) ≡ true) × (tabled 32 slotAt (now places) ≡ true) ⌝ }
+// Whether the slot of a bit, which stands in a record from a place on and has so many words, is good: zero where its field is not held, and else by the held
+// field's rule.
+fn slot_good(rec: &[u32], bit: u32, at: usize, size: usize) -> bool
+    requires { ⌜ (length (now rec) ≡ recordWords) × (slotted bit ≡ true) × (at ≡ headWords + slotAt bit) × (size ≡ fieldSize bit) ⌝ }
     ensures { λ r. ⌜ r ≡ slotGood (now (rec .entry)) bit ⌝ }
 {
-    let at = crate::inner::HEAD_WORDS + crate::inner::held::slot_in(places, bit);
-    let end = at + fields::inner::size_in(sizes, bit);
+    let end = at + size;
     let held = rec[crate::inner::HELD_AT];
     if (held >> bit) % 2 == 1 {
         rule_good(bit, &rec[at..end])
@@ -129,19 +129,20 @@ fn slot_good(rec: &[u32], bit: u32, sizes: &[u8; 32], places: &[u8; 32]) -> bool
     }
 }
 
-// Whether all slots of a record are good: those of bits 30 to 10.
+// Whether all slots of a record are good: those of bits 30 to 10, which stand one after the other behind the head.
 fn slots_good(rec: &[u32]) -> bool
     requires { ⌜ length (now rec) ≡ recordWords ⌝ }
     ensures { λ r. ⌜ r ≡ all 31 (slotGood (now (rec .entry))) ⌝ }
 {
-    let sizes = fields::inner::SIZES;
-    let places = crate::inner::held::SLOTS;
-    let mut bit = 10;
-    while bit < 31 {
-        if !slot_good(rec, bit, &sizes, &places) {
+    let mut bit = 30;
+    let mut at = crate::inner::HEAD_WORDS;
+    while 10 <= bit {
+        let size = fields::inner::field_size(bit);
+        if !slot_good(rec, bit, at, size) {
             return false;
         }
-        bit += 1;
+        at += size;
+        bit -= 1;
     }
     true
 }

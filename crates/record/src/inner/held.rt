@@ -81,21 +81,25 @@ pub fn slot_at(bit: u32) -> usize
     slot_in(&places, bit)
 }
 
-// Each field of these bits into its slot, whole. The fields stand in the source one after the other, from a place on.
+// Each field of these bits into its slot, whole. The fields stand in the source one after the other, from a place on. The slots stand in field order: their place
+// runs along with the bit, from 30 down to the last of the bits.
 pub fn refill(slots: &mut [u32], bits: u32, source: &[u32], at: usize)
     requires { ⌜ (length (now slots) ≡ slotWords) × (bitAnd bits slotMask ≡ bits) × Inside bits at (now source) ⌝ }
     ensures { λ _. ⌜ now (slots .exit) ≡ refilled bits at (now (source .entry)) (now (slots .entry)) ⌝ }
 {
-    let sizes = fields::inner::SIZES;
-    let places = SLOTS;
     let mut rest = bits;
+    let mut bit = 30;
+    let mut slot = 0;
     let mut from = at;
     while rest != 0 {
-        let f = fields::inner::next_field(rest);
-        let n = fields::inner::size_in(&sizes, f.bit);
-        crate::inner::copies::copy_field(slots, slot_in(&places, f.bit), source, from, n);
-        from += n;
-        rest = f.rest;
+        let n = fields::inner::field_size(bit);
+        if (rest >> bit) % 2 == 1 {
+            crate::inner::copies::copy_field(slots, slot, source, from, n);
+            from += n;
+            rest -= 1u32 << bit;
+        }
+        slot += n;
+        bit -= 1;
     }
 }
 
