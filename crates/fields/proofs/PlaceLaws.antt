@@ -49,7 +49,7 @@ module _ (b at n : ℕ) (body : List ℕ) (e : n ≡ wordsOf b (take (length bod
 
 -- ---- the place, by the indicator's bits above b, as a program clears the others
 
-cleared-small : (w k : ℕ) → w < 2 ^ 32 → w / 2 ^ k * 2 ^ k % 2 ^ 32 ≡ w / 2 ^ k * 2 ^ k
+pub cleared-small : (w k : ℕ) → w < 2 ^ 32 → w / 2 ^ k * 2 ^ k % 2 ^ 32 ≡ w / 2 ^ k * 2 ^ k
 cleared-small w k h = mod-eq-of-lt (lt-of-le-of-lt (div-mul-le-self w (2 ^ k)) h)
 
 pub place-above : (w b at : ℕ) (body : List ℕ) → w ≡ indicatorOf body → w < 2 ^ 32

@@ -1,9 +1,10 @@
 -- Fields and their slots. The idea: `inOrder` over the set bits of a number lays each bit's words after those of the bits above it; so the
 -- words at a bit's place are its own (`in-order-at`), and words are what stands at the places of their bits (`in-order-parts`). Once over any bits: a
 -- record's slots are the bits of `slotMask`, a page's held words those of a held indicator.
-use Rattle.words.proofs.Kit.{_≡_, refl, sym, ap, _∙_, Bool, true, false, not, ⊎-elim, List, [], _∷_, _++_, ℕ, zero, suc, _+_, _-_, _^_, _≤_, _<_, arith}
+use Rattle.words.proofs.Kit.{_≡_, refl, sym, ap, _∙_, Bool, true, false, not, ⊎-elim, List, [], _∷_, _++_, ℕ, zero, suc, _+_, _-_, _*_, _/_, _%_, _^_, _≤_, _<_, arith}
 use Rattle.words.proofs.Kit.{not-true, ne-eqb, le-ltb, eqb, ltb, leb, length, drop, getD}
 use native.Mathlib.Nat.{lt-of-lt-of-le}
+use native.Mathlib.Numerals.{add-one}
 use borrow.Author.Tests.{leb-true}
 use lib.Pow.{pow-mono}
 use lib.ListN.{length-append, length-drop, take-append-drop}
@@ -11,13 +12,14 @@ use Rattle.words.specs.Tests.{pick, both}
 use Rattle.words.specs.Word.{has}
 use Rattle.words.specs.SetBits.{bitsOf, above}
 use Rattle.words.specs.Part.{part}
-use Rattle.words.specs.All.{all, tabled}
-use Rattle.words.proofs.AllLaws.{all-at, tabled-at}
+use Rattle.words.specs.All.{all}
+use Rattle.words.proofs.AllLaws.{all-at}
 use Rattle.words.proofs.Cases.{le-or-lt, true-or-false, true-is-false, both-left, both-no, agreed}
 use Rattle.words.proofs.PartLaws.{part-is, part-front, part-past, part-drop}
-use Rattle.words.proofs.SetBitLaws.{has-above, bits-zero, bits-yes, bits-no, bits-parts, above-none, above-kept}
+use Rattle.words.proofs.SetBitLaws.{has-above, bits-zero, bits-yes, bits-no, bits-parts, bits-above, above-none, above-kept}
 use Rattle.fields.specs.Sizes.{fieldSize, sizesOf}
 use Rattle.fields.proofs.SizeLaws.{sizes-none, sizes-more, sizes-append}
+use Rattle.fields.proofs.PlaceLaws.{cleared-small}
 use Rattle.fields.proofs.WalkLaws.{none-left}
 use Rattle.record.specs.Held.{slotMask, slotted, slotBits, slotAt, heldMask, holds, inOrder}
 use Rattle.record.specs.Layout.{slotWords}
@@ -209,23 +211,7 @@ slot-next b slot n o e f =
     let past = placed-past 31 slotMask (b - 1) (omega (arith, slotted-high b o)) (rw c o) in
     omega (arith, rw c at past)
 
--- the table of places has each slot's, by a test that computes once over the whole table
-abbrev pub slotPlaces : List ℕ
-slotPlaces =
-    74 ∷ 74 ∷ 74 ∷ 74 ∷ 74 ∷ 74 ∷ 74 ∷ 74 ∷ 74 ∷ 74 ∷ 73 ∷ 60 ∷ 47 ∷ 36 ∷ 25 ∷ 23
-    ∷ 22 ∷ 20 ∷ 19 ∷ 18 ∷ 16 ∷ 14 ∷ 13 ∷ 12 ∷ 11 ∷ 9 ∷ 7 ∷ 5 ∷ 3 ∷ 1 ∷ 0 ∷ 0 ∷ []
-
-pub places-tabled : tabled 32 slotAt slotPlaces ≡ true
-unfolding slotAt slotBits slotMask bitsOf above sizesOf fieldSize all
-places-tabled = refl
-
-module _ (places : List ℕ) (b : ℕ) (h : b < 32) (e : tabled 32 slotAt places ≡ true) where
-  pub place-is : getD places b 0 ≡ slotAt b
-  place-is = tabled-at 32 places slotAt b e h
-
-  pub place-most : getD places b 0 ≤ slotWords
-  unfolding slotAt slotBits slotMask bitsOf above sizesOf fieldSize all
-  place-most = rw place-is (leb-true (slotAt b) slotWords (all-at (λ i. leb (slotAt i) slotWords) 32 b h refl))
-
-  pub place-fits : getD places b 0 < 2 ^ 64
-  place-fits = omega (arith, place-most)
+-- by the words of the higher bits, as a program clears the others
+pub slot-counted : (b n : ℕ) → n ≡ sizesOf (bitsOf 31 (slotMask / 2 ^ (b + 1) * 2 ^ (b + 1) % 2 ^ 32)) → n ≡ slotAt b
+unfolding slotAt slotBits
+slot-counted b n e = e ∙ rw (cleared-small slotMask (b + 1) (omega (arith, slots-small)), add-one b, bits-above 31 b slotMask)

@@ -13,12 +13,10 @@ pub use counts::count_at;
 pub use counts::type_order;
 pub use good::head_good;
 pub use good::record_good;
-pub use held::SLOTS;
 pub use held::SLOTTED;
 pub use held::is_held;
 pub use held::refill;
 pub use held::slot_at;
-pub use held::slot_in;
 pub use state::state_good;
 
 // The words of a record before its slots, those of its slots, and all.

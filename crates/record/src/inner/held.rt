@@ -2,7 +2,6 @@
 ghost use Rattle.words.specs.Kit.{_≡_, true, _≤_, _<_, length};
 ghost use lib.Bits.{bitAnd};
 ghost use Rattle.words.specs.Outcome.{accepted};
-ghost use Rattle.words.specs.All.{tabled};
 ghost use Rattle.fields.specs.Layout.{contextOf};
 ghost use Rattle.record.specs.Held.{slotMask, slotAt};
 ghost use Rattle.record.specs.Layout.{slotWords, recordWords, isHeld};
@@ -19,43 +18,6 @@ const OVER_RANGE_AT: usize = 13;
 
 const STATE_AT: usize = 22;
 
-// Where the slot of a field begins among the slots, by the field's bit. The slots stand in field order, bit 30 first, so a slot begins after those of higher
-// bits: bit 30 at 0, bit 29 at 1, down to bit 10 at 73. The entry of a bit that has no slot, 74 or 0, is not used.
-pub const SLOTS: [u8; 32] = [
-    74,
-    74,
-    74,
-    74,
-    74,
-    74,
-    74,
-    74,
-    74,
-    74,
-    73,
-    60,
-    47,
-    36,
-    25,
-    23,
-    22,
-    20,
-    19,
-    18,
-    16,
-    14,
-    13,
-    12,
-    11,
-    9,
-    7,
-    5,
-    3,
-    1,
-    0,
-    0,
-];
-
 // Whether a record holds the field of a bit.
 pub fn is_held(rec: &[u32], bit: u32) -> bool
     requires { ⌜ (length (now rec) ≡ recordWords) × (bit < 32) ⌝ }
@@ -64,21 +26,12 @@ pub fn is_held(rec: &[u32], bit: u32) -> bool
     (rec[crate::inner::HELD_AT] >> bit) % 2 == 1
 }
 
-// Where the slot of a field begins among the slots, by the table, which a loop builds once and lends.
-pub fn slot_in(places: &[u8; 32], bit: u32) -> usize
-    requires { ⌜ (tabled 32 slotAt (now places) ≡ true) × (bit < 32) ⌝ }
-    ensures { λ r. ⌜ (r ≡ slotAt bit) × (r ≤ slotWords) ⌝ }
-{
-    places[bit as usize] as usize
-}
-
-// Where the slot of a field begins among the slots.
+// Where the slot of a field begins among the slots. They stand in field order, so it is behind those of the higher bits: their words, by counts of ones.
 pub fn slot_at(bit: u32) -> usize
-    requires { ⌜ bit < 32 ⌝ }
+    requires { ⌜ bit < 31 ⌝ }
     ensures { λ r. ⌜ (r ≡ slotAt bit) × (r ≤ slotWords) ⌝ }
 {
-    let places = SLOTS;
-    slot_in(&places, bit)
+    fields::inner::fixed_words((SLOTTED >> (bit + 1)) << (bit + 1))
 }
 
 // Each field of these bits into its slot, whole. The fields stand in the source one after the other, from a place on. The slots stand in field order: their place
