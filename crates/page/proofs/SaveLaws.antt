@@ -106,10 +106,6 @@ module _ (r page : List ℕ) (at : ℕ) (l : length r ≡ recordWords) (g : reco
   unfolding slotsOf
   slots-seen = seen headWords recordWords slotWords r refl
 
-  pub squeeze-slots : length (take (recordWords - headWords) (drop headWords r)) ≡ slotWords
-  unfolding slotsOf
-  squeeze-slots = ap length slots-seen ∙ part-length headWords slotWords r (omega arith)
-
   pub squeeze-held : bitAnd (heldOf r) slotMask ≡ heldOf r
   squeeze-held = held-within (heldOf r) (good-within r g)
 

@@ -5,7 +5,7 @@ ghost use Rattle.words.specs.SetBits.{bitsOf};
 ghost use Rattle.words.specs.Laid.{Laid};
 ghost use Rattle.words.specs.All.{tabled};
 ghost use Rattle.fields.specs.Sizes.{fieldSize, sizesOf};
-ghost use Rattle.record.specs.Held.{slotMask, slotAt};
+ghost use Rattle.record.specs.Held.{slotMask};
 ghost use Rattle.record.specs.Layout.{slotWords, recordWords};
 ghost use Rattle.record.specs.After.{heldWords};
 ghost use Rattle.record.specs.Good.{recordGood};
@@ -46,40 +46,32 @@ pub fn page_words(table: &[u32]) -> usize
     length
 }
 
-// The held words of a record's slots, in field order, into a page from a place on. Gives the place past them. The tables are lent.
-fn squeeze(
-    page: &mut [u32],
-    at: usize,
-    held: u32,
-    slots: &[u32],
-    sizes: &[u8; 32],
-    places: &[u8; 32],
-) -> usize
-    requires { ⌜ (length (now slots) ≡ slotWords) × (bitAnd held slotMask ≡ held) × (at + sizesOf (bitsOf 31 held) ≤ length (now page)) × (tabled 32 fieldSize (now sizes) ≡ true) × (tabled 32 slotAt (now places) ≡ true) ⌝ }
+// The held words of a record's slots, in field order, into a page from a place on. Gives the place past them. The slots' own place runs along with the bit, from
+// 30 down to the last that is held.
+fn squeeze(page: &mut [u32], at: usize, held: u32, slots: &[u32]) -> usize
+    requires { ⌜ (length (now slots) ≡ slotWords) × (bitAnd held slotMask ≡ held) × (at + sizesOf (bitsOf 31 held) ≤ length (now page)) ⌝ }
     ensures { λ r. ⌜ Laid (now (page .entry)) at (heldWords held (now (slots .entry))) r (now (page .exit)) ⌝ }
 {
     let mut rest = held;
+    let mut bit = 30;
+    let mut slot = 0;
     let mut to = at;
     while rest != 0 {
-        let f = fields::inner::next_field(rest);
-        let n = fields::inner::size_in(sizes, f.bit);
-        let from = record::inner::slot_in(places, f.bit);
-        record::inner::copy_field(page, to, slots, from, n);
-        to += n;
-        rest = f.rest;
+        let n = fields::inner::field_size(bit);
+        if (rest >> bit) % 2 == 1 {
+            record::inner::copy_field(page, to, slots, slot, n);
+            to += n;
+            rest -= 1u32 << bit;
+        }
+        slot += n;
+        bit -= 1;
     }
     to
 }
 
-// The body of a good record, into a page from a place on: the record's first words, and then the held words. Gives the place past it. The tables are lent.
-pub fn write_body(
-    page: &mut [u32],
-    at: usize,
-    rec: &[u32],
-    sizes: &[u8; 32],
-    places: &[u8; 32],
-) -> usize
-    requires { ⌜ (length (now rec) ≡ recordWords) × (recordGood (now rec) ≡ true) × (at + length (pageBody (now rec)) ≤ length (now page)) × (tabled 32 fieldSize (now sizes) ≡ true) × (tabled 32 slotAt (now places) ≡ true) ⌝ }
+// The body of a good record, into a page from a place on: the record's first words, and then the held words. Gives the place past it.
+pub fn write_body(page: &mut [u32], at: usize, rec: &[u32]) -> usize
+    requires { ⌜ (length (now rec) ≡ recordWords) × (recordGood (now rec) ≡ true) × (at + length (pageBody (now rec)) ≤ length (now page)) ⌝ }
     ensures { λ r. ⌜ Laid (now (page .entry)) at (pageBody (now (rec .entry))) r (now (page .exit)) ⌝ }
 {
     words::inner::copy_part(page, at, rec, 0, record::inner::HEAD_WORDS);
@@ -88,8 +80,6 @@ pub fn write_body(
         at + record::inner::HEAD_WORDS,
         rec[1],
         &rec[record::inner::HEAD_WORDS..record::inner::RECORD_WORDS],
-        sizes,
-        places,
     )
 }
 

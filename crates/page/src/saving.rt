@@ -19,15 +19,13 @@ fn write_streams(page: &mut [u32], table: &[u32])
     requires { ⌜ (wellMade (now table) ≡ true) × (pageLength (now table) ≤ length (now page)) ⌝ }
     ensures { λ _. ⌜ Laid (now (page .entry)) 2 (pairsOf (now (table .entry)) ++ bodiesOf (now (table .entry))) (pageLength (now (table .entry))) (now (page .exit)) ⌝ }
 {
-    let sizes = fields::inner::SIZES;
-    let places = record::inner::SLOTS;
     let n = table::inner::streams(table);
     let mut at = crate::contents::contents_words(n);
     let mut s = 0;
     while s < n {
         let from = table::inner::record_at(s);
         let end = from + record::inner::RECORD_WORDS;
-        let past = crate::bodies::write_body(page, at, &table[from..end], &sizes, &places);
+        let past = crate::bodies::write_body(page, at, &table[from..end]);
         write_pair(page, s, at, past - at);
         at = past;
         s += 1;

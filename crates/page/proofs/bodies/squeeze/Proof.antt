@@ -1,21 +1,34 @@
--- `squeeze` meets its promise. What is laid, with the slots of the bits that are left, is all held words (`Squeezing`); its laws carry the turn.
-use native.Mathlib.Nat.{pos-of-ne-zero}
+-- `squeeze` meets its promise. What is laid, with the slots of the bits that are left, is all held words (`Squeezing`); its laws carry the turn that lays a
+-- slot and the one that passes it over.
+use Rattle.words.proofs.Kit.{_∙_, ⊎-elim, needs}
 use Rattle.words.proofs.LaidLaws.{laid-length}
-use Rattle.page.proofs.SqueezeLaws.{Squeezing, squeezing-start, squeezing-room, squeezing-slot, squeezing-sized, squeezing-turn, squeezing-end}
-use borrow.Author.Needs.{needs}
+use Rattle.record.proofs.HoldLaws.{along-few, along-fits, along-power}
+use Rattle.page.proofs.SqueezeLaws.{Squeezing, squeezing-start, squeezing-slot, squeezing-room, squeezing-fits, squeezing-taken, squeezing-passed}
+use Rattle.page.proofs.SqueezeLaws.{squeezing-end}
 use Rattle.page.proofs.bodies.squeeze.Statement.{statement}
 use Rattle.page.proofs.bodies.squeeze.Tie as tie
 
 abbrev Inv-loop : tie.InvT-loop
-Inv-loop page₀ at held slots sizes places rest₀ to₀ page rest to = Squeezing held at slots page₀ page rest to
+Inv-loop page₀ at held slots rest₀ bit₀ slot₀ to₀ page rest bit slot to = Squeezing held at slots page₀ page rest bit slot to
 
 abbrev μ-loop : tie.MeasureT-loop
-μ-loop page₀ at held slots sizes places rest₀ to₀ page rest to = rest
+μ-loop page₀ at held slots rest₀ bit₀ slot₀ to₀ page rest bit slot to = bit
+
+loop-again : tie.Need-loop-again Inv-loop μ-loop
+loop-again c =
+    let start : tie.Start Inv-loop μ-loop = search in
+    let turn : tie.In-loop Inv-loop μ-loop = search in
+    let sized : tie.After-field-size Inv-loop μ-loop = search in
+    let p = turn .before .loop .inv in
+    let some = turn .loop-test .taken in
+    let en = sized .field-size .ensures .0 in
+    ⊎-elim (λ w. squeezing-taken p some _ en (w .0 .taken) (start .pre .2) _ _ _ (start .pre .0) (w .5 ∙ w .2 .ensures) (w .6) (w .7))
+    (λ w. squeezing-passed p some _ en (w .0 .left) _ _ _ (w .1) (w .2) (w .3)) (c .if1 .came)
 
 pub squeeze-spec : {M : Type 1} → statement M
 squeeze-spec =
     tie.close
     (tie.spec
-    Inv-loop μ-loop (λ c. search squeezing-start) (λ c κs. search pos-of-ne-zero) (λ c κs. search needs) (λ c κs. search needs)
-    (λ c κs. search (squeezing-room, squeezing-slot, squeezing-sized)) (λ c. search needs) (λ c. search needs) (λ c. search squeezing-turn)
-    (λ c. search laid-length) (λ c. search squeezing-end))
+    Inv-loop μ-loop (λ c. search squeezing-start) (λ c κs. search needs) (λ c. search needs)
+    (λ c κs. (search squeezing-room, search squeezing-slot, search along-few)) (λ c. search squeezing-fits) (λ c. search needs) (λ c. search along-power)
+    (λ c. search along-fits) (λ c. search needs) (λ c. search needs) loop-again (λ c. search laid-length) (λ c. search squeezing-end))

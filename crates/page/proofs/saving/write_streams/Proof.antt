@@ -1,8 +1,5 @@
 -- `write_streams` meets its promise. The pairs and the bodies written so far are laid one behind the other (`Saving`); its laws carry the turn.
 use Rattle.words.proofs.Kit.{_-_, arith, needs}
-use Rattle.words.specs.All.{all}
-use Rattle.fields.specs.Sizes.{fieldSize}
-use Rattle.record.proofs.SlotLaws.{places-tabled}
 use Rattle.table.proofs.WellLaws.{well-whole}
 use Rattle.page.proofs.SaveLaws.{Saving, saving-start, saving-turn, saving-length, saving-end}
 use Rattle.page.proofs.SaveLaws.{record-long, record-held, body-placed, pair-asks}
@@ -10,14 +7,10 @@ use Rattle.page.proofs.saving.write_streams.Statement.{statement}
 use Rattle.page.proofs.saving.write_streams.Tie as tie
 
 abbrev Inv-loop : tie.InvT-loop
-Inv-loop page₀ table sizes places n at₀ s₀ page at s = Saving table page₀ page n s at
+Inv-loop page₀ table n at₀ s₀ page at s = Saving table page₀ page n s at
 
 abbrev μ-loop : tie.MeasureT-loop
-μ-loop page₀ table sizes places n at₀ s₀ page at s = n - s
-
-write-body-requires : tie.Need-write-body-requires Inv-loop μ-loop
-unfolding fieldSize all
-write-body-requires c κs = search (record-long, record-held, body-placed, places-tabled)
+μ-loop page₀ table n at₀ s₀ page at s = n - s
 
 write-pair-requires : tie.Need-write-pair-requires Inv-loop μ-loop
 write-pair-requires c κs =
@@ -34,6 +27,6 @@ write-streams-spec =
     tie.close
     (tie.spec
     Inv-loop μ-loop (λ c κs. search needs) (λ c κs. search needs) (λ c. search saving-start) (λ c κs. search needs) (λ c. search needs)
-    (λ c. search needs) (λ c. search needs) (λ c. search needs) (λ c. omega (arith, well-whole)) write-body-requires (λ c. search needs)
-    write-pair-requires (λ c. search needs) (λ c. search needs) (λ c. search saving-turn) (λ c. search saving-length)
-    (λ c. search saving-end))
+    (λ c. search needs) (λ c. search needs) (λ c. search needs) (λ c. omega (arith, well-whole))
+    (λ c κs. search (record-long, record-held, body-placed)) (λ c. search needs) write-pair-requires (λ c. search needs) (λ c. search needs)
+    (λ c. search saving-turn) (λ c. search saving-length) (λ c. search saving-end))
