@@ -1,7 +1,7 @@
 -- The sizes of fields. The idea: what holds of the rows at every bit is one test that computes, and `wordsOf` looks only at the first two words, and
 -- at none from bit 10 up. A bit is in one group at most, so the words of any set bits are the counts of ones in the groups, each times its words, by one
 -- induction over the width (`size-grouped`, `sizes-counted`).
-use Rattle.words.proofs.Kit.{_≡_, refl, sym, ap, _∙_, Bool, true, false, ⊎-elim, List, [], _∷_, _++_, ℕ, zero, suc, _+_, _-_, _*_, _^_, _≤_, _<_, arith}
+use Rattle.words.proofs.Kit.{_≡_, refl, sym, ap, _∙_, Bool, true, false, ⊎-elim, List, [], _∷_, _++_, ℕ, zero, suc, _+_, _-_, _*_, _/_, _%_, _^_, _≤_, _<_, arith}
 use Rattle.words.proofs.Kit.{le-ltb, ne-eqb, eqb-true, eqb, ltb, leb, length, getD}
 use native.Mathlib.Nat.{mul-le-mul-left, zero-add, mod-eq-of-lt, lt-of-le-of-lt}
 use borrow.Author.Tests.{leb-true}
@@ -82,31 +82,35 @@ elevenWords = 0x6000
 abbrev pub thirteenWords : ℕ
 thirteenWords = 0x1800
 
--- the words of a bit, by the first group that has it, and as a sum over the groups
-abbrev firstGroup : ℕ → ℕ
-firstGroup b = pick (has twoWords b) 2 (pick (has oneWord b) 1 (pick (has elevenWords b) 11 (when (has thirteenWords b) 13)))
+-- the words of a bit, as a program asks for its group: every bit from 15 up is in the first two; and as a sum over the groups
+abbrev askedGroup : ℕ → ℕ
+askedGroup b =
+    pick (ltb 14 b) (1 + twoWords / 2 ^ b % 2)
+    (pick (has elevenWords b) 11
+    (pick (has thirteenWords b) 13
+    (oneWord / 2 ^ b % 2)))
 
 abbrev allGroups : ℕ → ℕ
 allGroups b = when (has oneWord b) 1 + 2 * when (has twoWords b) 1 + 11 * when (has elevenWords b) 1 + 13 * when (has thirteenWords b) 1
 
 grouped : ℕ → Bool
-grouped b = both (eqb (fieldSize b) (firstGroup b)) (eqb (fieldSize b) (allGroups b))
+grouped b = both (eqb (fieldSize b) (askedGroup b)) (eqb (fieldSize b) (allGroups b))
 
 -- the groups are document 01's rows
-rows-grouped : all 32 grouped ≡ true
+rows-grouped : all 31 grouped ≡ true
 unfolding grouped fieldSize all
 rows-grouped = refl
 
--- as a program asks one group after the other
-pub size-first : (b : ℕ) → b < 32
-    → fieldSize b ≡ pick (has twoWords b) 2 (pick (has oneWord b) 1 (pick (has elevenWords b) 11 (when (has thirteenWords b) 13)))
+pub size-asked : (b : ℕ) → b < 31
+    → fieldSize b
+    ≡ pick (ltb 14 b) (1 + twoWords / 2 ^ b % 2) (pick (has elevenWords b) 11 (pick (has thirteenWords b) 13 (oneWord / 2 ^ b % 2)))
 unfolding grouped
-size-first b h = eqb-true _ _ (both-left _ (eqb (fieldSize b) (allGroups b)) (all-at grouped 32 b h rows-grouped))
+size-asked b h = eqb-true _ _ (both-left _ (eqb (fieldSize b) (allGroups b)) (all-at grouped 31 b h rows-grouped))
 
-pub size-grouped : (b : ℕ) → b < 32
+pub size-grouped : (b : ℕ) → b < 31
     → fieldSize b ≡ when (has oneWord b) 1 + 2 * when (has twoWords b) 1 + 11 * when (has elevenWords b) 1 + 13 * when (has thirteenWords b) 1
 unfolding grouped
-size-grouped b h = eqb-true _ _ (both-right (eqb (fieldSize b) (firstGroup b)) _ (all-at grouped 32 b h rows-grouped))
+size-grouped b h = eqb-true _ _ (both-right (eqb (fieldSize b) (askedGroup b)) _ (all-at grouped 31 b h rows-grouped))
 
 -- one bit more of a group, where n has it and where not
 counted-step : (t : Bool) (k : ℕ) (l : List ℕ) → length (pick t (k ∷ l) l) ≡ when t 1 + length l
@@ -120,7 +124,7 @@ counted-yes k n g e = rw (has-and n g k, e) (counted-step (has g k) k (bitsOf k 
 counted-no : (k n g : ℕ) → has n k ≡ false → length (bitsOf (suc k) (bitAnd n g)) ≡ length (bitsOf k (bitAnd n g))
 counted-no k n g e = ap length (bits-no k (bitAnd n g) (has-and n g k ∙ rw e))
 
-pub sizes-counted : (k n : ℕ) → k ≤ 32
+pub sizes-counted : (k n : ℕ) → k ≤ 31
     → sizesOf (bitsOf k n) ≡ length (bitsOf k (bitAnd n oneWord)) + 2 * length (bitsOf k (bitAnd n twoWords))
     + 11 * length (bitsOf k (bitAnd n elevenWords)) + 13 * length (bitsOf k (bitAnd n thirteenWords))
 unfolding bitsOf

@@ -10,7 +10,7 @@ use Rattle.words.specs.Word.{has}
 use Rattle.words.specs.SetBits.{bitsOf}
 use Rattle.words.proofs.Cases.{true-or-false, le-or-lt}
 use Rattle.words.proofs.BitLaws.{has-and}
-use Rattle.words.proofs.SetBitLaws.{bits-trim, bits-few, bits-zero, bits-yes, bits-no, bits-mod, has-above}
+use Rattle.words.proofs.SetBitLaws.{bits-trim, bits-few, bits-zero, bits-yes, bits-no, bits-mod, bits-head, has-above}
 use Rattle.fields.specs.Sizes.{wordsOf}
 use Rattle.fields.specs.Rules.{ruleOf}
 use Rattle.fields.specs.Layout.{spanOf, obeyed, carried, indicatorOf, bodyWords}
@@ -18,7 +18,7 @@ use Rattle.fields.specs.inner.Limits.{ruled}
 use Rattle.fields.proofs.RuleLaws.{ruledBits, ruled-bit, unruled-kept}
 
 pub record Walking (bits : ℕ) (body : List ℕ) (rest at : ℕ) : Type 0 where
-  pub fits : rest < 2 ^ 32
+  pub fits : rest < 2 ^ 31
   pub near : at + length (bitsOf 32 rest) * 2 ^ 33 ≤ 1 + 32 * 2 ^ 33
   pub rules : obeyed (bitsOf 32 rest) (drop at body) ≡ obeyed (bitsOf 31 bits) (drop 1 body)
 
@@ -68,6 +68,9 @@ walking-some rest h = ⊎-elim (λ (z : rest ≤ 0). absurd (h (omega (arith, an
 module _ {bits rest at : ℕ} {body : List ℕ} (p : Walking bits body rest at) where
   -- b is the next bit, and k whether its field obeys
   module _ (b rest′ : ℕ) (k : Bool) (cut : bitsOf 32 rest ≡ b ∷ bitsOf 32 rest′) (rule : k ≡ ruleOf b (drop at body)) where
+    pub walking-bit : b < 31
+    walking-bit = bits-head 31 rest b (bitsOf 32 rest′) (sym (bits-trim 31 32 rest (omega arith) (p .fits)) ∙ cut) .low
+
     walking-next : (w : ℕ) → w ≡ wordsOf b (drop at body)
         → obeyed (bitsOf 31 bits) (drop 1 body) ≡ both k (obeyed (bitsOf 32 rest′) (drop (at + w) body))
     walking-next w e =

@@ -11,7 +11,7 @@ pub enum Found {
 
 // The field of a bit that stands at a place of a body, where it lies wholly inside.
 fn inside(bit: u32, body: &[u32], at: usize) -> Found
-    requires { ⌜ bit < 32 ⌝ }
+    requires { ⌜ bit < 31 ⌝ }
     ensures { λ r. ⌜ foundPaper r ≡ insideOf bit at (now (body .entry)) ⌝ }
 {
     if body.len() < at {

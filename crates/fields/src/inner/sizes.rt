@@ -31,16 +31,13 @@ pub fn fixed_words(bits: u32) -> usize
         + 13 * in_group(bits, THIRTEEN)
 }
 
-// The words of a field of fixed size, by the group that its bit is in; 0 for a bit in none.
+// The words of a field of fixed size, by the group that its bit is in; 0 for a bit in none. Every bit from 15 up is in the groups of 1 word and of 2.
 pub fn field_size(bit: u32) -> usize
-    requires { ⌜ bit < 32 ⌝ }
+    requires { ⌜ bit < 31 ⌝ }
     ensures { λ r. ⌜ (r ≡ fieldSize bit) × (r ≤ 13) ⌝ }
 {
-    if (TWO >> bit) % 2 == 1 {
-        return 2;
-    }
-    if (ONE >> bit) % 2 == 1 {
-        return 1;
+    if 14 < bit {
+        return 1 + ((TWO >> bit) % 2) as usize;
     }
     if (ELEVEN >> bit) % 2 == 1 {
         return 11;
@@ -48,7 +45,7 @@ pub fn field_size(bit: u32) -> usize
     if (THIRTEEN >> bit) % 2 == 1 {
         return 13;
     }
-    0
+    ((ONE >> bit) % 2) as usize
 }
 
 // The words of field 9 at a place of a body.
@@ -79,7 +76,7 @@ pub fn list_words_at(body: &[u32], at: usize) -> usize
 
 // The words of the field of a bit that stands at a place of a body.
 pub fn words_at(bit: u32, body: &[u32], at: usize) -> usize
-    requires { ⌜ (bit < 32) × (at < 2 ^ 40) ⌝ }
+    requires { ⌜ (bit < 31) × (at < 2 ^ 40) ⌝ }
     ensures { λ r. ⌜ (r ≡ wordsOf bit (drop at (now (body .entry)))) × (r ≤ 2 ^ 33) ⌝ }
 {
     if 9 < bit {

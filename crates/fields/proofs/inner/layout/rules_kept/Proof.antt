@@ -1,7 +1,7 @@
 -- `rules_kept` meets its promise. The invariant `Walking` says what is left: the fields of the bits that are left, from the place reached on, decide; its laws
 -- carry the turn.
 use Rattle.words.proofs.Kit.{needs}
-use Rattle.fields.proofs.WalkLaws.{Walking, walking-start, walking-some, walking-turn, walking-broken, walking-end, walking-near}
+use Rattle.fields.proofs.WalkLaws.{Walking, walking-start, walking-some, walking-bit, walking-turn, walking-broken, walking-end, walking-near}
 use Rattle.fields.proofs.inner.layout.rules_kept.Statement.{statement}
 use Rattle.fields.proofs.inner.layout.rules_kept.Tie as tie
 
@@ -16,4 +16,4 @@ rules-kept-spec =
     tie.close
     (tie.spec
     Inv-loop μ-loop (λ c. search walking-start) (λ c κs. search walking-some) (λ c κs. (search needs, search walking-near)) (λ c. search walking-broken)
-    (λ c κs. (search needs, search walking-near)) (λ c. search (needs, walking-near)) (λ c. search needs) (λ c. search walking-turn) (λ c. search walking-end))
+    (λ c κs. (search walking-bit, search walking-near)) (λ c. search (needs, walking-near)) (λ c. search needs) (λ c. search walking-turn) (λ c. search walking-end))
