@@ -211,6 +211,14 @@ slot-next b slot n o e f =
     let past = placed-past 31 slotMask (b - 1) (omega (arith, slotted-high b o)) (rw c o) in
     omega (arith, rw c at past)
 
+-- the same place from the end, after the slot of bit 10: it goes back over a slot by its field's words
+pub slot-last : slotAt 9 ≡ slotWords
+unfolding slotAt slotBits slotMask bitsOf above sizesOf fieldSize
+slot-last = refl
+
+pub slot-before : (b slot n : ℕ) → slotted b ≡ true → slot ≡ slotAt (b - 1) → n ≡ fieldSize b → (n ≤ slot) × (slot - n ≡ slotAt b)
+slot-before b slot n o e f = let next = slot-next b (slotAt b) n o refl f in (omega (arith, next, e), omega (arith, next, e))
+
 -- by the words of the higher bits, as a program clears the others
 pub slot-counted : (b n : ℕ) → n ≡ sizesOf (bitsOf 31 (slotMask / 2 ^ (b + 1) * 2 ^ (b + 1) % 2 ^ 32)) → n ≡ slotAt b
 unfolding slotAt slotBits
