@@ -1,6 +1,6 @@
 -- All readings at once. The idea: the loop fills the entries from the front, and what it has passed is what the record shows of bit 30 - k (`Showing`);
--- `slotBits` has that bit at place k, so the whole is the definition, entry by entry.
-use Rattle.words.proofs.Kit.{_≡_, refl, sym, ap, _∙_, List, [], _∷_, ℕ, zero, suc, _+_, _-_, _≤_, _<_, arith, le-ltb, length, take, drop, getD, set}
+-- `slotBits` has that bit at place k, so the whole is the definition, entry by entry. The place among the slots runs along (`slot-along-next`).
+use Rattle.words.proofs.Kit.{_≡_, refl, sym, ap, _∙_, List, [], _∷_, ℕ, zero, suc, _+_, _-_, _^_, _≤_, _<_, arith, le-ltb, length, take, drop, getD, set}
 use mathlib.Core.List.{map}
 use lib.ListN.{replicate, length-set, length-map, length-replicate, getD-replicate}
 use lib.Seq.{ext-getD, getD-set-same, getD-set-other}
@@ -12,8 +12,11 @@ use Rattle.words.proofs.AllLaws.{tabled-at}
 use Rattle.words.proofs.RefusalLaws.{after-first}
 use Rattle.words.specs.declared.Check.{Check}
 use Rattle.words.specs.declared.Check.the-variants as checks
-use Rattle.record.specs.Held.{slotMask, slotBits}
+use Rattle.fields.specs.Sizes.{fieldSize}
+use Rattle.record.specs.Held.{slotMask, slotBits, slotAt}
 use Rattle.record.specs.Layout.{recordWords}
+use Rattle.record.proofs.SlotLaws.{slot-next, slotted-all}
+use Rattle.record.proofs.HoldLaws.{slot-inside}
 use Rattle.table.specs.Layout.{base, recordAt}
 use Rattle.table.specs.Stream.{streamNumberList}
 use Rattle.table.specs.inner.Checked.{streamChecks}
@@ -50,6 +53,16 @@ fields-many = refl
 pub field-bit : (i : ℕ) → i < 21 → getD slotBits i 0 ≡ 30 - i
 unfolding slotBits slotMask bitsOf all
 field-bit i h = tabled-at 21 slotBits (λ k. 30 - k) i refl h
+
+-- the place among the slots that a loop over all fields takes along: at turn i it is that of bit 30 - i, whose field has n words
+module _ (i slot n : ℕ) (h : i < 21) (e : slot ≡ slotAt (30 - i)) (f : n ≡ fieldSize (30 - i)) where
+  pub slot-along-fits : slot + n < 2 ^ 64
+  slot-along-fits = omega (arith, slot-inside (30 - i) (slotted-all (30 - i) (omega arith) (omega arith)))
+
+  pub slot-along-next : slot + n ≡ slotAt (30 - (i + 1))
+  slot-along-next =
+      let passed : 30 - i - 1 ≡ 30 - (i + 1) = omega arith in
+      slot-next (30 - i) slot n (slotted-all (30 - i) (omega arith) (omega arith)) e f ∙ ap slotAt passed
 
 -- ---- a record, read from the front
 

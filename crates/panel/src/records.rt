@@ -2,6 +2,7 @@
 ghost use mathlib.Core.List.{map};
 ghost use Rattle.words.specs.Kit.{_≡_, _≤_, _<_, length};
 ghost use Rattle.words.specs.Outcome.{accepted, measured, Meets};
+ghost use Rattle.record.specs.Held.{slotAt};
 ghost use Rattle.record.specs.Layout.{recordWords, heldWordsIn};
 ghost use Rattle.table.specs.Layout.{Has, recordAt};
 ghost use Rattle.panel.specs.Readings.{recordShows, readingPaper};
@@ -21,15 +22,18 @@ fn read_record(rec: &[u32], bit: u32) -> crate::FieldReading
     crate::shows::show(bit, &rec[at..end])
 }
 
-// What each field shows in a record: entry i is that of bit 30 - i.
+// What each field shows in a record: entry i is that of bit 30 - i. The place among the slots runs along.
 fn read_all(rec: &[u32]) -> [crate::FieldReading; 21]
     requires { ⌜ length (now rec) ≡ recordWords ⌝ }
     ensures { λ r. ⌜ map readingPaper r ≡ map accepted (recordReadings (now (rec .entry))) ⌝ }
 {
     let mut dials = [crate::FieldReading::Absent; 21];
+    let mut slot = 0;
     let mut i = 0;
     while i < 21 {
-        dials[i] = crate::shows::show_in(rec, 30 - i as u32);
+        let bit = 30 - i as u32;
+        dials[i] = crate::shows::show_in(rec, bit, slot);
+        slot += fields::inner::field_size(bit);
         i += 1;
     }
     dials
@@ -60,14 +64,14 @@ pub fn read_at(table: &[u32], stream: usize, bit: u32) -> crate::FieldReading
     read_record(&table[at..end], bit)
 }
 
-// What the field of a bit shows in the record of a stream, for a loop over all fields.
-pub fn show_at(table: &[u32], stream: usize, bit: u32) -> crate::FieldReading
-    requires { ⌜ (stream < 32) × Has stream (now table) × (10 ≤ bit) × (bit ≤ 30) ⌝ }
+// What the field of a bit, whose slot is at a place among the slots, shows in the record of a stream, for a loop over all fields.
+pub fn show_at(table: &[u32], stream: usize, bit: u32, slot: usize) -> crate::FieldReading
+    requires { ⌜ (stream < 32) × Has stream (now table) × (10 ≤ bit) × (bit ≤ 30) × (slot ≡ slotAt bit) ⌝ }
     ensures { λ r. ⌜ readingPaper r ≡ accepted (recordShows bit (recordAt stream (now (table .entry)))) ⌝ }
 {
     let at = table::inner::record_at(stream);
     let end = at + record::inner::RECORD_WORDS;
-    crate::shows::show_in(&table[at..end], bit)
+    crate::shows::show_in(&table[at..end], bit, slot)
 }
 
 // What each field shows in the record of a stream.

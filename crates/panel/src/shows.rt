@@ -1,6 +1,7 @@
 // What the words of a field show.
 ghost use Rattle.words.specs.Kit.{_≡_, _≤_, length};
 ghost use Rattle.words.specs.Outcome.{accepted};
+ghost use Rattle.record.specs.Held.{slotAt};
 ghost use Rattle.record.specs.Layout.{recordWords};
 ghost use Rattle.panel.specs.Readings.{isFrequency, shownOf, recordShows, readingPaper};
 
@@ -43,16 +44,16 @@ pub fn show(bit: u32, ws: &[u32]) -> crate::FieldReading
     crate::FieldReading::Other
 }
 
-// What the field of a bit shows in a record, for a loop over all fields. It is `show` with the words read where they stand: were `show` called for one field and
-// for all, the compiler would put it in line in neither (docs/DECISIONS.md, 72).
-pub fn show_in(rec: &[u32], bit: u32) -> crate::FieldReading
-    requires { ⌜ (length (now rec) ≡ recordWords) × (10 ≤ bit) × (bit ≤ 30) ⌝ }
+// What the field of a bit, whose slot is at a place among the slots, shows in a record, for a loop over all fields. It is `show` with the words read where
+// they stand: were `show` called for one field and for all, the compiler would put it in line in neither (docs/DECISIONS.md, 72).
+pub fn show_in(rec: &[u32], bit: u32, slot: usize) -> crate::FieldReading
+    requires { ⌜ (length (now rec) ≡ recordWords) × (10 ≤ bit) × (bit ≤ 30) × (slot ≡ slotAt bit) ⌝ }
     ensures { λ r. ⌜ readingPaper r ≡ accepted (recordShows bit (now (rec .entry))) ⌝ }
 {
     if !record::inner::is_held(rec, bit) {
         return crate::FieldReading::Absent;
     }
-    let at = record::inner::HEAD_WORDS + record::inner::slot_at(bit);
+    let at = record::inner::HEAD_WORDS + slot;
     let first = words::inner::word_at(rec, at);
     if is_frequency(bit) {
         let low = words::inner::word_at(rec, at + 1);
