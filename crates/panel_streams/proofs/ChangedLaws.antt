@@ -1,6 +1,6 @@
 -- Fields that are not the same in two records. The idea: a word marked bit by bit has the bits whose tests hold, so a loop that marks one bit
 -- more goes from `marked k` to `marked (k + 1)`; and the held words of a field are parts of the two records at one place, of the same words where they are as
--- many and none of them differs.
+-- many and none of them differs. The loop takes the place among the slots along, back from their end (`slot-back`).
 use Rattle.words.proofs.Kit.{_≡_, refl, sym, ap, ap₂, _∙_, Bool, true, false, not, ⊎-elim, List, ℕ, _+_, _-_, _^_, _≤_, _<_, arith}
 use Rattle.words.proofs.Kit.{eq-eqb, ne-eqb, eqb-true, le-leb, lt-leb, not-true, not-false, eqb, leb, length, take, drop, getD}
 use borrow.Author.Tests.{leb-false}
@@ -22,7 +22,7 @@ use Rattle.words.proofs.PartLaws.{seen, part-length, getD-part}
 use Rattle.fields.specs.Sizes.{fieldSize}
 use Rattle.record.specs.Held.{slotted, slotAt}
 use Rattle.record.specs.Layout.{headWords, recordWords, isHeld, heldWordsIn}
-use Rattle.record.proofs.SlotLaws.{slotted-not, slotted-all}
+use Rattle.record.proofs.SlotLaws.{slotted-not, slotted-all, slot-before}
 use Rattle.record.proofs.GoodLaws.{Passing, passing-end}
 use Rattle.record.proofs.HeldWordsLaws.{held-most, held-part, held-length}
 use Rattle.table.specs.Layout.{streamsOf, base, Has, recordAt}
@@ -85,6 +85,18 @@ module _ (r q : List ℕ) where
     pub marking-end : bit ≤ 31 → 31 ≤ bit → word ≡ changedIn r q
     unfolding changedIn
     marking-end h l = let m : bit ≡ 31 = omega arith in e ∙ ap (λ (k : ℕ). marked k (differs r q)) m
+
+-- the place among the slots that goes back with a loop over the bits below top: before a turn it is the end of the bit's slot, which has n words; after it,
+-- the slot's beginning, which is the end of the next bit's
+module _ (bit slot n top : ℕ) (lo : 10 ≤ bit) (hi : bit < top) (few : top ≤ 31) (e : slot ≡ slotAt (bit - 1)) (f : n ≡ fieldSize bit) where
+  pub slot-back-inside : n ≤ slot
+  slot-back-inside = slot-before bit slot n (slotted-all bit lo (omega arith)) e f .0
+
+  pub slot-back : slot - n ≡ slotAt bit
+  slot-back = slot-before bit slot n (slotted-all bit lo (omega arith)) e f .1
+
+  pub slot-back-turn : slot - n ≡ slotAt (bit + 1 - 1)
+  slot-back-turn = let passed : bit ≡ bit + 1 - 1 = omega arith in slot-back ∙ ap slotAt passed
 
 -- one bit, as a program sets it: p is its weight
 pub weight-fits : (bit p : ℕ) → bit ≤ 30 → p ≡ 2 ^ bit → p < 2 ^ 32
@@ -149,6 +161,9 @@ module _ (r q : List ℕ) (b z n m : ℕ) (h g : Bool) (l : length r ≡ recordW
   module _ (at : ℕ) (ea : at ≡ slotAt b) (e : n ≡ m) where
     pub field-inside : headWords + at + n ≤ length r
     field-inside = held-most r b at z l lo hi ea ez n h eh en
+
+    pub field-fits : headWords + at < 2 ^ 64
+    field-fits = omega (arith, l, field-inside)
 
     pub field-other : headWords + at + n ≤ length q
     field-other = held-most q b at z k lo hi ea ez n g eg (e ∙ em)

@@ -3,6 +3,8 @@ ghost use Rattle.words.specs.Kit.{_≡_, _+_, _^_, _≤_, _<_, length};
 ghost use Rattle.words.specs.Tests.{when, sameWords};
 ghost use Rattle.words.specs.Part.{part};
 ghost use Rattle.words.specs.Outcome.{accepted, checked};
+ghost use Rattle.fields.specs.Sizes.{fieldSize};
+ghost use Rattle.record.specs.Held.{slotAt};
 ghost use Rattle.record.specs.Layout.{recordWords};
 ghost use Rattle.table.specs.Layout.{Has, recordAt};
 ghost use Rattle.panel_streams.specs.Changed.{differs, changedIn, changedPaper};
@@ -48,18 +50,17 @@ fn same_part(one: &[u32], other: &[u32], at: usize, n: usize) -> bool
     true
 }
 
-// Whether the words that two records hold for the field of a bit are not the same.
-fn field_differs(one: &[u32], other: &[u32], bit: u32) -> bool
-    requires { ⌜ (length (now one) ≡ recordWords) × (length (now other) ≡ recordWords) × (10 ≤ bit) × (bit ≤ 30) ⌝ }
+// Whether the words that two records hold for the field of a bit, whose slot is at a place among the slots and has so many words, are not the same.
+fn field_differs(one: &[u32], other: &[u32], bit: u32, slot: usize, size: usize) -> bool
+    requires { ⌜ (length (now one) ≡ recordWords) × (length (now other) ≡ recordWords) × (10 ≤ bit) × (bit ≤ 30) × (slot ≡ slotAt bit) × (size ≡ fieldSize bit) ⌝ }
     ensures { λ r. ⌜ r ≡ differs (now (one .entry)) (now (other .entry)) bit ⌝ }
 {
-    let size = fields::inner::field_size(bit);
     let n = words::inner::when_so(record::inner::is_held(one, bit), size);
     let m = words::inner::when_so(record::inner::is_held(other, bit), size);
     if n != m {
         return true;
     }
-    let at = record::inner::HEAD_WORDS + record::inner::slot_at(bit);
+    let at = record::inner::HEAD_WORDS + slot;
     !same_part(one, other, at, n)
 }
 
@@ -74,15 +75,18 @@ fn mark(word: u32, bit: u32, test: bool) -> u32
     word
 }
 
-// The bits of the fields whose held words are not the same in two records.
+// The bits of the fields whose held words are not the same in two records. The place among the slots runs along, from their end.
 fn changed_fields(one: &[u32], other: &[u32]) -> u32
     requires { ⌜ (length (now one) ≡ recordWords) × (length (now other) ≡ recordWords) ⌝ }
     ensures { λ r. ⌜ r ≡ changedIn (now (one .entry)) (now (other .entry)) ⌝ }
 {
     let mut word = 0;
+    let mut slot = record::inner::SLOT_WORDS;
     let mut bit = 10;
     while bit < 31 {
-        word = mark(word, bit, field_differs(one, other, bit));
+        let size = fields::inner::field_size(bit);
+        slot -= size;
+        word = mark(word, bit, field_differs(one, other, bit, slot, size));
         bit += 1;
     }
     word
