@@ -60,7 +60,8 @@ pub struct Columns {
     pub second: [f32; 21],
 }
 
-// The columns of a stream's record. Each field is read and its numbers are stored, since an array of all readings would be copied twice on its way.
+// The columns of a stream's record. Each field is read and its numbers are stored, since an array of all readings would be copied twice on its way. The
+// place among the slots runs along.
 fn columns_of(table: &[u32], stream: usize) -> Columns
     requires { ⌜ (stream < 32) × Has stream (now table) ⌝ }
     ensures { λ r. ⌜ columnPlaces r ≡ readingsValues (recordReadings (recordAt stream (now (table .entry)))) ⌝ }
@@ -70,9 +71,12 @@ fn columns_of(table: &[u32], stream: usize) -> Columns
     let mut hertz = [0; 21];
     let mut first = [0.0; 21];
     let mut second = [0.0; 21];
+    let mut slot = 0;
     let mut i = 0;
     while i < 21 {
-        let v = numbers_of(panel::inner::show_at(table, stream, 30 - i as u32));
+        let bit = 30 - i as u32;
+        let v = numbers_of(panel::inner::show_at(table, stream, bit, slot));
+        slot += fields::inner::field_size(bit);
         kinds[i] = v.kind;
         parts[i] = v.parts;
         let whole = v.hertz;
