@@ -16,7 +16,7 @@ use Rattle.words.proofs.SetBitLaws.{bits-zero, bits-yes, bits-no, bits-none, bi
 use Rattle.words.proofs.Cases.{both-left, true-or-false}
 use Rattle.words.proofs.PartLaws.{getD-part, part-length, part-front, part-past, part-whole, part-is}
 use Rattle.fields.specs.Sizes.{fieldSize, sizesOf}
-use Rattle.fields.proofs.SizeLaws.{sizes-none, sizes-more}
+use Rattle.fields.proofs.SizeLaws.{sizes-within, sizes-most}
 use Rattle.record.specs.Held.{slotMask, slotted, slotBits, slotAt, heldMask}
 use Rattle.record.specs.Layout.{headWords, slotWords, recordWords, heldOf, countWords, lastOf, slotIn, slotsOf, slotOf}
 use Rattle.record.specs.After.{refilled, heldWords}
@@ -105,31 +105,9 @@ module _ (r : List ℕ) (l : length r ≡ recordWords) (e : recordGood r ≡ tru
 
 -- ---- how long a body is
 
--- fewer bits take fewer words
-sizes-within : (k n m : ℕ) → ((b : ℕ) → b < k → has n b ≡ true → has m b ≡ true) → sizesOf (bitsOf k n) ≤ sizesOf (bitsOf k m)
-sizes-within zero n m w = omega (arith, ap sizesOf (bits-zero n), ap sizesOf (bits-zero m))
-sizes-within (suc k) n m w =
-    let rest = sizes-within k n m (λ b h. w b (omega arith)) in
-    let more : (x : ℕ) → has x k ≡ true → sizesOf (bitsOf (suc k) x) ≡ fieldSize k + sizesOf (bitsOf k x) = λ x y. ap sizesOf (bits-yes k x y)
-    ∙ sizes-more k (bitsOf k x) in
-    ⊎-elim (λ (y : has n k ≡ true). omega (arith, rest, more n y, more m (w k (omega arith) y)))
-    (λ (y : has n k ≡ false).
-    ⊎-elim (λ (z : has m k ≡ true). omega (arith, rest, ap sizesOf (bits-no k n y), more m z))
-    (λ (z : has m k ≡ false). omega (arith, rest, ap sizesOf (bits-no k n y), ap sizesOf (bits-no k m z))) (true-or-false (has m k)))
-    (true-or-false (has n k))
-
-every-bit : (b : ℕ) → b < 31 → has (2 ^ 31 - 1) b ≡ true
-unfolding all
-every-bit b h = all-at (has (2 ^ 31 - 1)) 31 b h refl
-
--- the fields of bits 30 to 0 that have a fixed size have 74 words together
-every-size : sizesOf (bitsOf 31 (2 ^ 31 - 1)) ≡ slotWords
-unfolding bitsOf sizesOf fieldSize
-every-size = refl
-
 pub words-most : (held : ℕ) → pageBodyWords held ≤ recordWords
 unfolding pageBodyWords
-words-most held = omega (arith, sizes-within 31 held (2 ^ 31 - 1) (λ b h y. every-bit b h), every-size)
+words-most held = omega (arith, sizes-most held)
 
 -- those that are held have 73
 held-size : sizesOf (bitsOf 31 heldMask) ≡ 73
@@ -140,28 +118,14 @@ pub body-most : (held : ℕ) → bitAnd held heldMask ≡ held → pageBodyWords
 unfolding pageBodyWords
 body-most held w = omega (arith, sizes-within 31 held heldMask (λ b h y. within-bits heldMask held w b y), held-size)
 
--- the loop that adds the fields: its start, a turn and its end. The length so far and the words of the bits that are left are the whole
-abbrev pub Adding : ℕ → ℕ → ℕ → Type 0
-Adding held rest n = n + sizesOf (bitsOf 32 rest) ≡ pageBodyWords held
+-- as a program adds them: n is the words of the held fields
+module _ (held n : ℕ) (e : n ≡ sizesOf (bitsOf 31 held)) where
+  pub words-added : headWords + n ≡ pageBodyWords held
+  unfolding pageBodyWords
+  words-added = ap (λ (m : ℕ). headWords + m) e
 
-pub adding-start : (held rest : ℕ) → rest ≡ held % 2 ^ 31 → Adding held rest headWords
-unfolding pageBodyWords
-adding-start held rest e =
-    ap (λ (l : List ℕ). headWords + sizesOf l) (ap (bitsOf 32) e ∙ bits-trim 31 32 (held % 2 ^ 31) (omega arith) (mod-lt held (omega arith)) ∙ bits-mod 31 held)
-
-module _ (held rest n b rest′ w : ℕ) (p : Adding held rest n) (cut : bitsOf 32 rest ≡ b ∷ bitsOf 32 rest′) (e : w ≡ fieldSize b) where
-  pub adding-turn : Adding held rest′ (n + w)
-  adding-turn = omega (arith, p, ap sizesOf cut, sizes-more b (bitsOf 32 rest′))
-
-  pub adding-small : n + w < 2 ^ 64
-  adding-small = omega (arith, adding-turn, words-most held)
-
-module _ (held rest n : ℕ) (p : Adding held rest n) (z : rest ≡ 0) where
-  pub adding-end : n ≡ pageBodyWords held
-  adding-end = omega (arith, p, ap sizesOf (bits-none 32 rest (omega arith)), sizes-none)
-
-  pub adding-most : n ≤ recordWords
-  adding-most = omega (arith, adding-end, words-most held)
+  pub added-most : headWords + n ≤ recordWords
+  added-most = omega (arith, words-added, words-most held)
 
 -- ---- slots that words are put into
 

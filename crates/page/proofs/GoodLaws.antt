@@ -221,41 +221,33 @@ module _ (b : List ℕ) (l : length b ≡ pageBodyWords (heldOf b)) where
           let ruled : kept ≡ all 31 (slotRuled (recordOf b)) = g ∙ rw d (rules-below 31 0 body-within (omega arith) (zero-add _)) in
           good-slots (recordOf b) head head-same r (not-false head i) (o ∙ ap₂ both ruled (f ∙ state-in) ∙ sym (slots-ruled (recordOf b)))
 
--- ---- the state word of a body: w is the words of a body that holds the fields below 16 alone
+-- ---- the state word of a body: w is the words of the held fields below 16, which stand behind it
 
 module _ (b : List ℕ) (l : length b ≡ pageBodyWords (heldOf b)) where
   pub state-absent : (heldOf b / 2 ^ 16 % 2 ≡ 1 → ⊥) → true ≡ stateGoodIn b
   unfolding stateGoodIn
   state-absent h = rw (ne-eqb (heldOf b / 2 ^ 16 % 2) 1 h)
 
-  module _ (w : ℕ) (f : w ≡ pageBodyWords (heldOf b % 2 ^ 16)) (h : heldOf b / 2 ^ 16 % 2 ≡ 1) where
-    pub state-below : headWords ≤ w
-    unfolding pageBodyWords
-    state-below = omega (arith, f)
-
-    behind : w ≡ headWords + sizesOf (bitsOf 16 (heldOf b))
-    unfolding pageBodyWords
+  module _ (w : ℕ) (f : w ≡ sizesOf (bitsOf 31 (heldOf b % 2 ^ 16))) (h : heldOf b / 2 ^ 16 % 2 ≡ 1) where
+    behind : w ≡ sizesOf (bitsOf 16 (heldOf b))
     behind =
-        f ∙ ap (λ (k : List ℕ). headWords + sizesOf k)
+        f ∙ ap sizesOf
         (bits-trim 16 31 (heldOf b % 2 ^ 16) (omega arith) (mod-lt (heldOf b) (omega arith)) ∙ bits-mod 16 (heldOf b))
 
-    state-last : length b ≡ headWords + placed 31 (heldOf b) 16 + 1 + (w - headWords)
+    state-last : length b ≡ headWords + placed 31 (heldOf b) 16 + 1 + w
     unfolding pageBodyWords fieldSize
     state-last = omega (arith, l, behind, placed-split 31 (heldOf b) 16 (omega arith) (eq-eqb _ 1 h))
 
-    pub state-some : 1 ≤ length b
-    state-some = omega (arith, state-last)
-
-    pub state-there : w - headWords ≤ length b - 1
+    pub state-there : w ≤ length b - 1
     state-there = omega (arith, state-last)
 
-    pub state-inside : length b - 1 - (w - headWords) < length b
+    pub state-inside : length b - 1 - w < length b
     state-inside = omega (arith, state-last)
 
-    pub state-answer : (r : Bool) → r ≡ stateGood (getD b (length b - 1 - (w - headWords)) 0) → r ≡ stateGoodIn b
+    pub state-answer : (r : Bool) → r ≡ stateGood (getD b (length b - 1 - w) 0) → r ≡ stateGoodIn b
     unfolding stateGoodIn
     state-answer r g =
-        let place : length b - 1 - (w - headWords) ≡ headWords + placed 31 (heldOf b) 16 = omega (arith, state-last) in
+        let place : length b - 1 - w ≡ headWords + placed 31 (heldOf b) 16 = omega (arith, state-last) in
         g ∙ ap (λ (k : ℕ). stateGood (getD b k 0)) place ∙ rw (eq-eqb (heldOf b / 2 ^ 16 % 2) 1 h)
 
 -- ---- the page: k is the answer to its contents, l that to its list, and n is S

@@ -3,8 +3,7 @@ ghost use Rattle.words.specs.Kit.{_≡_, true, _+_, _≤_, _<_, length};
 ghost use lib.Bits.{bitAnd};
 ghost use Rattle.words.specs.SetBits.{bitsOf};
 ghost use Rattle.words.specs.Laid.{Laid};
-ghost use Rattle.words.specs.All.{tabled};
-ghost use Rattle.fields.specs.Sizes.{fieldSize, sizesOf};
+ghost use Rattle.fields.specs.Sizes.{sizesOf};
 ghost use Rattle.record.specs.Held.{slotMask};
 ghost use Rattle.record.specs.Layout.{slotWords, recordWords};
 ghost use Rattle.record.specs.After.{heldWords};
@@ -14,19 +13,11 @@ ghost use Rattle.page.specs.Body.{pageBody, pageBodyWords};
 ghost use Rattle.page.specs.Layout.{pageLength, mostWords, bodiesIn, pageBodyAt};
 ghost use Rattle.page.specs.inner.Tested.{contentsGood};
 
-// The length of a body, by its held indicator: the first words, and the words of each held field. The table of sizes is lent.
-pub fn body_words(held: u32, sizes: &[u8; 32]) -> usize
-    requires { ⌜ tabled 32 fieldSize (now sizes) ≡ true ⌝ }
+// The length of a body, by its held indicator: the first words, and the words of the held fields.
+pub fn body_words(held: u32) -> usize
     ensures { λ r. ⌜ (r ≡ pageBodyWords held) × (r ≤ recordWords) ⌝ }
 {
-    let mut rest = held % 0x8000_0000;
-    let mut length = record::inner::HEAD_WORDS;
-    while rest != 0 {
-        let f = fields::inner::next_field(rest);
-        length += fields::inner::size_in(sizes, f.bit);
-        rest = f.rest;
-    }
-    length
+    record::inner::HEAD_WORDS + fields::inner::fixed_words(held)
 }
 
 // The length of the page of a well-made table: the contents, and each body.
@@ -34,13 +25,12 @@ pub fn page_words(table: &[u32]) -> usize
     requires { ⌜ wellMade (now table) ≡ true ⌝ }
     ensures { λ r. ⌜ (r ≡ pageLength (now (table .entry))) × (r ≤ mostWords) ⌝ }
 {
-    let sizes = fields::inner::SIZES;
     let n = table::inner::streams(table);
     let mut length = crate::contents::contents_words(n);
     let mut s = 0;
     while s < n {
         let at = table::inner::record_at(s);
-        length += body_words(table[at + 1], &sizes);
+        length += body_words(table[at + 1]);
         s += 1;
     }
     length

@@ -1,7 +1,6 @@
 // Whether a page is well made: its contents, then its list, then each body's record.
 ghost use Rattle.words.specs.Kit.{_≡_, true, _≤_, _<_, length};
-ghost use Rattle.words.specs.All.{all, tabled};
-ghost use Rattle.fields.specs.Sizes.{fieldSize};
+ghost use Rattle.words.specs.All.{all};
 ghost use Rattle.record.specs.Layout.{heldOf};
 ghost use Rattle.record.specs.Good.{recordGood};
 ghost use Rattle.table.specs.Identifiers.{listGood};
@@ -10,16 +9,16 @@ ghost use Rattle.page.specs.Layout.{contentsWords, bodiesIn, beginsAt};
 ghost use Rattle.page.specs.inner.Tested.{pairGood, pairsGood, contentsGood, identifierAt, Gathered, stateGoodIn, recordGoodIn, pageOk};
 
 // Whether pair s is right, where the bodies before it end at a place: its offset is that place, its body ends inside the page, and its length is that of the
-// body's held indicator. The table of sizes is lent.
-fn pair_good(page: &[u32], s: usize, at: usize, sizes: &[u8; 32]) -> bool
-    requires { ⌜ (at ≡ beginsAt (now page) s) × (at ≤ length (now page)) × (s < 32) × (tabled 32 fieldSize (now sizes) ≡ true) ⌝ }
+// body's held indicator.
+fn pair_good(page: &[u32], s: usize, at: usize) -> bool
+    requires { ⌜ (at ≡ beginsAt (now page) s) × (at ≤ length (now page)) × (s < 32) ⌝ }
     ensures { λ r. ⌜ r ≡ pairGood (now (page .entry)) s ⌝ }
 {
     let here = crate::contents::offset_in(page, s) == at;
     let length = crate::contents::length_in(page, s);
     let inside = at + length <= page.len();
     let held = words::inner::word_at(page, at + 1);
-    let fits = length == crate::bodies::body_words(held, sizes);
+    let fits = length == crate::bodies::body_words(held);
     words::inner::both_of(here, words::inner::both_of(inside, fits))
 }
 
@@ -28,11 +27,10 @@ fn pairs_good(page: &[u32], n: usize) -> bool
     requires { ⌜ (n ≡ bodiesIn (now page)) × (n ≤ 32) × (contentsWords n ≤ length (now page)) ⌝ }
     ensures { λ r. ⌜ r ≡ pairsGood (now (page .entry)) n ⌝ }
 {
-    let sizes = fields::inner::SIZES;
     let mut at = crate::contents::contents_words(n);
     let mut s = 0;
     while s < n {
-        if !pair_good(page, s, at, &sizes) {
+        if !pair_good(page, s, at) {
             return false;
         }
         at += crate::contents::length_in(page, s);
@@ -88,17 +86,15 @@ fn state_good_in(body: &[u32]) -> bool
 {
     let held = body[1];
     if (held >> 16) % 2 == 1 {
-        let sizes = fields::inner::SIZES;
-        let below = crate::bodies::body_words(held % 0x1_0000, &sizes);
-        let at = body.len() - 1 - (below - record::inner::HEAD_WORDS);
+        let at = body.len() - 1 - fields::inner::fixed_words(held % 0x1_0000);
         return record::inner::state_good(body[at]);
     }
     true
 }
 
 // Whether the record of a body is good: the body's first words are, the held fields obey their rules, and the state word can be held. The slots of the other
-// fields would be zero. `walk` skips the first word that it is given, where the body of a packet has its indicator; so it is given the held words with the one
-// word before them.
+// fields would be zero. `rules_kept` skips the first word that it is given, where the body of a packet has its indicator; so it is given the held words with the
+// one word before them.
 fn body_good(body: &[u32]) -> bool
     requires { ⌜ length (now body) ≡ pageBodyWords (heldOf (now body)) ⌝ }
     ensures { λ r. ⌜ r ≡ recordGood (recordOf (now (body .entry))) ⌝ }
@@ -106,8 +102,8 @@ fn body_good(body: &[u32]) -> bool
     if !record::inner::head_good(body) {
         return false;
     }
-    let walked = fields::inner::walk(body[1], &body[record::inner::HEAD_WORDS - 1..]);
-    words::inner::both_of(walked.kept, state_good_in(body))
+    let kept = fields::inner::rules_kept(body[1], &body[record::inner::HEAD_WORDS - 1..]);
+    words::inner::both_of(kept, state_good_in(body))
 }
 
 // Whether the record of body s is good.
