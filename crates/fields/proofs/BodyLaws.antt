@@ -1,7 +1,7 @@
 -- What callers use of a type 4 body that is accepted. The idea: the carried bits are those above b, b, and those below it (`bits-split`), so the
 -- words and the rules of all fields are those of the fields before b's, of b's own, and of the rest (`body-split`, `rules-split`).
 use Rattle.words.proofs.Kit.{_≡_, refl, sym, ap, _∙_, Bool, true, false, ⊎-elim, List, [], _∷_, _++_, ℕ, zero, suc, _+_, _≤_, _<_, arith}
-use Rattle.words.proofs.Kit.{eqb-true, not-false, le-ltb, le-leb, ltb, length, take, drop}
+use Rattle.words.proofs.Kit.{_%_, _^_, not, eqb-true, not-true, not-false, le-ltb, le-leb, ltb, length, take, drop}
 use native.Mathlib.Nat.{zero-add, add-zero, add-assoc}
 use borrow.Author.Tests.{ltb-true}
 use lib.ListN.{length-drop}
@@ -13,7 +13,7 @@ use Rattle.words.specs.Outcome.{accepted}
 use Rattle.words.specs.Part.{part}
 use Rattle.words.proofs.Cases.{true-or-false, both-left, both-right, both-assoc}
 use Rattle.words.proofs.RefusalLaws.{first-passed}
-use Rattle.words.proofs.SetBitLaws.{bits-zero, bits-yes, bits-no, bits-parts, bits-split}
+use Rattle.words.proofs.SetBitLaws.{bits-zero, bits-yes, bits-no, bits-mod, bits-parts, bits-split}
 use Rattle.words.proofs.PartLaws.{part-is}
 use Rattle.fields.specs.Sizes.{fieldSize, sizesOf, asciiWords, listWords, wordsOf}
 use Rattle.fields.specs.Rules.{ruleOf}
@@ -132,6 +132,38 @@ pub span-fixed : (b : ℕ) (bs ws : List ℕ) → 9 ≤ b → spanOf (above b bs
 unfolding spanOf above sizesOf
 span-fixed b [] ws h = refl
 span-fixed b (x ∷ bs) ws h = fixed-step (ltb b x) b x (above b bs) ws h refl (λ us. span-fixed b bs us h)
+
+-- the rules of the fields of the bits above b, b at least 9, and of those up to b, which stand behind them
+module _ (k b n at : ℕ) (body : List ℕ) (h : b < k) (g : 9 ≤ b) (t : Bool) (e : t ≡ obeyed (above b (bitsOf k n)) (drop at body)) where
+  parts-rules : obeyed (bitsOf k n) (drop at body) ≡ both t (obeyed (bitsOf (suc b) n) (drop (at + sizesOf (above b (bitsOf k n))) body))
+  parts-rules =
+      ap (λ (l : List ℕ). obeyed l (drop at body)) (bits-parts k n b h) ∙ obeyed-append (above b (bitsOf k n)) (bitsOf (suc b) n) (drop at body)
+      ∙ rw (e, span-fixed b (bitsOf k n) (drop at body) g, drop-drop)
+
+  pub parts-broken : not t ≡ true → false ≡ obeyed (bitsOf k n) (drop at body)
+  parts-broken o = sym (rw (not-true t o) at parts-rules)
+
+  pub parts-kept : (p : ℕ) → not t ≡ false → (t ≡ true → p ≡ at + sizesOf (above b (bitsOf k n)))
+      → obeyed (bitsOf (suc b) n) (drop p body) ≡ obeyed (bitsOf k n) (drop at body)
+  parts-kept p o f = rw (f (not-false t o)) (sym (rw (not-false t o) at parts-rules))
+
+-- as a program walks them in parts: h is whether those above bit 21 obey and p the place past them, m and q the same of those above 17
+module _ (n : ℕ) (body : List ℕ) (h : Bool) (p : ℕ) (eh : h ≡ obeyed (above 21 (bitsOf 31 n)) (drop 1 body)) where
+  pub high-broken : not h ≡ true → false ≡ obeyed (bitsOf 31 n) (drop 1 body)
+  high-broken = parts-broken 31 21 n 1 body (omega arith) (omega arith) h eh
+
+  module _ (ph : h ≡ true → p ≡ 1 + sizesOf (above 21 (bitsOf 31 n))) (oh : not h ≡ false) (m : Bool) (q : ℕ)
+      (em : m ≡ obeyed (above 17 (bitsOf 22 n)) (drop p body)) where
+    high-kept : obeyed (bitsOf 22 n) (drop p body) ≡ obeyed (bitsOf 31 n) (drop 1 body)
+    high-kept = parts-kept 31 21 n 1 body (omega arith) (omega arith) h eh p oh ph
+
+    pub middle-broken : not m ≡ true → false ≡ obeyed (bitsOf 31 n) (drop 1 body)
+    middle-broken o = parts-broken 22 17 n p body (omega arith) (omega arith) m em o ∙ high-kept
+
+    pub low-decides : (r : Bool) → (m ≡ true → q ≡ p + sizesOf (above 17 (bitsOf 22 n))) → not m ≡ false
+        → r ≡ obeyed (bitsOf 18 (n % 2 ^ 18)) (drop q body) → r ≡ obeyed (bitsOf 31 n) (drop 1 body)
+    low-decides r pm o e =
+        e ∙ ap (λ (l : List ℕ). obeyed l (drop q body)) (bits-mod 18 n) ∙ parts-kept 22 17 n p body (omega arith) (omega arith) m em q o pm ∙ high-kept
 
 -- the fields of all bits: those of fixed size, then 9 and then 8, which stand last; lower bits have none
 sizes-low : (k n : ℕ) → k ≤ 10 → sizesOf (bitsOf k n) ≡ 0

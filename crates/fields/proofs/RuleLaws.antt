@@ -87,6 +87,9 @@ module _ (b : ℕ) (ws : List ℕ) (below : Bool) (f : below ≡ firstOk b (getD
   pub rule-above : below ≡ true → 17 < b → true ≡ ruleOf b ws
   rule-above under g = sym (rule-limit b ws h ∙ rw (← f, under) (more-above b (getD ws 0 0) (getD ws 1 0) g))
 
+  pub rule-only : 17 < b → below ≡ ruleOf b ws
+  rule-only g = sym (rule-limit b ws h ∙ rw (← f, more-above b (getD ws 0 0) (getD ws 1 0) g) (both-yes below))
+
   pub rule-more : below ≡ true → (v : ℕ) (more : Bool) → v ≡ getD ws 1 0 → more ≡ moreOk b (getD ws 0 0) v → more ≡ ruleOf b ws
   rule-more under v more e m = m ∙ rw e (sym (rule-limit b ws h ∙ rw (← f, under)))
 
@@ -100,6 +103,9 @@ module _ (b u at : ℕ) (body : List ℕ) (e : u ≡ getD body at 0) (below : Bo
 
   pub rule-above-at : below ≡ true → 17 < b → true ≡ ruleOf b (drop at body)
   rule-above-at = rule-above b (drop at body) below (f ∙ rw first-is) (rw (← first-is) h)
+
+  pub rule-only-at : 17 < b → below ≡ ruleOf b (drop at body)
+  rule-only-at = rule-only b (drop at body) below (f ∙ rw first-is) (rw (← first-is) h)
 
   pub rule-more-at : below ≡ true → (v : ℕ) (more : Bool) → v ≡ getD body (at + 1) 0 → more ≡ moreOk b u v → more ≡ ruleOf b (drop at body)
   rule-more-at under v more g m =

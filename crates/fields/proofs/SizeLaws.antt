@@ -14,7 +14,7 @@ use Rattle.words.specs.All.{all}
 use Rattle.words.proofs.Cases.{true-or-false, both-left, both-right}
 use Rattle.words.proofs.AllLaws.{all-at}
 use Rattle.words.proofs.BitLaws.{has-and}
-use Rattle.words.proofs.SetBitLaws.{bits-zero, bits-yes, bits-no, bits-counted, bits-few}
+use Rattle.words.proofs.SetBitLaws.{bits-zero, bits-yes, bits-no, bits-parts, bits-counted, bits-few}
 use Rattle.fields.specs.Sizes.{fieldSize, sizesOf, listWords, wordsOf}
 use Rattle.fields.specs.Layout.{carried}
 
@@ -66,6 +66,11 @@ sizes-none = refl
 pub sizes-more : (b : ℕ) (bs : List ℕ) → sizesOf (b ∷ bs) ≡ fieldSize b + sizesOf bs
 unfolding sizesOf
 sizes-more b bs = refl
+
+pub sizes-append : (fs bs : List ℕ) → sizesOf (fs ++ bs) ≡ sizesOf fs + sizesOf bs
+unfolding sizesOf
+sizes-append [] bs = sym (zero-add (sizesOf bs))
+sizes-append (f ∷ fs) bs = omega (arith, sizes-append fs bs)
 
 -- ---- the groups of document 01, and counts of ones
 
@@ -187,6 +192,18 @@ every-size = refl
 pub sizes-most : (n : ℕ) → sizesOf (bitsOf 31 n) ≤ 74
 sizes-most n = omega (arith, sizes-within 31 n (2 ^ 31 - 1) (λ b h y. every-bit b h), every-size)
 
+-- those of the bits up to `first` and above `past`
+pub sizes-between : (n first past : ℕ) → past ≤ first → first ≤ 30 → sizesOf (above past (bitsOf (suc first) n)) ≤ 74
+sizes-between n first past h g =
+    omega (
+      arith,
+      ap sizesOf (bits-parts 31 n first (omega arith)),
+      sizes-append (above first (bitsOf 31 n)) (bitsOf (suc first) n),
+      ap sizesOf (bits-parts (suc first) n past (omega arith)),
+      sizes-append (above past (bitsOf (suc first) n)) (bitsOf (suc past) n),
+      sizes-most n,
+    )
+
 module _ (n a b c d : ℕ) (e : a ≡ length (bitsOf 31 (bitAnd n oneWord))) (f : b ≡ length (bitsOf 31 (bitAnd n twoWords)))
     (g : c ≡ length (bitsOf 31 (bitAnd n elevenWords))) (h : d ≡ length (bitsOf 31 (bitAnd n thirteenWords))) where
   pub groups-sizes : a + 2 * b + 11 * c + 13 * d ≡ sizesOf (bitsOf 31 n)
@@ -194,11 +211,6 @@ module _ (n a b c d : ℕ) (e : a ≡ length (bitsOf 31 (bitAnd n oneWord))) (f 
 
   pub groups-most : a + 2 * b + 11 * c + 13 * d ≤ 74
   groups-most = omega (arith, groups-sizes, sizes-most n)
-
-pub sizes-append : (fs bs : List ℕ) → sizesOf (fs ++ bs) ≡ sizesOf fs + sizesOf bs
-unfolding sizesOf
-sizes-append [] bs = sym (zero-add (sizesOf bs))
-sizes-append (f ∷ fs) bs = omega (arith, sizes-append fs bs)
 
 -- ---- fields that say their sizes themselves
 

@@ -1,19 +1,11 @@
--- `rules_kept` meets its promise. The invariant `Walking` says what is left: the fields of the bits that are left, from the place reached on, decide; its laws
--- carry the turn.
+-- `rules_kept` meets its promise: the fields stand one after the other, so what the three parts find is what all fields are (`low-decides`).
 use Rattle.words.proofs.Kit.{needs}
-use Rattle.fields.proofs.WalkLaws.{Walking, walking-start, walking-some, walking-bit, walking-turn, walking-broken, walking-end, walking-near}
+use Rattle.fields.proofs.BodyLaws.{high-broken, middle-broken, low-decides}
 use Rattle.fields.proofs.inner.layout.rules_kept.Statement.{statement}
 use Rattle.fields.proofs.inner.layout.rules_kept.Tie as tie
-
-abbrev Inv-loop : tie.InvT-loop
-Inv-loop bits body rest₀ at₀ rest at = Walking bits body rest at
-
-abbrev μ-loop : tie.MeasureT-loop
-μ-loop bits body rest₀ at₀ rest at = rest
 
 pub rules-kept-spec : {M : Type 1} → statement M
 rules-kept-spec =
     tie.close
     (tie.spec
-    Inv-loop μ-loop (λ c. search walking-start) (λ c κs. search walking-some) (λ c κs. (search needs, search walking-near)) (λ c. search walking-broken)
-    (λ c κs. (search walking-bit, search walking-near)) (λ c. search (needs, walking-near)) (λ c. search needs) (λ c. search walking-turn) (λ c. search walking-end))
+    (λ c κs. search needs) (λ c. search high-broken) (λ c κs. search needs) (λ c. search middle-broken) (λ c κs. search needs) (λ c. search low-decides))
