@@ -2,11 +2,11 @@
 -- which has a word (device has two), is the rule of its own words. A rule is a limit of the first word and what else is asked (`rule-limit`); and the
 -- fields that have one are the bits of one constant (`ruled-bit`).
 use Rattle.words.proofs.Kit.{_≡_, refl, sym, _∙_, Bool, true, false, not, ⊎-elim, List, [], _∷_, ℕ, _+_, _/_, _%_, _^_, _≤_, _<_, arith, eqb-true}
-use Rattle.words.proofs.Kit.{_*_, eq-eqb, ne-eqb, lt-ltb, le-ltb, eqb, ltb, take, drop, getD}
+use Rattle.words.proofs.Kit.{_*_, not-true, eq-eqb, ne-eqb, lt-ltb, le-ltb, eqb, ltb, take, drop, getD}
 use native.Mathlib.Nat.{mod-eq-of-lt, div-eq-of-lt, div-lt-iff-lt-mul}
 use lib.Pow.{pow-pos}
 use lib.Seq.{getD-take}
-use Rattle.words.specs.Tests.{pick, both, among}
+use Rattle.words.specs.Tests.{pick, either, both, among}
 use Rattle.words.specs.Word.{has}
 use Rattle.words.specs.All.{all}
 use Rattle.words.proofs.Cases.{true-or-false, le-or-lt, true-is-false, both-yes, neither, agreed}
@@ -121,6 +121,14 @@ bit-right b = pick (has ruledBits b) (ruled b) (not (ruled b))
 pub ruled-bit : (b : ℕ) → b < 32 → has ruledBits b ≡ ruled b
 unfolding bit-right all ruled
 ruled-bit b h = agreed (has ruledBits b) (ruled b) (all-at bit-right 32 b h refl)
+
+-- fields 14 to 10 have none
+free : ℕ → Bool
+free b = either (ltb b 10) (not (ruled b))
+
+pub unruled-low : (b : ℕ) → 10 ≤ b → b ≤ 14 → ruled b ≡ false
+unfolding free all ruled
+unruled-low b h g = not-true (ruled b) (rw (le-ltb b 10 h) at (all-at free 15 b (omega arith) refl))
 
 -- what is not among some numbers is none of them
 none-of : (b n : ℕ) (xs : List ℕ) → among b xs ≡ false → among n xs ≡ true → eqb b n ≡ false

@@ -1,8 +1,8 @@
 -- When a record is good. The idea: the tests of specs/Good.antt say what `Good` says in facts (`good-of`, `of-good`); a count and the fields of an accepted
 -- packet keep each of these facts, so a good record stays good.
 use Rattle.words.proofs.Kit.{_≡_, refl, sym, ap, _∙_, Bool, true, false, not, ⊎-elim, List, [], _∷_, ℕ, zero, suc, _+_, _-_, _*_, _/_, _%_, _^_, _≤_, _<_}
-use Rattle.words.proofs.Kit.{arith, eq-eqb, ne-eqb, le-leb, eqb-true, not-true, not-false, eqb, length, take, drop, getD}
-use native.Mathlib.Nat.{add-zero, add-suc, add-assoc, zero-div, lt-of-le-of-lt}
+use Rattle.words.proofs.Kit.{arith, eq-eqb, ne-eqb, le-leb, lt-leb, eqb-true, not-true, not-false, eqb, length, take, drop, getD}
+use native.Mathlib.Nat.{le-refl, add-zero, add-suc, add-assoc, zero-div, lt-of-le-of-lt}
 use borrow.Author.Tests.{leb-true}
 use lib.Bits.{bitAnd, and-le-r, or-lt}
 use lib.ListN.{replicate, length-replicate}
@@ -13,13 +13,13 @@ use Rattle.words.specs.Part.{part}
 use Rattle.words.specs.All.{all}
 use Rattle.words.specs.Outcome.{accepted}
 use Rattle.words.proofs.Cases.{le-or-lt, true-or-false, same-or-not, both-left, both-right, both-true, both-yes, both-no, both-assoc, neither, pick-true}
-use Rattle.words.proofs.Cases.{true-is-false}
+use Rattle.words.proofs.Cases.{true-is-false, same-test}
 use Rattle.words.proofs.AllLaws.{all-none, all-more, all-end, all-fails, all-at, all-intro, all-same, all-both, all-only}
 use Rattle.words.proofs.PartLaws.{seen, getD-part, part-part, part-length, part-whole}
 use Rattle.fields.specs.Sizes.{fieldSize}
 use Rattle.fields.specs.Rules.{ruleOf}
 use Rattle.fields.specs.inner.Limits.{firstOk, moreOk}
-use Rattle.fields.proofs.RuleLaws.{rule-broken, rule-above, rule-more}
+use Rattle.fields.proofs.RuleLaws.{rule-broken, rule-only, unruled-kept, unruled-low, rule-more}
 use Rattle.fields.proofs.SizeLaws.{size-some}
 use Rattle.fields.specs.Layout.{indicatorOf, fieldOf, contextOf}
 use Rattle.fields.proofs.BodyLaws.{context-fits, field-rule}
@@ -31,6 +31,7 @@ use Rattle.record.specs.Counts.{countedOf, countRecord}
 use Rattle.record.specs.After.{slotAfter, heldAfter, holdRecord}
 use Rattle.record.specs.Good.{zeros, countGood, countGoodAt, heldGood, heldRule, slotGood, choiceGood, recordGood, GoodCount, Good}
 use Rattle.record.specs.inner.Head.{headGood}
+use Rattle.record.specs.inner.Between.{goodBetween}
 use Rattle.record.proofs.SlotLaws.{slotted-not, slotted-low, slotted-high, slotted-all, slot-first, slot-next, held-small}
 use Rattle.record.proofs.StateLaws.{state-ruled, state-none, state-stays-good}
 use Rattle.record.proofs.CopyLaws.{size-slotted, size-eleven}
@@ -132,6 +133,9 @@ module _ (r : List ℕ) (b at n : ℕ) (l : length r ≡ recordWords) (o : slott
   pub slot-fits : at + n < 2 ^ 64
   slot-fits = omega (arith, slot-end)
 
+  pub slot-word : at < length r
+  slot-word = omega (arith, slot-end, size-some b (slotted-low b o) (slotted-high b o))
+
   pub slot-bytes : at * 4 < 2 ^ 64
   slot-bytes = omega (arith, slot-end)
 
@@ -160,46 +164,6 @@ module _ (r : List ℕ) (b at n : ℕ) (l : length r ≡ recordWords) (o : slott
     unfolding slotGood
     slot-zeroed h e = rw (o, ne-eqb (heldOf r / 2 ^ b % 2) 1 h) (e ∙ ap zeros slot-seen)
 
--- ---- the slots, as a program tests them from bit 30 down: those of the bits above b are good, and the slot of b begins at `at`
-
-pub record Testing (r : List ℕ) (b at : ℕ) : Type 0 where
-  pub low : 9 ≤ b
-  pub high : b ≤ 30
-  pub here : at ≡ headWords + slotAt b
-  pub good : (x : ℕ) → b < x → x < 31 → slotGood r x ≡ true
-
-pub testing-start : (r : List ℕ) → Testing r 30 headWords
-testing-start r = record {
-  low = omega arith;
-  high = omega arith;
-  here = omega (arith, slot-first);
-  good = λ x h g. absurd (omega arith);
-}
-
-module _ (r : List ℕ) (b at : ℕ) (p : Testing r b at) where
-  -- a bit below 10 has no slot
-  pub testing-end : b < 10 → true ≡ all 31 (slotGood r)
-  unfolding slotGood
-  testing-end h =
-      sym (all-intro (slotGood r) 31
-      (λ x l. ⊎-elim (λ (g : x ≤ b). rw (slotted-not x (omega arith))) (λ (g : b < x). p .good x g l) (le-or-lt x b)))
-
-  pub testing-slotted : 10 ≤ b → slotted b ≡ true
-  testing-slotted h = slotted-all b h (omega (arith, p .high))
-
-  module _ (h : 10 ≤ b) (t : Bool) (e : t ≡ slotGood r b) where
-    pub testing-fails : not t ≡ true → false ≡ all 31 (slotGood r)
-    testing-fails o = sym (all-fails (slotGood r) 31 b (omega (arith, p .high)) (sym e ∙ not-true t o))
-
-    pub testing-turn : (n : ℕ) → n ≡ fieldSize b → not t ≡ false → Testing r (b - 1) (at + n)
-    testing-turn n en o = record {
-      low = omega arith;
-      high = omega (arith, p .high);
-      here = omega (arith, p .here, slot-next b (slotAt b) n (testing-slotted h) refl en);
-      good = λ x g l.
-          ⊎-elim (λ (i : x ≡ b). rw i (sym e ∙ not-false t o)) (λ (d : x ≡ b → ⊥). p .good x (omega arith) l) (same-or-not x b);
-    }
-
 -- ---- the rule of a held field, as a program asks it: `below` is the answer to whether the first word is below its limit
 
 module _ (b : ℕ) (ws : List ℕ) (below : Bool) (f : below ≡ firstOk b (getD ws 0 0)) (h : getD ws 0 0 < 2 ^ 32) where
@@ -207,9 +171,9 @@ module _ (b : ℕ) (ws : List ℕ) (below : Bool) (f : below ≡ firstOk b (getD
   unfolding heldRule
   held-broken over = rw (← (rule-broken b ws below f h over))
 
-  pub held-above : below ≡ true → 17 < b → true ≡ heldRule b ws
+  pub held-only : 17 < b → below ≡ heldRule b ws
   unfolding heldRule
-  held-above under g = rw (← (rule-above b ws below f h under g), ne-eqb b 16 (λ e. omega arith))
+  held-only g = rule-only b ws below f h g ∙ rw (ne-eqb b 16 (λ e. omega arith)) (sym (both-yes (ruleOf b ws)))
 
   pub held-more : below ≡ true → (b ≡ 16 → ⊥) → (v : ℕ) (more : Bool) → v ≡ getD ws 1 0 → more ≡ moreOk b (getD ws 0 0) v → more ≡ heldRule b ws
   unfolding heldRule
@@ -224,6 +188,124 @@ held-state b ws t e f =
     ruled : (s : Bool) → stateGood (getD ws 0 0) ≡ s → both (ruleOf 16 ws) s ≡ s
     ruled true y = both-true _ _ (state-ruled (getD ws 0 0) y ws refl) refl
     ruled false y = both-no (ruleOf 16 ws)
+
+-- ---- the slot of a bit above 17, whose rule is the limit of its first word, and of one from 14 down, which has none
+
+module _ (r : List ℕ) (b at n : ℕ) (l : length r ≡ recordWords) (o : slotted b ≡ true) (ea : at ≡ headWords + slotAt b) (en : n ≡ fieldSize b)
+    (held : heldOf r / 2 ^ b % 2 ≡ 1) where
+  first-there : getD (slotOf b r) 0 0 ≡ getD r at 0
+  unfolding slotOf slotIn slotsOf
+  first-there =
+      let some : 0 < fieldSize b = size-some b (slotted-low b o) (slotted-high b o) in
+      getD-part (slotAt b) (fieldSize b) 0 (part headWords slotWords r) some
+      ∙ getD-part headWords slotWords (slotAt b + 0) r (omega (arith, slot-inside b o)) ∙ ap (λ (i : ℕ). getD r i 0) (omega arith)
+
+  pub slot-limited : 17 < b → (t : Bool) → (t ≡ firstOk b (getD r at 0)) × (getD r at 0 < 2 ^ 32) → t ≡ slotGood r b
+  unfolding slotGood
+  slot-limited g t e =
+      rw (o, eq-eqb (heldOf r / 2 ^ b % 2) 1 held)
+      (held-only b (slotOf b r) t (e .0 ∙ ap (firstOk b) (sym first-there)) (rw first-there (e .1)) g)
+
+  pub slot-free : b ≤ 14 → true ≡ slotGood r b
+  unfolding slotGood heldRule
+  slot-free g =
+      rw (o, eq-eqb (heldOf r / 2 ^ b % 2) 1 held, ← (unruled-kept b (slotOf b r) false (sym (unruled-low b (slotted-low b o) g)) refl), ne-eqb b 16 (λ e. omega arith))
+
+-- ---- the slots, as a program tests them from bit `first` down to the one above `past`: those of the bits above b are good, and the slot of b begins at `at`
+
+pub record Testing (r : List ℕ) (first past b at : ℕ) : Type 0 where
+  pub least : 9 ≤ past
+  pub most : first ≤ 30
+  pub low : past ≤ b
+  pub high : b ≤ first
+  pub here : at ≡ headWords + slotAt b
+  pub good : (x : ℕ) → b < x → x ≤ first → slotGood r x ≡ true
+
+pub testing-start : (r : List ℕ) (first past at : ℕ) → 9 ≤ past → past ≤ first → first ≤ 30 → at ≡ slotAt first → Testing r first past first (headWords + at)
+testing-start r first past at l h m e = record {
+  least = l;
+  most = m;
+  low = h;
+  high = le-refl first;
+  here = ap (λ (n : ℕ). headWords + n) e;
+  good = λ x g k. absurd (omega arith);
+}
+
+module _ (r : List ℕ) (first past b at : ℕ) (p : Testing r first past b at) where
+  pub testing-end : b ≤ past → true ≡ goodBetween first past r
+  unfolding goodBetween
+  testing-end h =
+      sym (all-intro _ (suc first)
+      (λ x l. ⊎-elim (λ (g : x ≤ past). rw (le-leb x past g)) (λ (g : past < x). rw (lt-leb x past g) (p .good x (omega arith) (omega arith))) (le-or-lt x past)))
+
+  module _ (h : past < b) where
+    pub testing-slotted : slotted b ≡ true
+    testing-slotted = slotted-all b (omega (arith, p .least)) (omega (arith, p .high, p .most))
+
+    pub testing-fits : (n : ℕ) → n ≡ fieldSize b → at + n < 2 ^ 64
+    testing-fits n en = omega (arith, p .here, slot-inside b testing-slotted)
+
+    module _ (t : Bool) (e : t ≡ slotGood r b) where
+      pub testing-fails : not t ≡ true → false ≡ goodBetween first past r
+      unfolding goodBetween
+      testing-fails o = sym (all-fails _ (suc first) b (omega (arith, p .high)) (rw (lt-leb b past h) (sym e ∙ not-true t o)))
+
+      pub testing-turn : (n : ℕ) → n ≡ fieldSize b → not t ≡ false → Testing r first past (b - 1) (at + n)
+      testing-turn n en o = record {
+        least = p .least;
+        most = p .most;
+        low = omega arith;
+        high = omega (arith, p .high);
+        here = omega (arith, p .here, slot-next b (slotAt b) n testing-slotted refl en);
+        good = λ x g l.
+            ⊎-elim (λ (i : x ≡ b). rw i (sym e ∙ not-false t o)) (λ (d : x ≡ b → ⊥). p .good x (omega arith) l) (same-or-not x b);
+      }
+
+-- the slots of the parts, and all of them
+between-at : (r : List ℕ) (first past b : ℕ) → goodBetween first past r ≡ true → past < b → b ≤ first → slotGood r b ≡ true
+unfolding goodBetween
+between-at r first past b e h g = rw (lt-leb b past h) at (all-at _ (suc first) b (omega arith) e)
+
+between-of : (r : List ℕ) (first past : ℕ) → first < 31 → all 31 (slotGood r) ≡ true → goodBetween first past r ≡ true
+unfolding goodBetween
+between-of r first past h e =
+    all-intro _ (suc first)
+    (λ b l. ⊎-elim (λ (g : b ≤ past). rw (le-leb b past g)) (λ (g : past < b). rw (lt-leb b past g) (all-at (slotGood r) 31 b (omega arith) e)) (le-or-lt b past))
+
+-- a slot that is not good is not good among all
+between-fails : (r : List ℕ) (first past : ℕ) (t : Bool) → first < 31 → t ≡ goodBetween first past r → not t ≡ true → false ≡ all 31 (slotGood r)
+between-fails r first past t h e o =
+    ⊎-elim (λ (y : all 31 (slotGood r) ≡ true). absurd (true-is-false (sym (between-of r first past h y) ∙ sym e ∙ not-true t o))) (λ n. sym n)
+    (true-or-false (all 31 (slotGood r)))
+
+-- as a program asks them, one part after the other: h, m, l and u are its answers
+module _ (r : List ℕ) (h : Bool) (eh : h ≡ goodBetween 30 21 r) where
+  pub high-ill : not h ≡ true → false ≡ all 31 (slotGood r)
+  high-ill = between-fails r 30 21 h (omega arith) eh
+
+  module _ (oh : not h ≡ false) (m : Bool) (em : m ≡ goodBetween 21 17 r) where
+    pub next-ill : not m ≡ true → false ≡ all 31 (slotGood r)
+    next-ill = between-fails r 21 17 m (omega arith) em
+
+    module _ (om : not m ≡ false) (l : Bool) (el : l ≡ goodBetween 17 14 r) where
+      pub middle-ill : not l ≡ true → false ≡ all 31 (slotGood r)
+      middle-ill = between-fails r 17 14 l (omega arith) el
+
+      each-good : (b : ℕ) → b < 31 → not l ≡ false → goodBetween 14 9 r ≡ true → slotGood r b ≡ true
+      unfolding slotGood
+      each-good b g ol y =
+          ⊎-elim (λ (a : b ≤ 21).
+          ⊎-elim (λ (c : b ≤ 17).
+          ⊎-elim (λ (d : b ≤ 14).
+          ⊎-elim (λ (k : b ≤ 9). rw (slotted-not b (omega arith))) (λ (k : 9 < b). between-at r 14 9 b y k d) (le-or-lt b 9))
+          (λ (d : 14 < b). between-at r 17 14 b (sym el ∙ not-false l ol) d c) (le-or-lt b 14))
+          (λ (c : 17 < b). between-at r 21 17 b (sym em ∙ not-false m om) c a) (le-or-lt b 17))
+          (λ (a : 21 < b). between-at r 30 21 b (sym eh ∙ not-false h oh) a (omega arith)) (le-or-lt b 21)
+
+      pub good-parts : (u : Bool) → not l ≡ false → u ≡ goodBetween 14 9 r → u ≡ all 31 (slotGood r)
+      good-parts u ol eu =
+          same-test u (all 31 (slotGood r)) (λ y. all-intro (slotGood r) 31 (λ b g. each-good b g ol (sym eu ∙ y)))
+          (λ y. eu ∙ between-of r 14 9 (omega arith) y)
 
 -- ---- the slots, where the state word is asked apart
 

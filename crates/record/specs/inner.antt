@@ -2,3 +2,5 @@
 
 -- when the words before the slots are good
 pub mod Head
+-- when the slots of some bits are good
+pub mod Between

@@ -8,6 +8,7 @@ ghost use Rattle.record.specs.Held.{slotted, slotAt};
 ghost use Rattle.record.specs.Layout.{headWords, recordWords};
 ghost use Rattle.record.specs.Good.{zeros, countGood, countGoodAt, heldGood, heldRule, slotGood, recordGood};
 ghost use Rattle.record.specs.inner.Head.{headGood};
+ghost use Rattle.record.specs.inner.Between.{goodBetween};
 
 // Whether the two words from a place on are zero.
 fn two_zero(ws: &[u32], at: usize) -> bool
@@ -103,9 +104,6 @@ fn rule_good(bit: u32, slot: &[u32]) -> bool
     ensures { λ r. ⌜ r ≡ heldRule bit (now (slot .entry)) ⌝ }
 {
     if fields::inner::first_ok(bit, slot[0]) {
-        if 17 < bit {
-            return true;
-        }
         if bit == 16 {
             return crate::inner::state::state_good(slot[0]);
         }
@@ -129,14 +127,60 @@ fn slot_good(rec: &[u32], bit: u32, at: usize, size: usize) -> bool
     }
 }
 
-// Whether all slots of a record are good: those of bits 30 to 10, which stand one after the other behind the head.
-fn slots_good(rec: &[u32]) -> bool
-    requires { ⌜ length (now rec) ≡ recordWords ⌝ }
-    ensures { λ r. ⌜ r ≡ all 31 (slotGood (now (rec .entry))) ⌝ }
+// The same of a bit above 17, whose rule is a limit of the field's first word.
+fn limit_good(rec: &[u32], bit: u32, at: usize, size: usize) -> bool
+    requires { ⌜ (length (now rec) ≡ recordWords) × (17 < bit) × (slotted bit ≡ true) × (at ≡ headWords + slotAt bit) × (size ≡ fieldSize bit) ⌝ }
+    ensures { λ r. ⌜ r ≡ slotGood (now (rec .entry)) bit ⌝ }
 {
-    let mut bit = 30;
-    let mut at = crate::inner::HEAD_WORDS;
-    while 10 <= bit {
+    let end = at + size;
+    let held = rec[crate::inner::HELD_AT];
+    if (held >> bit) % 2 == 1 {
+        fields::inner::first_ok(bit, rec[at])
+    } else {
+        slot_zero(&rec[at..end])
+    }
+}
+
+// The same of a bit from 14 down, whose field has no rule.
+fn free_good(rec: &[u32], bit: u32, at: usize, size: usize) -> bool
+    requires { ⌜ (length (now rec) ≡ recordWords) × (bit ≤ 14) × (slotted bit ≡ true) × (at ≡ headWords + slotAt bit) × (size ≡ fieldSize bit) ⌝ }
+    ensures { λ r. ⌜ r ≡ slotGood (now (rec .entry)) bit ⌝ }
+{
+    let end = at + size;
+    let held = rec[crate::inner::HELD_AT];
+    if (held >> bit) % 2 == 1 {
+        true
+    } else {
+        slot_zero(&rec[at..end])
+    }
+}
+
+// Whether the slots of the bits from `first` down to the one above `past`, of those above 17, are good. They stand one after the other.
+fn high_good(rec: &[u32], first: u32, past: u32) -> bool
+    requires { ⌜ (length (now rec) ≡ recordWords) × (17 ≤ past) × (past ≤ first) × (first ≤ 30) ⌝ }
+    ensures { λ r. ⌜ r ≡ goodBetween first past (now (rec .entry)) ⌝ }
+{
+    let mut bit = first;
+    let mut at = crate::inner::HEAD_WORDS + crate::inner::held::slot_at(first);
+    while past < bit {
+        let size = fields::inner::field_size(bit);
+        if !limit_good(rec, bit, at, size) {
+            return false;
+        }
+        at += size;
+        bit -= 1;
+    }
+    true
+}
+
+// The same of bits 17 to 15.
+fn middle_good(rec: &[u32]) -> bool
+    requires { ⌜ length (now rec) ≡ recordWords ⌝ }
+    ensures { λ r. ⌜ r ≡ goodBetween 17 14 (now (rec .entry)) ⌝ }
+{
+    let mut bit = 17;
+    let mut at = crate::inner::HEAD_WORDS + crate::inner::held::slot_at(17);
+    while 14 < bit {
         let size = fields::inner::field_size(bit);
         if !slot_good(rec, bit, at, size) {
             return false;
@@ -145,6 +189,42 @@ fn slots_good(rec: &[u32]) -> bool
         bit -= 1;
     }
     true
+}
+
+// The same of bits 14 to 10.
+fn low_good(rec: &[u32]) -> bool
+    requires { ⌜ length (now rec) ≡ recordWords ⌝ }
+    ensures { λ r. ⌜ r ≡ goodBetween 14 9 (now (rec .entry)) ⌝ }
+{
+    let mut bit = 14;
+    let mut at = crate::inner::HEAD_WORDS + crate::inner::held::slot_at(14);
+    while 9 < bit {
+        let size = fields::inner::field_size(bit);
+        if !free_good(rec, bit, at, size) {
+            return false;
+        }
+        at += size;
+        bit -= 1;
+    }
+    true
+}
+
+// Whether all slots of a record are good, those of bits 30 to 10. They are tested in parts: a loop of at most ten turns between known bits is unrolled by the
+// compiler, which then knows each size, place and limit (docs/SPEED.md).
+fn slots_good(rec: &[u32]) -> bool
+    requires { ⌜ length (now rec) ≡ recordWords ⌝ }
+    ensures { λ r. ⌜ r ≡ all 31 (slotGood (now (rec .entry))) ⌝ }
+{
+    if !high_good(rec, 30, 21) {
+        return false;
+    }
+    if !high_good(rec, 21, 17) {
+        return false;
+    }
+    if !middle_good(rec) {
+        return false;
+    }
+    low_good(rec)
 }
 
 // Whether the words before the slots are good, of a record or of a body: the choice, the held indicator, and the counts.
