@@ -1,7 +1,7 @@
 -- What callers use of a type 4 body that is accepted. The idea: the carried bits are those above b, b, and those below it (`bits-split`), so the
 -- words and the rules of all fields are those of the fields before b's, of b's own, and of the rest (`body-split`, `rules-split`).
 use Rattle.words.proofs.Kit.{_≡_, refl, sym, ap, _∙_, Bool, true, false, ⊎-elim, List, [], _∷_, _++_, ℕ, zero, suc, _+_, _≤_, _<_, arith}
-use Rattle.words.proofs.Kit.{_%_, _^_, not, eqb-true, not-true, not-false, le-ltb, le-leb, ltb, length, take, drop}
+use Rattle.words.proofs.Kit.{_/_, _%_, _^_, not, eqb-true, ne-eqb, not-true, not-false, le-ltb, le-leb, ltb, length, take, drop}
 use native.Mathlib.Nat.{zero-add, add-zero, add-assoc}
 use borrow.Author.Tests.{ltb-true}
 use lib.ListN.{length-drop}
@@ -207,6 +207,13 @@ end-counted n f a l body ef ea el =
     let whole : spanOf all ws ≡ f + spanOf (bitsOf 10 n) (drop f ws) =
     ap (λ (bs : List ℕ). spanOf bs ws) parts ∙ span-append (above 9 all) (bitsOf 10 n) ws ∙ rw fixed in
     omega (arith, whole, last, lists)
+
+-- where neither is there
+pub end-fixed : (n f : ℕ) (body : List ℕ) → f ≡ sizesOf (bitsOf 31 n) → n / 256 % 4 ≡ 0 → 1 + f ≡ 1 + spanOf (bitsOf 31 n) (drop 1 body)
+end-fixed n f body e z =
+    let nine : has n 9 ≡ false = ne-eqb (n / 2 ^ 9 % 2) 1 (λ o. omega arith) in
+    let eight : has n 8 ≡ false = ne-eqb (n / 2 ^ 8 % 2) 1 (λ o. omega arith) in
+    rw (add-zero (1 + f)) at (rw (add-zero (1 + f + 0)) at (end-counted n f 0 0 body e (rw nine) (rw eight)))
 
 pub place-fixed : (b : ℕ) (body : List ℕ) → 9 ≤ b → placeOf b body ≡ 1 + sizesOf (above b (carried (indicatorOf body)))
 unfolding placeOf

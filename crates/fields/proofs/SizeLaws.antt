@@ -6,17 +6,19 @@ use Rattle.words.proofs.Kit.{le-ltb, ne-eqb, eqb-true, eqb, ltb, leb, length, g
 use native.Mathlib.Nat.{mul-le-mul-left, zero-add, mod-eq-of-lt, lt-of-le-of-lt}
 use borrow.Author.Tests.{leb-true}
 use lib.Bits.{bitAnd, and-le-r}
-use lib.Count.{ones}
+use lib.Count.{ones, ones-cat}
+use lib.Pow.{pow-pos}
 use Rattle.words.specs.Tests.{pick, when, both}
 use Rattle.words.specs.Word.{has}
 use Rattle.words.specs.SetBits.{bitsOf, above}
 use Rattle.words.specs.All.{all}
-use Rattle.words.proofs.Cases.{true-or-false, both-left, both-right}
+use Rattle.words.proofs.Cases.{le-or-lt, true-or-false, both-left, both-right, both-no}
 use Rattle.words.proofs.AllLaws.{all-at}
-use Rattle.words.proofs.BitLaws.{has-and}
-use Rattle.words.proofs.SetBitLaws.{bits-zero, bits-yes, bits-no, bits-parts, bits-counted, bits-few}
+use Rattle.words.proofs.BitLaws.{has-and, word-same}
+use Rattle.words.proofs.SetBitLaws.{bits-zero, bits-yes, bits-no, bits-parts, bits-counted, bits-few, bits-none, has-above}
 use Rattle.fields.specs.Sizes.{fieldSize, sizesOf, listWords, wordsOf}
 use Rattle.fields.specs.Layout.{carried}
+use Rattle.fields.specs.inner.Groups.{oneWord, twoWords, elevenWords, thirteenWords}
 
 small : ℕ → Bool
 small b = leb (fieldSize b) 13
@@ -54,6 +56,15 @@ pub words-fixed : (b : ℕ) (ws : List ℕ) → 10 ≤ b → wordsOf b ws ≡ fi
 unfolding wordsOf
 words-fixed b ws h = rw (ne-eqb b 9 (λ e. omega arith), ne-eqb b 8 (λ e. omega arith))
 
+-- a field of some fixed size n has the words of its row, and one that has none, and is neither 9 nor 8, has no words
+pub words-some : (b n : ℕ) (ws : List ℕ) → n ≡ fieldSize b → (n ≡ 0 → ⊥) → n ≡ wordsOf b ws
+words-some b n ws e f =
+    ⊎-elim (λ (h : 10 ≤ b). e ∙ sym (words-fixed b ws h)) (λ (h : b < 10). absurd (f (e ∙ size-none b h))) (le-or-lt 10 b)
+
+pub words-lacking : (b n : ℕ) (ws : List ℕ) → n ≡ fieldSize b → n ≡ 0 → (b ≡ 9 → ⊥) → (b ≡ 8 → ⊥) → 0 ≡ wordsOf b ws
+unfolding wordsOf
+words-lacking b n ws e z g h = rw (ne-eqb b 9 g, ne-eqb b 8 h) (sym z ∙ e)
+
 -- below bit 8 it has none
 pub words-none : (b : ℕ) (ws : List ℕ) → b < 8 → wordsOf b ws ≡ 0
 unfolding wordsOf
@@ -73,19 +84,6 @@ sizes-append [] bs = sym (zero-add (sizesOf bs))
 sizes-append (f ∷ fs) bs = omega (arith, sizes-append fs bs)
 
 -- ---- the groups of document 01, and counts of ones
-
--- the bits of the fields of 1 word, of 2, of 11 and of 13
-abbrev pub oneWord : ℕ
-oneWord = 0x41CD0400
-
-abbrev pub twoWords : ℕ
-twoWords = 0x3E328000
-
-abbrev pub elevenWords : ℕ
-elevenWords = 0x6000
-
-abbrev pub thirteenWords : ℕ
-thirteenWords = 0x1800
 
 -- the words of a bit, as a program asks for its group: every bit from 15 up is in the first two; and as a sum over the groups
 abbrev askedGroup : ℕ → ℕ
@@ -168,6 +166,71 @@ group-ones n g h = sym (bits-counted 31 (bitAnd n g) ∙ ap ones (mod-eq-of-lt (
 pub group-few : (n g : ℕ) → g < 2 ^ 31 → ones (bitAnd n g) ≤ 31
 group-few n g h = rw (group-ones n g h) (bits-few 31 (bitAnd n g))
 
+-- two groups that have no bit in common, in one count
+apart : ℕ → Bool
+apart b = eqb (when (has (oneWord + twoWords) b) 1) (when (has oneWord b) 1 + when (has twoWords b) 1)
+
+short-apart : (b : ℕ) → b < 31 → when (has (oneWord + twoWords) b) 1 ≡ when (has oneWord b) 1 + when (has twoWords b) 1
+unfolding apart all
+short-apart b h = eqb-true _ _ (all-at apart 31 b h refl)
+
+short-joined : (k n : ℕ) → k ≤ 31
+    → length (bitsOf k (bitAnd n (oneWord + twoWords))) ≡ length (bitsOf k (bitAnd n oneWord)) + length (bitsOf k (bitAnd n twoWords))
+unfolding bitsOf
+short-joined zero n h = refl
+short-joined (suc k) n h =
+    let lower = short-joined k n (omega arith) in
+    ⊎-elim
+    (λ (y : has n k ≡ true).
+    omega (
+      arith,
+      lower,
+      short-apart k (omega arith),
+      counted-yes k n (oneWord + twoWords) y,
+      counted-yes k n oneWord y,
+      counted-yes k n twoWords y,
+    ))
+    (λ (y : has n k ≡ false).
+    omega (arith, lower, counted-no k n (oneWord + twoWords) y, counted-no k n oneWord y, counted-no k n twoWords y))
+    (true-or-false (has n k))
+
+module _ (n : ℕ) where
+  abbrev short : ℕ
+  short = bitAnd n (oneWord + twoWords)
+
+  short-small : bitAnd n (oneWord + twoWords) < 2 ^ 32
+  short-small = omega (arith, and-le-r n (oneWord + twoWords))
+
+  -- the number that is counted, and its parts, fit 64 bits
+  pub group-fits : (g : ℕ) → g < 2 ^ 31 → bitAnd n g < 2 ^ 64
+  group-fits g h = omega (arith, and-le-r n g)
+
+  pub upper-fits : bitAnd n twoWords * 2 ^ 32 < 2 ^ 64
+  upper-fits = omega (arith, and-le-r n twoWords)
+
+  pub both-fit : bitAnd n twoWords * 2 ^ 32 + bitAnd n (oneWord + twoWords) < 2 ^ 64
+  both-fit = omega (arith, and-le-r n twoWords, short-small)
+
+  pub short-ones : ones (bitAnd n twoWords * 2 ^ 32 + bitAnd n (oneWord + twoWords))
+      ≡ length (bitsOf 31 (bitAnd n oneWord)) + 2 * length (bitsOf 31 (bitAnd n twoWords))
+  short-ones =
+      omega (
+        arith,
+        ones-cat 32 (bitAnd n twoWords) short short-small,
+        group-ones n (oneWord + twoWords) (omega arith),
+        group-ones n twoWords (omega arith),
+        short-joined 31 n (omega arith),
+      )
+
+  pub short-few : ones (bitAnd n twoWords * 2 ^ 32 + bitAnd n (oneWord + twoWords)) ≤ 64
+  short-few =
+      omega (
+        arith,
+        ones-cat 32 (bitAnd n twoWords) short short-small,
+        group-few n (oneWord + twoWords) (omega arith),
+        group-few n twoWords (omega arith),
+      )
+
 -- fewer bits take fewer words
 pub sizes-within : (k n m : ℕ) → ((b : ℕ) → b < k → has n b ≡ true → has m b ≡ true) → sizesOf (bitsOf k n) ≤ sizesOf (bitsOf k m)
 sizes-within zero n m w = omega (arith, ap sizesOf (bits-zero n), ap sizesOf (bits-zero m))
@@ -204,13 +267,49 @@ sizes-between n first past h g =
       sizes-most n,
     )
 
-module _ (n a b c d : ℕ) (e : a ≡ length (bitsOf 31 (bitAnd n oneWord))) (f : b ≡ length (bitsOf 31 (bitAnd n twoWords)))
-    (g : c ≡ length (bitsOf 31 (bitAnd n elevenWords))) (h : d ≡ length (bitsOf 31 (bitAnd n thirteenWords))) where
-  pub groups-sizes : a + 2 * b + 11 * c + 13 * d ≡ sizesOf (bitsOf 31 n)
-  groups-sizes = omega (arith, sizes-counted 31 n (omega arith))
+-- the two groups of long fields, as bits of their sum
+within-long : ℕ → ℕ → Bool
+within-long g b = pick (has g b) (has (elevenWords + thirteenWords) b) true
 
-  pub groups-most : a + 2 * b + 11 * c + 13 * d ≤ 74
-  groups-most = omega (arith, groups-sizes, sizes-most n)
+eleven-long : (b : ℕ) → b < 31 → has elevenWords b ≡ true → has (elevenWords + thirteenWords) b ≡ true
+unfolding within-long all
+eleven-long b h e = rw e at (all-at (within-long elevenWords) 31 b h refl)
+
+thirteen-long : (b : ℕ) → b < 31 → has thirteenWords b ≡ true → has (elevenWords + thirteenWords) b ≡ true
+unfolding within-long all
+thirteen-long b h e = rw e at (all-at (within-long thirteenWords) 31 b h refl)
+
+-- as a program adds them: s is the words of the fields of one word and of two, c and d how many there are of the others
+module _ (n s : ℕ) (e : s ≡ length (bitsOf 31 (bitAnd n oneWord)) + 2 * length (bitsOf 31 (bitAnd n twoWords))) where
+  module _ (none : bitAnd n (elevenWords + thirteenWords) ≡ 0) where
+    no-long : (g : ℕ) → g < 2 ^ 31 → ((b : ℕ) → b < 31 → has g b ≡ true → has (elevenWords + thirteenWords) b ≡ true) → length (bitsOf 31 (bitAnd n g)) ≡ 0
+    no-long g h w =
+        let zero : bitAnd n g ≡ 0 = word-same 31 (bitAnd n g) 0 (omega (arith, and-le-r n g)) (omega arith)
+        (λ b l. has-and n g b ∙ outside b l ∙ sym (has-above 0 b (pow-pos b))) in
+        ap (λ (m : ℕ). length (bitsOf 31 m)) zero ∙ ap length (bits-none 31 0 (omega arith))
+      where
+        outside : (b : ℕ) → b < 31 → both (has n b) (has g b) ≡ false
+        outside b l =
+            ⊎-elim
+            (λ (y : has g b ≡ true).
+            let f : both (has n b) (has (elevenWords + thirteenWords) b) ≡ false =
+            sym (has-and n (elevenWords + thirteenWords) b) ∙ ap (λ (m : ℕ). has m b) none ∙ has-above 0 b (pow-pos b) in
+            ap (both (has n b)) (y ∙ sym (w b l y)) ∙ f)
+            (λ (z : has g b ≡ false). rw z (both-no (has n b))) (true-or-false (has g b))
+
+    pub short-sizes : s ≡ sizesOf (bitsOf 31 n)
+    short-sizes =
+        omega (arith, sizes-counted 31 n (omega arith), no-long elevenWords (omega arith) eleven-long, no-long thirteenWords (omega arith) thirteen-long)
+
+    pub short-most : s ≤ 74
+    short-most = omega (arith, short-sizes, sizes-most n)
+
+  module _ (c d : ℕ) (g : c ≡ length (bitsOf 31 (bitAnd n elevenWords))) (h : d ≡ length (bitsOf 31 (bitAnd n thirteenWords))) where
+    pub groups-sizes : s + 11 * c + 13 * d ≡ sizesOf (bitsOf 31 n)
+    groups-sizes = omega (arith, sizes-counted 31 n (omega arith))
+
+    pub groups-most : s + 11 * c + 13 * d ≤ 74
+    groups-most = omega (arith, groups-sizes, sizes-most n)
 
 -- ---- fields that say their sizes themselves
 

@@ -35,6 +35,9 @@ pub fn end_of(bits: u32, body: &[u32]) -> usize
     ensures { λ r. ⌜ r ≡ 1 + spanOf (bitsOf 31 bits) (drop 1 (now (body .entry))) ⌝ }
 {
     let fixed = 1 + crate::inner::sizes::fixed_words(bits);
+    if bits / 256 % 4 == 0 {
+        return fixed;
+    }
     let past = fixed + ascii_taken(bits, body, fixed);
     past + lists_taken(bits, body, past)
 }

@@ -1,7 +1,8 @@
 // How many words the fields of indicator bits take: those of fixed size by the groups of document 01, and the two that say their own size.
-ghost use Rattle.words.specs.Kit.{_≡_, [], _∷_, _^_, _≤_, _<_, length, drop};
+ghost use Rattle.words.specs.Kit.{_≡_, [], _∷_, _+_, _*_, _^_, _≤_, _<_, length, drop};
 ghost use lib.Bits.{bitAnd};
 ghost use Rattle.words.specs.SetBits.{bitsOf};
+ghost use Rattle.fields.specs.inner.Groups.{oneWord, twoWords};
 ghost use Rattle.fields.specs.Sizes.{fieldSize, sizesOf, asciiWords, listWords, wordsOf};
 
 // Document 01, "Words for each bit": the bits of the fields of 1 word, of 2, of 11 and of 13.
@@ -13,6 +14,20 @@ const ELEVEN: u32 = 0x6000;
 
 const THIRTEEN: u32 = 0x1800;
 
+// Those of the first two groups, and of the last two.
+const SHORT: u32 = ONE + TWO;
+
+const LONG: u32 = ELEVEN + THIRTEEN;
+
+// The words of the fields of one word and of two that some bits have: one count of ones, in which a field of two words stands in both halves of the number.
+fn short_words(bits: u32) -> usize
+    ensures { λ r. ⌜ (r ≡ length (bitsOf 31 (bitAnd bits oneWord)) + 2 * length (bitsOf 31 (bitAnd bits twoWords))) × (r ≤ 64) ⌝ }
+{
+    let once = (bits & SHORT) as u64;
+    let again = (bits & TWO) as u64;
+    u64::count_ones(again * 0x1_0000_0000 + once) as usize
+}
+
 // How many of some bits are in a group: count of ones.
 fn in_group(bits: u32, group: u32) -> usize
     requires { ⌜ group < 2 ^ 31 ⌝ }
@@ -21,14 +36,15 @@ fn in_group(bits: u32, group: u32) -> usize
     u32::count_ones(bits & group) as usize
 }
 
-// The words that the fields of fixed size of some bits take together: of each group, how many there are, times its words.
+// The words that the fields of fixed size of some bits take together: of each group, how many there are, times its words. Few bits have a field of 11 words or 13.
 pub fn fixed_words(bits: u32) -> usize
     ensures { λ r. ⌜ (r ≡ sizesOf (bitsOf 31 bits)) × (r ≤ 74) ⌝ }
 {
-    in_group(bits, ONE)
-        + 2 * in_group(bits, TWO)
-        + 11 * in_group(bits, ELEVEN)
-        + 13 * in_group(bits, THIRTEEN)
+    let short = short_words(bits);
+    if bits & LONG == 0 {
+        return short;
+    }
+    short + 11 * in_group(bits, ELEVEN) + 13 * in_group(bits, THIRTEEN)
 }
 
 // The words of a field of fixed size, by the group that its bit is in; 0 for a bit in none. Every bit from 15 up is in the groups of 1 word and of 2.
@@ -79,8 +95,9 @@ pub fn words_at(bit: u32, body: &[u32], at: usize) -> usize
     requires { ⌜ (bit < 31) × (at < 2 ^ 40) ⌝ }
     ensures { λ r. ⌜ (r ≡ wordsOf bit (drop at (now (body .entry)))) × (r ≤ 2 ^ 33) ⌝ }
 {
-    if 9 < bit {
-        return field_size(bit);
+    let fixed = field_size(bit);
+    if fixed != 0 {
+        return fixed;
     }
     if bit == 9 {
         return ascii_words(body, at);

@@ -1,13 +1,10 @@
 -- `words_at` meets its promise: each return is a row of the definition, answered by that row's function.
-use Rattle.words.proofs.Kit.{sym, _∙_, needs}
+use Rattle.words.proofs.Kit.{sym, _∙_, arith, needs}
 use Rattle.words.proofs.Cases.{cases}
 use Rattle.fields.specs.Sizes.{wordsOf}
-use Rattle.fields.proofs.SizeLaws.{words-fixed, words-none}
+use Rattle.fields.proofs.SizeLaws.{words-some, words-lacking}
 use Rattle.fields.proofs.inner.sizes.words_at.Statement.{statement}
 use Rattle.fields.proofs.inner.sizes.words_at.Tie as tie
-
-returns : tie.Need-returns
-returns c = (c .field-size .ensures .0 ∙ sym (words-fixed _ _ (search needs)), search needs)
 
 returns-2 : tie.Need-returns-2
 unfolding wordsOf
@@ -21,5 +18,5 @@ pub words-at-spec : {M : Type 1} → statement M
 words-at-spec =
     tie.close
     (tie.spec
-    (λ c κs. search needs) returns (λ c κs. search needs) returns-2 (λ c κs. search needs) returns-3
-    (λ c. (sym (words-none _ _ (search needs)), search needs)))
+    (λ c κs. search needs) (λ c. (search words-some, search needs)) (λ c κs. search needs) returns-2 (λ c κs. search needs) returns-3
+    (λ c. (search words-lacking, search needs)))
