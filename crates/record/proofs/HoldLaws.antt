@@ -1,28 +1,24 @@
--- Fields put into their slots. The idea: a loop goes along the bits from 30 down, with the slot's place and the field's place (`Along`); the slots of the bits
--- that it has passed are filled and the others are as they were (`Holding`, read slot by slot). The slot of a bit lies apart from every other (`placed-apart`),
--- so a copy into it changes that slot alone.
-use Rattle.words.proofs.Kit.{_≡_, refl, sym, ap, _∙_, true, false, ⊎-elim, List, [], _∷_, ℕ, suc, _+_, _-_, _*_, _/_, _%_, _^_, _≤_, _<_, arith}
-use Rattle.words.proofs.Kit.{eq-eqb, ne-eqb, eqb-true, length}
-use native.Mathlib.Nat.{lt-of-le-of-lt, mod-lt, mod-eq-of-lt, one-mul}
-use native.Mathlib.Numerals.{one-add}
-use borrow.Author.Tests.{eqb-false}
-use lib.Pow.{pow-pos, pow-lt, mod-pow-add}
+-- Fields put into their slots. The idea: a loop goes along the bits of a part, with the slot's place (`Along`) and the field's place; the part of the bits that
+-- it has passed is filled (`Holding`), and parts one below the other are one part together (`filled-then`). The slot of a bit lies apart from every other
+-- (`placed-apart`), so a copy into it changes that slot alone.
+use Rattle.words.proofs.Kit.{_≡_, refl, sym, ap, _∙_, true, false, ⊎-elim, List, [], _∷_, ℕ, suc, _+_, _-_, _/_, _%_, _^_, _≤_, _<_, arith}
+use Rattle.words.proofs.Kit.{eq-eqb, ne-eqb, length}
+use native.Mathlib.Nat.{lt-of-le-of-lt}
 use lib.Bits.{bitAnd, and-le-l, and-le-r}
 use Rattle.words.specs.Tests.{pick, among}
 use Rattle.words.specs.Word.{has}
-use Rattle.words.specs.SetBits.{bitsOf}
 use Rattle.words.specs.Part.{part, put}
 use Rattle.words.proofs.Cases.{le-or-lt, same-or-not, true-or-false, both-right}
-use Rattle.words.proofs.BitLaws.{has-and, has-low, word-same}
+use Rattle.words.proofs.BitLaws.{has-and, word-same}
 use Rattle.words.proofs.PartLaws.{part-length, put-length, part-put, part-put-before, part-put-after}
-use Rattle.words.proofs.SetBitLaws.{has-above, bits-mod, bits-none, bits-unset}
-use Rattle.fields.specs.Sizes.{fieldSize, sizesOf}
+use Rattle.fields.specs.Sizes.{fieldSize}
 use Rattle.record.specs.Held.{slotMask, slotted, slotBits, slotAt, heldMask, holds}
 use Rattle.record.specs.Layout.{slotWords, slotIn}
 use Rattle.record.specs.After.{refilled, Inside}
+use Rattle.record.specs.inner.Filled.{InsideBetween, Filled}
 use Rattle.record.proofs.CopyLaws.{size-slotted}
-use Rattle.record.proofs.SlotLaws.{placed, placed-first, placed-past, placed-over, placed-inside, placed-apart, in-order-same, in-order-parts}
-use Rattle.record.proofs.SlotLaws.{slots-small, slotted-low, slotted-high, slotted-all, slots-whole, slot-first, slot-next, held-small, held-slotted}
+use Rattle.record.proofs.SlotLaws.{placed, placed-first, placed-between, placed-past, placed-over, placed-inside, placed-apart, in-order-same}
+use Rattle.record.proofs.SlotLaws.{in-order-parts, slots-small, slotted-low, slotted-high, slotted-all, slots-whole, slot-next, held-small, held-slotted}
 
 -- ---- bits of a mask alone, and of fields that have a slot
 
@@ -49,14 +45,9 @@ module _ (bits : ℕ) (within : bitAnd bits slotMask ≡ bits) where
   within-slotted = within-bits slotMask bits within
 
   -- none below bit 10 is set
-  within-none : bits % 2 ^ 10 ≡ 0
-  within-none =
-      word-same 10 (bits % 2 ^ 10) 0 (mod-lt bits (omega arith)) (omega arith)
-      (λ b h. has-low bits 10 b h ∙ not-set b h ∙ sym (has-above 0 b (pow-pos b)))
-    where
-      not-set : (b : ℕ) → b < 10 → has bits b ≡ false
-      not-set b h =
-          ⊎-elim (λ (y : has bits b ≡ true). absurd (omega (arith, slotted-low b (within-slotted b y)))) (λ n. n) (true-or-false (has bits b))
+  pub within-unset : (b : ℕ) → b < 10 → has bits b ≡ false
+  within-unset b h =
+      ⊎-elim (λ (y : has bits b ≡ true). absurd (omega (arith, slotted-low b (within-slotted b y)))) (λ n. n) (true-or-false (has bits b))
 
 -- ---- slots
 
@@ -87,60 +78,32 @@ module _ (b : ℕ) (ws slots : List ℕ) (l : length slots ≡ slotWords) (e : s
       ⊎-elim (λ (g : x ≤ b). part-put-after (slotAt b) (fieldSize b) ws slots room m (slotAt x) (fieldSize x) (slots-apart x b (omega arith) f e))
       (λ (g : b < x). part-put-before (slotAt b) (fieldSize b) ws slots room m (slotAt x) (fieldSize x) (slots-apart b x g e f)) (le-or-lt x b)
 
--- ---- a loop along the bits of some fields
+-- ---- a loop along the slots
 
--- the bits of n up to b, by whether b is set
-up-to-set : (n b : ℕ) → has n b ≡ true → n % 2 ^ suc b ≡ 1 * 2 ^ b + n % 2 ^ b
-up-to-set n b e = rw (← one-add b) (mod-pow-add n 1 b) ∙ ap (λ (d : ℕ). d * 2 ^ b + n % 2 ^ b) (eqb-true (n / 2 ^ b % 2) 1 e)
-
-up-to-unset : (n b : ℕ) → has n b ≡ false → n % 2 ^ suc b ≡ n % 2 ^ b
-up-to-unset n b e =
-    let zero-digit : n / 2 ^ b % 2 ≡ 0 = omega (arith, eqb-false (n / 2 ^ b % 2) 1 e) in
-    rw (← one-add b) (mod-pow-add n 1 b) ∙ ap (λ (d : ℕ). d * 2 ^ b + n % 2 ^ b) zero-digit ∙ omega arith
-
--- The fields of these bits stand one after the other from `at` on. The bits above `bit` are passed: `rest` has those that are left, `slot` is where the slot
--- of `bit` begins among the slots, and `place` is where its field begins.
-pub record Along (bits at rest bit slot place : ℕ) : Type 0 where
-  pub low : 9 ≤ bit
-  pub high : bit ≤ 30
-  pub within : bitAnd bits slotMask ≡ bits
-  pub left : rest ≡ bits % 2 ^ suc bit
+-- A loop goes over bits that have a slot, from `first` down to the one above `past`. It stands at `bit`, whose slot begins at `slot`.
+pub record Along (first past bit slot : ℕ) : Type 0 where
+  pub bottom : 9 ≤ past
+  pub top : first ≤ 30
+  pub low : past ≤ bit
+  pub high : bit ≤ first
   pub here : slot ≡ slotAt bit
-  pub there : place ≡ at + placed 31 bits bit
 
-pub along-start : (bits at : ℕ) → bitAnd bits slotMask ≡ bits → Along bits at bits 30 0 at
-along-start bits at w = record {
-  low = omega arith;
+pub along-start : (first past slot : ℕ) → 9 ≤ past → past ≤ first → first ≤ 30 → slot ≡ slotAt first → Along first past first slot
+along-start first past slot b l t e = record {
+  bottom = b;
+  top = t;
+  low = l;
   high = omega arith;
-  within = w;
-  left = sym (mod-eq-of-lt (within-small bits w));
-  here = sym slot-first;
-  there = omega (arith, placed-first 30 bits);
+  here = e;
 }
 
--- once no bit is left, none up to this one is set
-pub along-end : {bits at rest bit slot place : ℕ} → Along bits at rest bit slot place → rest ≡ 0 → bitsOf (suc bit) bits ≡ []
-along-end {bits} {at} {rest} {bit} p z = sym (bits-mod (suc bit) bits) ∙ bits-none (suc bit) (bits % 2 ^ suc bit) (omega (arith, p .left))
+pub along-end : {first past bit slot : ℕ} → Along first past bit slot → bit ≤ past → bit ≡ past
+along-end p done = omega (arith, p .low)
 
--- a turn: a bit is left, and n is the size of this bit's field
-module _ {bits at rest bit slot place : ℕ} (p : Along bits at rest bit slot place) (some : rest ≡ 0 → ⊥) where
-  -- no bit below 10 is set, so this one is 10 or above
-  along-low : 10 ≤ bit
-  along-low =
-      ⊎-elim (λ h. h)
-      (λ (h : bit < 10).
-      let nine : bit ≡ 9 = omega (arith, p .low) in
-      absurd (some (p .left ∙ ap (λ (b : ℕ). bits % 2 ^ suc b) nine ∙ within-none bits (p .within))))
-      (le-or-lt 10 bit)
-
+-- a turn: n is the size of this bit's field
+module _ {first past bit slot : ℕ} (p : Along first past bit slot) (more : past < bit) where
   pub along-slotted : slotted bit ≡ true
-  along-slotted = slotted-all bit along-low (omega (arith, p .high))
-
-  along-has : has rest bit ≡ has bits bit
-  along-has = ap (λ (m : ℕ). has m bit) (p .left) ∙ has-low bits (suc bit) bit (omega arith)
-
-  one-down : suc (bit - 1) ≡ bit
-  one-down = omega (arith, along-low)
+  along-slotted = slotted-all bit (omega (arith, p .bottom)) (omega (arith, p .high, p .top))
 
   module _ (n : ℕ) (en : n ≡ fieldSize bit) where
     pub along-slot : slot + n ≤ slotWords
@@ -152,134 +115,146 @@ module _ {bits at rest bit slot place : ℕ} (p : Along bits at rest bit slot pl
     pub along-few : among n (1 ∷ 2 ∷ 11 ∷ 13 ∷ []) ≡ true
     along-few = size-slotted bit n along-slotted en
 
-    -- this bit is set
-    module _ (t : rest / 2 ^ bit % 2 ≡ 1) where
-      pub along-set : has bits bit ≡ true
-      along-set = sym along-has ∙ eq-eqb (rest / 2 ^ bit % 2) 1 t
+    pub along-next : Along first past (bit - 1) (slot + n)
+    along-next = record {
+      bottom = p .bottom;
+      top = p .top;
+      low = omega arith;
+      high = omega (arith, p .high);
+      here = slot-next bit slot n along-slotted (p .here) en;
+    }
 
-      power-fits : 1 * 2 ^ bit % 2 ^ 32 ≡ 1 * 2 ^ bit
-      power-fits = mod-eq-of-lt (rw one-mul (pow-lt {i = bit} {j = 32} (omega (arith, p .high))))
+-- ---- fields put into their slots, by parts of the bits
 
-      pub along-power : 1 * 2 ^ bit % 2 ^ 32 ≤ rest
-      along-power = omega (arith, power-fits, p .left, up-to-set bits bit along-set)
+-- the field of bit b, where the fields of these bits from `first` down stand from a place of the words on
+abbrev fieldIn : ℕ → ℕ → ℕ → List ℕ → ℕ → List ℕ
+fieldIn first bits at ws b = part (at + placed (suc first) bits b) (fieldSize b) ws
 
-      pub along-inside : place + n ≤ at + sizesOf (bitsOf 31 bits)
-      along-inside = omega (arith, p .there, placed-inside 31 bits bit (omega (arith, p .high)) along-set)
+-- all bits
+pub inside-all : (bits at : ℕ) (ws : List ℕ) → Inside bits at ws → InsideBetween 30 9 bits at ws
+inside-all bits at ws i b l h = i b
 
-      pub along-taken : (rest′ place′ : ℕ) → rest′ ≡ rest - 1 * 2 ^ bit % 2 ^ 32 → place′ ≡ place + n → Along bits at rest′ (bit - 1) (slot + n) place′
-      along-taken rest′ place′ er ep =
-          let past = placed-past 31 bits (bit - 1) (omega (arith, p .high, one-down)) (rw one-down along-set) in
-          record {
-            low = omega (arith, along-low);
-            high = omega (arith, p .high);
-            within = p .within;
-            left = rw one-down (omega (arith, power-fits, p .left, up-to-set bits bit along-set));
-            here = slot-next bit slot n along-slotted (p .here) en;
-            there = omega (arith, p .there, rw one-down at past);
-          }
+-- of a part, its upper part lies inside, and its lower one from the place past the upper one's fields on
+module _ (first past bits at : ℕ) (ws : List ℕ) (i : InsideBetween first past bits at ws) (middle : ℕ) (h : past ≤ middle) where
+  pub inside-upper : InsideBetween first middle bits at ws
+  inside-upper b l = i b (omega arith)
 
-    -- it is not
-    module _ (t : rest / 2 ^ bit % 2 ≡ 1 → ⊥) where
-      pub along-unset : has bits bit ≡ false
-      along-unset = sym along-has ∙ ne-eqb (rest / 2 ^ bit % 2) 1 t
+  pub inside-lower : (place : ℕ) → middle ≤ first → place ≡ at + placed (suc first) bits middle → InsideBetween middle past bits place ws
+  inside-lower place g e b l m t = omega (arith, i b l (omega arith) t, placed-between (suc first) bits b middle m (omega arith))
 
-      pub along-passed : Along bits at rest (bit - 1) (slot + n) place
-      along-passed =
-          let over = placed-over 31 bits (bit - 1) (omega (arith, p .high, one-down)) (rw one-down along-unset) in
-          record {
-            low = omega (arith, along-low);
-            high = omega (arith, p .high);
-            within = p .within;
-            left = rw one-down (p .left ∙ up-to-unset bits bit along-unset);
-            here = slot-next bit slot n along-slotted (p .here) en;
-            there = p .there ∙ ap (λ (m : ℕ). at + m) (sym (rw one-down at over));
-          }
-
--- ---- fields put into their slots: a loop's head, start, turn and end
-
--- the field of bit b, where the fields of these bits stand from a place of the words on
-abbrev pub fieldIn : ℕ → ℕ → List ℕ → ℕ → List ℕ
-fieldIn bits at ws b = part (at + placed 31 bits b) (fieldSize b) ws
-
--- the slots of the bits above `bit` are filled, and the others are as they were
-pub record Holding (bits at : ℕ) (ws slots₀ slots : List ℕ) (rest bit slot from : ℕ) : Type 0 where
-  pub along : Along bits at rest bit slot from
-  pub same : length slots ≡ slotWords
-  pub inside : Inside bits at ws
-  pub filled : (b : ℕ) → slotted b ≡ true → bit < b → slotIn b slots ≡ pick (has bits b) (fieldIn bits at ws b) (slotIn b slots₀)
-  pub kept : (b : ℕ) → slotted b ≡ true → b ≤ bit → slotIn b slots ≡ slotIn b slots₀
-
-pub holding-start : (bits at : ℕ) (ws slots : List ℕ) → length slots ≡ slotWords → bitAnd bits slotMask ≡ bits → Inside bits at ws
-    → Holding bits at ws slots slots bits 30 0 at
-holding-start bits at ws slots l w i = record {
-  along = along-start bits at w;
-  same = l;
-  inside = i;
-  filled = λ b o h. absurd (omega (arith, slotted-high b o));
-  kept = λ b o h. refl;
+-- the upper part is filled, and then the lower one
+pub filled-then : {first middle past bits at place : ℕ} {ws before between after : List ℕ} → Filled first middle bits at ws before between
+    → place ≡ at + placed (suc first) bits middle → Filled middle past bits place ws between after → 9 ≤ past → past ≤ middle → middle ≤ first → first ≤ 30
+    → Filled first past bits at ws before after
+filled-then {first} {middle} {past} {bits} {at} {place} p e q bottom l m top = record {
+  same = q .same ∙ p .same;
+  filled = λ b g h.
+      let o : slotted b ≡ true = slotted-all b (omega arith) (omega arith) in
+      ⊎-elim
+      (λ (k : b ≤ middle).
+      let same-place : place + placed (suc middle) bits b ≡ at + placed (suc first) bits b =
+      omega (arith, placed-between (suc first) bits b middle k (omega arith)) in
+      q .filled b g k ∙ rw (same-place, p .lower b o k))
+      (λ (k : middle < b). q .higher b o k ∙ p .filled b k h) (le-or-lt b middle);
+  higher = λ b o h. q .higher b o (omega arith) ∙ p .higher b o h;
+  lower = λ b o h. q .lower b o h ∙ p .lower b o (omega arith);
 }
 
-module _ {bits at rest bit slot from : ℕ} {ws slots₀ slots : List ℕ} (p : Holding bits at ws slots₀ slots rest bit slot from) (some : rest ≡ 0 → ⊥) (n : ℕ)
-    (en : n ≡ fieldSize bit) where
+-- all bits that have a slot
+pub filled-all : {bits at : ℕ} {ws before after : List ℕ} → Filled 30 9 bits at ws before after → length before ≡ slotWords
+    → after ≡ refilled bits at ws before
+unfolding refilled slotIn slotAt slotBits slotted
+filled-all {bits} {at} {ws} {before} {after} p l =
+    sym (in-order-parts 31 slotMask after (p .same ∙ l ∙ sym slots-whole))
+    ∙ in-order-same 31 slotMask (λ b. part (placed 31 slotMask b) (fieldSize b) after)
+    (λ b. pick (has bits b) (fieldIn 30 bits at ws b) (part (placed 31 slotMask b) (fieldSize b) before))
+    (λ b h e. p .filled b (slotted-low b e) (omega arith))
+
+-- ---- the loop that fills a part: its head, start, turn and end
+
+-- the bits above `bit` are passed, and their slots filled; the field of `bit` begins at `from`
+pub record Holding (first past bits at : ℕ) (ws slots₀ slots : List ℕ) (bit slot from : ℕ) : Type 0 where
+  pub along : Along first past bit slot
+  pub there : from ≡ at + placed (suc first) bits bit
+  pub sized : length slots ≡ slotWords
+  pub inside : InsideBetween first past bits at ws
+  pub passed : Filled first bit bits at ws slots₀ slots
+
+pub holding-start : (first past bits at slot : ℕ) (ws slots : List ℕ) → length slots ≡ slotWords → 9 ≤ past → past ≤ first → first ≤ 30
+    → InsideBetween first past bits at ws → slot ≡ slotAt first → Holding first past bits at ws slots slots first slot at
+holding-start first past bits at slot ws slots l b m t i e = record {
+  along = along-start first past slot b m t e;
+  there = omega (arith, placed-first first bits);
+  sized = l;
+  inside = i;
+  passed = record { same = refl; filled = λ x g h. absurd (omega arith); higher = λ x o h. refl; lower = λ x o h. refl };
+}
+
+module _ {first past bits at bit slot from : ℕ} {ws slots₀ slots : List ℕ} (p : Holding first past bits at ws slots₀ slots bit slot from) (more : past < bit)
+    (n : ℕ) (en : n ≡ fieldSize bit) where
   -- the slot of this bit lies inside, as a copy asks
   pub holding-slot : slot + n ≤ length slots
-  holding-slot = omega (arith, p .same, along-slot (p .along) some n en)
+  holding-slot = omega (arith, p .sized, along-slot (p .along) more n en)
+
+  one-down : suc (bit - 1) ≡ bit
+  one-down = omega arith
 
   -- whether its field is taken or passed over, the slots from here up are filled then
-  filled-then : (after : List ℕ) → ((b : ℕ) → slotted b ≡ true → (b ≡ bit → ⊥) → slotIn b after ≡ slotIn b slots)
-      → slotIn bit after ≡ pick (has bits bit) (fieldIn bits at ws bit) (slotIn bit slots₀)
-      → (b : ℕ) → slotted b ≡ true → bit - 1 < b → slotIn b after ≡ pick (has bits b) (fieldIn bits at ws b) (slotIn b slots₀)
-  filled-then after other this b o h =
-      ⊎-elim (λ (e : b ≡ bit). rw e this) (λ (d : b ≡ bit → ⊥). other b o d ∙ p .filled b o (omega arith)) (same-or-not b bit)
+  passed-then : (after : List ℕ) → length after ≡ length slots → ((b : ℕ) → slotted b ≡ true → (b ≡ bit → ⊥) → slotIn b after ≡ slotIn b slots)
+      → slotIn bit after ≡ pick (has bits bit) (fieldIn first bits at ws bit) (slotIn bit slots₀) → Filled first (bit - 1) bits at ws slots₀ after
+  passed-then after same other this = record {
+    same = same ∙ p .passed .same;
+    filled = λ b g h.
+        let o : slotted b ≡ true = slotted-all b (omega (arith, p .along .bottom)) (omega (arith, p .along .top)) in
+        ⊎-elim (λ (e : b ≡ bit). rw e this) (λ (d : b ≡ bit → ⊥). other b o d ∙ p .passed .filled b (omega arith) h) (same-or-not b bit);
+    higher = λ b o h. other b o (λ d. omega (arith, p .along .high)) ∙ p .passed .higher b o h;
+    lower = λ b o h. other b o (λ d. omega arith) ∙ p .passed .lower b o (omega arith);
+  }
 
   -- the field is there, and is copied
-  module _ (t : rest / 2 ^ bit % 2 ≡ 1) where
+  module _ (t : bits / 2 ^ bit % 2 ≡ 1) where
+    set : has bits bit ≡ true
+    set = eq-eqb (bits / 2 ^ bit % 2) 1 t
+
     pub holding-field : from + n ≤ length ws
-    holding-field = omega (arith, p .along .there, p .inside bit (along-set (p .along) some n en t))
+    holding-field = omega (arith, p .there, p .inside bit more (p .along .high) set)
 
     pub holding-fits : length ws < 2 ^ 64 → from + n < 2 ^ 64
     holding-fits h = omega (arith, holding-field)
 
-    pub holding-taken : (rest′ from′ : ℕ) (after : List ℕ) → after ≡ put slot n (part from n ws) slots → rest′ ≡ rest - 1 * 2 ^ bit % 2 ^ 32
-        → from′ ≡ from + n → Holding bits at ws slots₀ after rest′ (bit - 1) (slot + n) from′
-    holding-taken rest′ from′ after e er ef =
-        let q = p .along in
-        let o = along-slotted q some in
+    pub holding-taken : (from′ : ℕ) (after : List ℕ) → after ≡ put slot n (part from n ws) slots → from′ ≡ from + n
+        → Holding first past bits at ws slots₀ after (bit - 1) (slot + n) from′
+    holding-taken from′ after e ef =
+        let o = along-slotted (p .along) more in
         let m : length (part from (fieldSize bit) ws) ≡ fieldSize bit = part-length from (fieldSize bit) ws (omega (arith, holding-field)) in
-        let a : after ≡ put (slotAt bit) (fieldSize bit) (part from (fieldSize bit) ws) slots = e ∙ rw (q .here, en) in
-        let other : (b : ℕ) → slotted b ≡ true → (b ≡ bit → ⊥) → slotIn b after ≡ slotIn b slots =
-        λ b f d. rw a (slot-put-other bit _ slots (p .same) o m b f d) in
-        let this : slotIn bit after ≡ pick (has bits bit) (fieldIn bits at ws bit) (slotIn bit slots₀) =
-        rw (a, along-set q some n en t) (slot-put bit _ slots (p .same) o m ∙ ap (λ (z : ℕ). part z (fieldSize bit) ws) (q .there)) in
+        let a : after ≡ put (slotAt bit) (fieldSize bit) (part from (fieldSize bit) ws) slots = e ∙ rw (p .along .here, en) in
+        let same : length after ≡ length slots =
+        ap length a ∙ put-length (slotAt bit) (fieldSize bit) _ slots (omega (arith, p .sized, slot-inside bit o)) m in
+        let next = placed-past (suc first) bits (bit - 1) (omega (arith, p .along .high)) (rw one-down set) in
         record {
-          along = along-taken q some n en t rest′ from′ er ef;
-          same = ap length a ∙ put-length (slotAt bit) (fieldSize bit) _ slots (omega (arith, p .same, slot-inside bit o)) m ∙ p .same;
+          along = along-next (p .along) more n en;
+          there = omega (arith, p .there, rw one-down at next);
+          sized = same ∙ p .sized;
           inside = p .inside;
-          filled = filled-then after other this;
-          kept = λ b f h. other b f (λ d. omega arith) ∙ p .kept b f (omega arith);
+          passed =
+              passed-then after same (λ b f d. rw a (slot-put-other bit _ slots (p .sized) o m b f d))
+              (rw (a, set) (slot-put bit _ slots (p .sized) o m ∙ ap (λ (z : ℕ). part z (fieldSize bit) ws) (p .there)));
         }
 
   -- there is none
-  pub holding-passed : (rest / 2 ^ bit % 2 ≡ 1 → ⊥) → (rest′ from′ : ℕ) (after : List ℕ) → after ≡ slots → rest′ ≡ rest → from′ ≡ from
-      → Holding bits at ws slots₀ after rest′ (bit - 1) (slot + n) from′
-  holding-passed t rest′ from′ after e er ef =
-      let q = p .along in
-      let o = along-slotted q some in
-      rw (e, er, ef) (record {
-        along = along-passed q some n en t;
-        same = p .same;
+  pub holding-passed : (bits / 2 ^ bit % 2 ≡ 1 → ⊥) → (from′ : ℕ) (after : List ℕ) → after ≡ slots → from′ ≡ from
+      → Holding first past bits at ws slots₀ after (bit - 1) (slot + n) from′
+  holding-passed t from′ after e ef =
+      let unset : has bits bit ≡ false = ne-eqb (bits / 2 ^ bit % 2) 1 t in
+      let next = placed-over (suc first) bits (bit - 1) (omega (arith, p .along .high)) (rw one-down unset) in
+      rw (e, ef) (record {
+        along = along-next (p .along) more n en;
+        there = p .there ∙ ap (λ (m : ℕ). at + m) (sym (rw one-down at next));
+        sized = p .sized;
         inside = p .inside;
-        filled = filled-then slots (λ b f d. refl) (rw (along-unset q some n en t) (p .kept bit o (omega arith)));
-        kept = λ b f h. p .kept b f (omega arith);
+        passed = passed-then slots refl (λ b f d. refl) (rw unset (p .passed .lower bit (along-slotted (p .along) more) (omega arith)));
       })
 
-pub holding-end : {bits at rest bit slot from : ℕ} {ws slots₀ slots : List ℕ} → Holding bits at ws slots₀ slots rest bit slot from → rest ≡ 0
-    → slots ≡ refilled bits at ws slots₀
-unfolding refilled slotIn slotAt slotBits slotted
-holding-end {bits} {at} {rest} {bit} {slot} {from} {ws} {slots₀} {slots} p z =
-    sym (in-order-parts 31 slotMask slots (p .same ∙ sym slots-whole))
-    ∙ in-order-same 31 slotMask (λ b. part (placed 31 slotMask b) (fieldSize b) slots)
-    (λ b. pick (has bits b) (fieldIn bits at ws b) (part (placed 31 slotMask b) (fieldSize b) slots₀))
-    (λ b l e.
-    ⊎-elim (λ (h : b ≤ bit). rw (bits-unset (suc bit) bits b (along-end (p .along) z) (omega arith)) (p .kept b e h)) (λ (h : bit < b). p .filled b e h)
-    (le-or-lt b bit))
+pub holding-end : {first past bits at bit slot from : ℕ} {ws slots₀ slots : List ℕ} → Holding first past bits at ws slots₀ slots bit slot from
+    → bit ≤ past → Filled first past bits at ws slots₀ slots × (from ≡ at + placed (suc first) bits past)
+holding-end p done = let e = along-end (p .along) done in (rw e at (p .passed), rw e at (p .there))

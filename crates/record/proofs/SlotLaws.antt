@@ -1,11 +1,11 @@
 -- Fields and their slots. The idea: `inOrder` over the set bits of a number lays each bit's words after those of the bits above it; so the
 -- words at a bit's place are its own (`in-order-at`), and words are what stands at the places of their bits (`in-order-parts`). Once over any bits: a
 -- record's slots are the bits of `slotMask`, a page's held words those of a held indicator.
-use Rattle.words.proofs.Kit.{_≡_, refl, sym, ap, _∙_, Bool, true, false, not, ⊎-elim, List, [], _∷_, _++_, ℕ, zero, suc, _+_, _-_, _*_, _/_, _%_, _^_, _≤_, _<_, arith}
-use Rattle.words.proofs.Kit.{not-true, ne-eqb, le-ltb, eqb, ltb, leb, length, drop, getD}
+use Rattle.words.proofs.Kit.{_≡_, refl, sym, ap, _∙_, Bool, true, false, not, ⊎-elim, List, [], _∷_, _++_, ℕ, zero, suc, _+_, _-_, _*_, _/_, _%_, _^_, _≤_, _<_}
+use Rattle.words.proofs.Kit.{arith, not-true, ne-eqb, le-ltb, eqb, ltb, length, drop}
+use mathlib.Core.List.{append-assoc}
 use native.Mathlib.Nat.{lt-of-lt-of-le}
 use native.Mathlib.Numerals.{add-one}
-use borrow.Author.Tests.{leb-true}
 use lib.Pow.{pow-mono}
 use lib.ListN.{length-append, length-drop, take-append-drop}
 use Rattle.words.specs.Tests.{pick, both}
@@ -16,7 +16,7 @@ use Rattle.words.specs.All.{all}
 use Rattle.words.proofs.AllLaws.{all-at}
 use Rattle.words.proofs.Cases.{le-or-lt, true-or-false, true-is-false, both-left, both-no, agreed}
 use Rattle.words.proofs.PartLaws.{part-is, part-front, part-past, part-drop}
-use Rattle.words.proofs.SetBitLaws.{has-above, bits-zero, bits-yes, bits-no, bits-parts, bits-above, above-none, above-kept}
+use Rattle.words.proofs.SetBitLaws.{has-above, bits-zero, bits-yes, bits-no, bits-parts, bits-above, above-none, above-kept, above-parts}
 use Rattle.fields.specs.Sizes.{fieldSize, sizesOf}
 use Rattle.fields.proofs.SizeLaws.{sizes-none, sizes-more, sizes-append}
 use Rattle.fields.proofs.PlaceLaws.{cleared-small}
@@ -43,6 +43,10 @@ placed-no k n b e = ap (λ (l : List ℕ). sizesOf (above b l)) (bits-no k n e)
 -- the words of the bits up to b stand after those above it
 pub placed-rest : (k n b : ℕ) → b < k → sizesOf (bitsOf k n) ≡ placed k n b + sizesOf (bitsOf (suc b) n)
 placed-rest k n b h = ap sizesOf (bits-parts k n b h) ∙ sizes-append (above b (bitsOf k n)) (bitsOf (suc b) n)
+
+-- from the place of a higher bit x on, the words of the bits from x down to the one above b stand before those of b
+pub placed-between : (k n b x : ℕ) → b ≤ x → x < k → placed k n b ≡ placed k n x + placed (suc x) n b
+placed-between k n b x h g = ap sizesOf (above-parts k n b x h g) ∙ sizes-append (above x (bitsOf k n)) (above b (bitsOf (suc x) n))
 
 -- those of the bits below b, after b's own
 pub placed-split : (k n b : ℕ) → b < k → has n b ≡ true → sizesOf (bitsOf k n) ≡ placed k n b + (fieldSize b + sizesOf (bitsOf b n))
@@ -72,6 +76,11 @@ in-order-none f = refl
 pub in-order-more : (b : ℕ) (bs : List ℕ) (f : ℕ → List ℕ) → inOrder (b ∷ bs) f ≡ f b ++ inOrder bs f
 unfolding inOrder
 in-order-more b bs f = refl
+
+pub in-order-append : (xs ys : List ℕ) (f : ℕ → List ℕ) → inOrder (xs ++ ys) f ≡ inOrder xs f ++ inOrder ys f
+unfolding inOrder
+in-order-append [] ys f = refl
+in-order-append (x ∷ xs) ys f = ap (λ (l : List ℕ). f x ++ l) (in-order-append xs ys f) ∙ sym (append-assoc (f x) (inOrder xs f) (inOrder ys f))
 
 -- the words of each set bit are the same
 pub in-order-same : (k n : ℕ) (f g : ℕ → List ℕ) → ((b : ℕ) → b < k → has n b ≡ true → f b ≡ g b) → inOrder (bitsOf k n) f ≡ inOrder (bitsOf k n) g

@@ -4,3 +4,5 @@
 pub mod Head
 -- when the slots of some bits are good
 pub mod Between
+-- fields put into their slots by parts of the bits
+pub mod Filled

@@ -41,6 +41,11 @@ pub bits-none : (k n : ℕ) → n ≤ 0 → bitsOf k n ≡ []
 unfolding bitsOf
 bits-none k n h = bits-trim 0 k n zero-le (omega arith)
 
+-- there are none where no bit below the bound is set
+pub bits-absent : (k n : ℕ) → ((b : ℕ) → b < k → has n b ≡ false) → bitsOf k n ≡ []
+bits-absent zero n h = bits-zero n
+bits-absent (suc k) n h = bits-no k n (h k (omega arith)) ∙ bits-absent k n (λ b l. h b (omega arith))
+
 -- the bits below i do not see what stands from i up
 pub bits-low : (i a m : ℕ) → bitsOf i (m + a * 2 ^ i) ≡ bitsOf i m
 unfolding bitsOf
@@ -86,16 +91,6 @@ bits-head (suc k) n b l e = head-step (has n k) refl e (bits-head k n b l)
           rest = p .rest;
           gap = λ x g h. ⊎-elim (λ (q : k ≤ x). let i : x ≡ k = omega arith in rw i s) (λ (q : x < k). p .gap x g q) (le-or-lt k x);
         }
-
--- no bit is set below the bound where the list is empty
-pub bits-unset : (k n b : ℕ) → bitsOf k n ≡ [] → b < k → has n b ≡ false
-unfolding bitsOf
-bits-unset zero n b e h = absurd (omega arith)
-bits-unset (suc k) n b e h = unset-step (has n k) refl e (bits-unset k n b)
-  where
-    unset-step : (t : Bool) → has n k ≡ t → pick t (k ∷ bitsOf k n) (bitsOf k n) ≡ [] → (bitsOf k n ≡ [] → b < k → has n b ≡ false) → has n b ≡ false
-    unset-step true s f lower = let z : _≡_ {A = ℕ} 0 1 = cc in absurd (omega arith)
-    unset-step false s f lower = ⊎-elim (λ (q : k ≤ b). let i : b ≡ k = omega arith in rw i s) (λ (q : b < k). lower f q) (le-or-lt k b)
 
 -- what a program computes of a word n of k + 1 bits that is not 0: the place of its highest set bit, and the power of 2 there as a shift of 1
 module _ (k n : ℕ) (p : 0 < n) (h : n < 2 ^ suc k) where
@@ -193,6 +188,25 @@ unfolding bitsOf
 bits-parts k n b h =
     le-ind (λ (m : ℕ). bitsOf m n ≡ above b (bitsOf m n) ++ bitsOf (suc b) n) (rw (above-none b (suc b) n (omega arith)))
     (λ m q f. parts-step (has n m) b m (bitsOf m n) (bitsOf (suc b) n) q f) k h
+
+-- those above b are those above a higher bit x, and then those above b up to x
+above-step : (t : Bool) (b x k : ℕ) (l tail : List ℕ) → b < k → x < k → above b l ≡ above x l ++ tail
+    → above b (pick t (k ∷ l) l) ≡ above x (pick t (k ∷ l) l) ++ tail
+above-step true b x k l tail h g e = rw (above-kept true b k l h, above-kept true x k l g) (ap (λ (m : List ℕ). k ∷ m) e)
+above-step false b x k l tail h g e = e
+
+pub above-parts : (k n b x : ℕ) → b ≤ x → x < k → above b (bitsOf k n) ≡ above x (bitsOf k n) ++ above b (bitsOf (suc x) n)
+unfolding bitsOf
+above-parts k n b x h g =
+    le-ind (λ (m : ℕ). above b (bitsOf m n) ≡ above x (bitsOf m n) ++ above b (bitsOf (suc x) n)) (rw (above-none x (suc x) n (omega arith)))
+    (λ m q f. above-step (has n m) b x m (bitsOf m n) (above b (bitsOf (suc x) n)) (omega arith) q f) k g
+
+-- the bit next above b alone, where it is set
+pub above-next : (b n : ℕ) → above b (bitsOf (suc (suc b)) n) ≡ pick (has n (suc b)) (suc b ∷ []) []
+unfolding bitsOf
+above-next b n =
+    let none : above b (bitsOf (suc b) n) ≡ [] = above-none b (suc b) n (omega arith) in
+    above-kept (has n (suc b)) b (suc b) (bitsOf (suc b) n) (omega arith) ∙ ap (λ (l : List ℕ). pick (has n (suc b)) (suc b ∷ l) l) none
 
 -- a set bit stands between those above it and those below it
 pub bits-split : (k n b : ℕ) → b < k → has n b ≡ true → bitsOf k n ≡ above b (bitsOf k n) ++ (b ∷ bitsOf b n)

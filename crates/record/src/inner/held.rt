@@ -1,11 +1,14 @@
 // The fields that a record holds, each in its slot.
-ghost use Rattle.words.specs.Kit.{_≡_, true, _≤_, _<_, length};
+ghost use Rattle.words.specs.Kit.{_≡_, suc, _+_, _≤_, _<_, length};
 ghost use lib.Bits.{bitAnd};
 ghost use Rattle.words.specs.Outcome.{accepted};
+ghost use Rattle.words.specs.SetBits.{bitsOf, above};
+ghost use Rattle.fields.specs.Sizes.{sizesOf};
 ghost use Rattle.fields.specs.Layout.{contextOf};
 ghost use Rattle.record.specs.Held.{slotMask, slotAt};
 ghost use Rattle.record.specs.Layout.{slotWords, recordWords, isHeld};
 ghost use Rattle.record.specs.After.{Inside, refilled, slotsAfter, holdRecord};
+ghost use Rattle.record.specs.inner.Filled.{InsideBetween, Filled};
 
 // The bits of the fields that have a slot, 30 to 10.
 pub const SLOTTED: u32 = 0x7FFF_FC00;
@@ -34,26 +37,36 @@ pub fn slot_at(bit: u32) -> usize
     fields::inner::fixed_words((SLOTTED >> (bit + 1)) << (bit + 1))
 }
 
-// Each field of these bits into its slot, whole. The fields stand in the source one after the other, from a place on. The slots stand in field order: their place
-// runs along with the bit, from 30 down to the last of the bits.
-pub fn refill(slots: &mut [u32], bits: u32, source: &[u32], at: usize)
-    requires { ⌜ (length (now slots) ≡ slotWords) × (bitAnd bits slotMask ≡ bits) × Inside bits at (now source) ⌝ }
-    ensures { λ _. ⌜ now (slots .exit) ≡ refilled bits at (now (source .entry)) (now (slots .entry)) ⌝ }
+// The fields of the bits from `first` down to the one above `past`, each into its slot, whole. They stand in the source one after the other, from a place on, and
+// the slots stand in field order: both places run along. Gives the place past them.
+fn fill(slots: &mut [u32], bits: u32, source: &[u32], at: usize, first: u32, past: u32) -> usize
+    requires { ⌜ (length (now slots) ≡ slotWords) × (9 ≤ past) × (past ≤ first) × (first ≤ 30) × InsideBetween first past bits at (now source) ⌝ }
+    ensures { λ r. ⌜ Filled first past bits at (now (source .entry)) (now (slots .entry)) (now (slots .exit)) × (r ≡ at + sizesOf (above past (bitsOf (suc first) bits))) ⌝ }
 {
-    let mut rest = bits;
-    let mut bit = 30;
-    let mut slot = 0;
+    let mut bit = first;
+    let mut slot = slot_at(first);
     let mut from = at;
-    while rest != 0 {
+    while past < bit {
         let n = fields::inner::field_size(bit);
-        if (rest >> bit) % 2 == 1 {
+        if (bits >> bit) % 2 == 1 {
             crate::inner::copies::copy_field(slots, slot, source, from, n);
             from += n;
-            rest -= 1u32 << bit;
         }
         slot += n;
         bit -= 1;
     }
+    from
+}
+
+// Each field of these bits into its slot, whole. The fields stand in the source one after the other, from a place on. They are filled in three parts: a loop of at
+// most ten turns between known bits is unrolled by the compiler, which then knows each size and each place (docs/SPEED.md).
+pub fn refill(slots: &mut [u32], bits: u32, source: &[u32], at: usize)
+    requires { ⌜ (length (now slots) ≡ slotWords) × (bitAnd bits slotMask ≡ bits) × Inside bits at (now source) ⌝ }
+    ensures { λ _. ⌜ now (slots .exit) ≡ refilled bits at (now (source .entry)) (now (slots .entry)) ⌝ }
+{
+    let middle = fill(slots, bits, source, at, 30, 21);
+    let low = fill(slots, bits, source, middle, 21, 14);
+    fill(slots, bits, source, low, 14, 9);
 }
 
 // The slots after a Context packet: each field that it carries replaces its slot whole; then field 22 has what it had, and field 16 what the packet's state

@@ -1,34 +1,59 @@
--- `refill` meets its promise. The invariant `Holding` says of each slot whether it is filled; its laws carry the turn that takes a field and the one that
--- passes it over.
-use Rattle.words.proofs.Kit.{_∙_, ⊎-elim, needs}
-use Rattle.record.proofs.HoldLaws.{along-few, along-fits, along-power}
-use Rattle.record.proofs.HoldLaws.{Holding, holding-start, holding-slot, holding-field, holding-fits, holding-taken, holding-passed, holding-end}
+-- `refill` meets its promise: the fields of each part lie inside, behind those of the part before, and the three parts are all bits that have a slot.
+use Rattle.words.proofs.Kit.{_≡_, _∙_, List, ℕ, _+_, arith, needs}
+use Rattle.record.specs.After.{Inside}
+use Rattle.record.specs.inner.Filled.{InsideBetween}
+use Rattle.record.proofs.SlotLaws.{placed}
+use Rattle.record.proofs.HoldLaws.{inside-all, inside-upper, inside-lower, filled-then, filled-all}
 use Rattle.record.proofs.inner.held.refill.Statement.{statement}
 use Rattle.record.proofs.inner.held.refill.Tie as tie
 
-abbrev Inv-loop : tie.InvT-loop
-Inv-loop slots₀ bits source at rest₀ bit₀ slot₀ from₀ slots rest bit slot from = Holding bits at source slots₀ slots rest bit slot from
+-- the fields from bit 21 down lie inside, behind those of the first part
+below-inside : (bits at middle : ℕ) (ws : List ℕ) → Inside bits at ws → middle ≡ at + placed 31 bits 21 → InsideBetween 21 9 bits middle ws
+below-inside bits at middle ws i e = inside-lower 30 9 bits at ws (inside-all bits at ws i) 21 (omega arith) middle (omega arith) e
 
-abbrev μ-loop : tie.MeasureT-loop
-μ-loop slots₀ bits source at rest₀ bit₀ slot₀ from₀ slots rest bit slot from = bit
+fill-requires : tie.Need-fill-requires
+fill-requires c κs =
+    let start : tie.Start = search in
+    let bits = start .args .bits in
+    let at = start .args .at in
+    let ws = start .args .source .now in
+    (search needs, omega arith, omega arith, omega arith, inside-upper 30 9 bits at ws (inside-all bits at ws (start .pre .2)) _ (omega arith))
 
-loop-holds : tie.Need-loop-holds Inv-loop μ-loop
-loop-holds c = let start : tie.Start Inv-loop μ-loop = search in search (holding-start, start .pre .2)
+fill-requires-2 : tie.Need-fill-requires-2
+fill-requires-2 c κs =
+    let start : tie.Start = search in
+    let high : tie.After-fill = search in
+    let bits = start .args .bits in
+    let middle = high .fill .result in
+    let ws = start .args .source .now in
+    let below = below-inside bits (start .args .at) middle ws (start .pre .2) (high .fill .ensures .1) in
+    (high .fill .ensures .0 .same ∙ start .pre .0, omega arith, omega arith, omega arith, inside-upper 21 9 bits middle ws below _ (omega arith))
 
-loop-again : tie.Need-loop-again Inv-loop μ-loop
-loop-again c =
-    let turn : tie.In-loop Inv-loop μ-loop = search in
-    let sized : tie.After-field-size Inv-loop μ-loop = search in
-    let p = turn .before .loop .inv in
-    let some = turn .loop-test .taken in
-    let en = sized .field-size .ensures .0 in
-    ⊎-elim (λ w. holding-taken p some _ en (w .0 .taken) _ _ _ (w .5 ∙ w .2 .ensures) (w .6) (w .7))
-    (λ w. holding-passed p some _ en (w .0 .left) _ _ _ (w .1) (w .2) (w .3)) (c .if1 .came)
+fill-requires-3 : tie.Need-fill-requires-3
+fill-requires-3 c κs =
+    let start : tie.Start = search in
+    let high : tie.After-fill = search in
+    let mid : tie.After-fill2 = search in
+    let bits = start .args .bits in
+    let middle = high .fill .result in
+    let ws = start .args .source .now in
+    let below = below-inside bits (start .args .at) middle ws (start .pre .2) (high .fill .ensures .1) in (
+      mid .fill2 .ensures .0 .same ∙ high .fill .ensures .0 .same ∙ start .pre .0,
+      omega arith,
+      omega arith,
+      omega arith,
+      inside-lower 21 9 bits middle ws below 14 (omega arith) (mid .fill2 .result) (omega arith) (mid .fill2 .ensures .1),
+    )
+
+returns : tie.Need-returns
+returns c =
+    let start : tie.Start = search in
+    let high : tie.After-fill = search in
+    let mid : tie.After-fill2 = search in
+    let low : tie.After-fill3 = search in
+    let lower =
+    filled-then (mid .fill2 .ensures .0) (mid .fill2 .ensures .1) (low .fill3 .ensures .0) (omega arith) (omega arith) (omega arith) (omega arith) in
+    filled-all (filled-then (high .fill .ensures .0) (high .fill .ensures .1) lower (omega arith) (omega arith) (omega arith) (omega arith)) (start .pre .0)
 
 pub refill-spec : {M : Type 1} → statement M
-refill-spec =
-    tie.close
-    (tie.spec
-    Inv-loop μ-loop loop-holds (λ c κs. search needs) (λ c. search needs) (λ c κs. (search holding-slot, search holding-field, search along-few))
-    (λ c. search holding-fits) (λ c. search needs) (λ c. search along-power) (λ c. search along-fits) (λ c. search needs) (λ c. search needs) loop-again
-    (λ c. search needs) (λ c. search holding-end))
+refill-spec = tie.close (tie.spec fill-requires fill-requires-2 fill-requires-3 (λ c. search needs) returns)
