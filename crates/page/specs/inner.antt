@@ -2,3 +2,5 @@
 
 -- the tests of a page
 pub mod Tested
+-- the held words of a part of the bits
+pub mod Squeezed

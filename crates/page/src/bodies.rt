@@ -12,6 +12,7 @@ ghost use Rattle.table.specs.Well.{wellMade};
 ghost use Rattle.page.specs.Body.{pageBody, pageBodyWords};
 ghost use Rattle.page.specs.Layout.{pageLength, mostWords, bodiesIn, pageBodyAt};
 ghost use Rattle.page.specs.inner.Tested.{contentsGood};
+ghost use Rattle.page.specs.inner.Squeezed.{heldBetween};
 
 // The length of a body, by its held indicator: the first words, and the words of the held fields.
 pub fn body_words(held: u32) -> usize
@@ -36,27 +37,43 @@ pub fn page_words(table: &[u32]) -> usize
     length
 }
 
-// The held words of a record's slots, in field order, into a page from a place on. Gives the place past them. The slots' own place runs along with the bit, from
-// 30 down to the last that is held.
-fn squeeze(page: &mut [u32], at: usize, held: u32, slots: &[u32]) -> usize
-    requires { ⌜ (length (now slots) ≡ slotWords) × (bitAnd held slotMask ≡ held) × (at + sizesOf (bitsOf 31 held) ≤ length (now page)) ⌝ }
-    ensures { λ r. ⌜ Laid (now (page .entry)) at (heldWords held (now (slots .entry))) r (now (page .exit)) ⌝ }
+// The held words of the slots of the bits from `first` down to the one above `past`, in field order, into a page from a place on. Gives the place past them. The
+// slots' own place runs along.
+fn squeeze_between(
+    page: &mut [u32],
+    at: usize,
+    held: u32,
+    slots: &[u32],
+    first: u32,
+    past: u32,
+) -> usize
+    requires { ⌜ (length (now slots) ≡ slotWords) × (9 ≤ past) × (past ≤ first) × (first ≤ 30) × (at + length (heldBetween first past held (now slots)) ≤ length (now page)) ⌝ }
+    ensures { λ r. ⌜ Laid (now (page .entry)) at (heldBetween first past held (now (slots .entry))) r (now (page .exit)) ⌝ }
 {
-    let mut rest = held;
-    let mut bit = 30;
-    let mut slot = 0;
+    let mut bit = first;
+    let mut slot = record::inner::slot_at(first);
     let mut to = at;
-    while rest != 0 {
+    while past < bit {
         let n = fields::inner::field_size(bit);
-        if (rest >> bit) % 2 == 1 {
+        if (held >> bit) % 2 == 1 {
             record::inner::copy_field(page, to, slots, slot, n);
             to += n;
-            rest -= 1u32 << bit;
         }
         slot += n;
         bit -= 1;
     }
     to
+}
+
+// The held words of a record's slots, in field order, into a page from a place on. Gives the place past them. They are laid in three parts, as the compiler unrolls
+// (docs/SPEED.md).
+fn squeeze(page: &mut [u32], at: usize, held: u32, slots: &[u32]) -> usize
+    requires { ⌜ (length (now slots) ≡ slotWords) × (bitAnd held slotMask ≡ held) × (at + sizesOf (bitsOf 31 held) ≤ length (now page)) ⌝ }
+    ensures { λ r. ⌜ Laid (now (page .entry)) at (heldWords held (now (slots .entry))) r (now (page .exit)) ⌝ }
+{
+    let middle = squeeze_between(page, at, held, slots, 30, 21);
+    let low = squeeze_between(page, middle, held, slots, 21, 14);
+    squeeze_between(page, low, held, slots, 14, 9)
 }
 
 // The body of a good record, into a page from a place on: the record's first words, and then the held words. Gives the place past it.

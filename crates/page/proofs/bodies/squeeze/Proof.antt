@@ -1,34 +1,48 @@
--- `squeeze` meets its promise. What is laid, with the slots of the bits that are left, is all held words (`Squeezing`); its laws carry the turn that lays a
--- slot and the one that passes it over.
-use Rattle.words.proofs.Kit.{_∙_, ⊎-elim, needs}
-use Rattle.words.proofs.LaidLaws.{laid-length}
-use Rattle.record.proofs.HoldLaws.{along-few, along-fits, along-power}
-use Rattle.page.proofs.SqueezeLaws.{Squeezing, squeezing-start, squeezing-slot, squeezing-room, squeezing-fits, squeezing-taken, squeezing-passed}
-use Rattle.page.proofs.SqueezeLaws.{squeezing-end}
+-- `squeeze` meets its promise: the held words of the three parts, one after the other, are all held words (`held-parts`), and so there is room for each.
+use Rattle.words.proofs.Kit.{_+_, _≤_, arith, needs, length}
+use Rattle.words.proofs.LaidLaws.{then, laid-length}
+use Rattle.page.specs.inner.Squeezed.{heldBetween}
+use Rattle.page.proofs.SqueezeLaws.{held-parts, held-parts-length}
 use Rattle.page.proofs.bodies.squeeze.Statement.{statement}
 use Rattle.page.proofs.bodies.squeeze.Tie as tie
 
-abbrev Inv-loop : tie.InvT-loop
-Inv-loop page₀ at held slots rest₀ bit₀ slot₀ to₀ page rest bit slot to = Squeezing held at slots page₀ page rest bit slot to
+-- there is room for the held words of the three parts
+parts-room : (c : tie.Start) → let held = c .args .held in let slots = c .args .slots .now in
+    c .args .at + (length (heldBetween 30 21 held slots) + (length (heldBetween 21 14 held slots) + length (heldBetween 14 9 held slots)))
+    ≤ length (c .args .page .now)
+parts-room c =
+    omega (arith, c .pre .2, held-parts-length (c .args .held) (c .args .slots .now) (c .pre .1) 21 14 (omega arith) (omega arith) (omega arith) (c .pre .0))
 
-abbrev μ-loop : tie.MeasureT-loop
-μ-loop page₀ at held slots rest₀ bit₀ slot₀ to₀ page rest bit slot to = bit
+squeeze-between-requires : tie.Need-squeeze-between-requires
+squeeze-between-requires c κs = (search needs, omega arith, omega arith, omega arith, omega (arith, parts-room search))
 
-loop-again : tie.Need-loop-again Inv-loop μ-loop
-loop-again c =
-    let start : tie.Start Inv-loop μ-loop = search in
-    let turn : tie.In-loop Inv-loop μ-loop = search in
-    let sized : tie.After-field-size Inv-loop μ-loop = search in
-    let p = turn .before .loop .inv in
-    let some = turn .loop-test .taken in
-    let en = sized .field-size .ensures .0 in
-    ⊎-elim (λ w. squeezing-taken p some _ en (w .0 .taken) (start .pre .2) _ _ _ (start .pre .0) (w .5 ∙ w .2 .ensures) (w .6) (w .7))
-    (λ w. squeezing-passed p some _ en (w .0 .left) _ _ _ (w .1) (w .2) (w .3)) (c .if1 .came)
+squeeze-between-requires-2 : tie.Need-squeeze-between-requires-2
+squeeze-between-requires-2 c κs =
+    let high : tie.After-squeeze-between = search in
+    let first = high .squeeze-between .ensures in
+    (search needs, omega arith, omega arith, omega arith, omega (arith, parts-room search, first .past, laid-length first))
+
+squeeze-between-requires-3 : tie.Need-squeeze-between-requires-3
+squeeze-between-requires-3 c κs =
+    let high : tie.After-squeeze-between = search in
+    let mid : tie.After-squeeze-between2 = search in
+    let first = high .squeeze-between .ensures in
+    let second = mid .squeeze-between2 .ensures in (
+      search needs,
+      omega arith,
+      omega arith,
+      omega arith,
+      omega (arith, parts-room search, first .past, second .past, laid-length first, laid-length second),
+    )
+
+returns : tie.Need-returns
+returns c =
+    let start : tie.Start = search in
+    let high : tie.After-squeeze-between = search in
+    let mid : tie.After-squeeze-between2 = search in
+    let low : tie.After-squeeze-between3 = search in
+    let all = held-parts (start .args .held) (start .args .slots .now) (start .pre .1) 21 14 (omega arith) (omega arith) (omega arith) in
+    rw all at (then (high .squeeze-between .ensures) (then (mid .squeeze-between2 .ensures) (low .squeeze-between3 .ensures)))
 
 pub squeeze-spec : {M : Type 1} → statement M
-squeeze-spec =
-    tie.close
-    (tie.spec
-    Inv-loop μ-loop (λ c. search squeezing-start) (λ c κs. search needs) (λ c. search needs)
-    (λ c κs. (search squeezing-room, search squeezing-slot, search along-few)) (λ c. search squeezing-fits) (λ c. search needs) (λ c. search along-power)
-    (λ c. search along-fits) (λ c. search needs) (λ c. search needs) loop-again (λ c. search laid-length) (λ c. search squeezing-end))
+squeeze-spec = tie.close (tie.spec squeeze-between-requires squeeze-between-requires-2 squeeze-between-requires-3 (λ c. search needs) returns)
