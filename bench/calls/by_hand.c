@@ -124,21 +124,12 @@ u32 c_play(u32 *t, size_t tn, const u32 *w, size_t n, u32 *a) {
     a[3] = missing;
     return 0;
 }
-static inline size_t held_words(u32 held) {
-    size_t n = HEAD;
-    while (held) {
-        u32 bit = __builtin_clz(held) ^ 31;
-        held ^= 1u << bit;
-        n += sizes[bit];
-    }
-    return n;
-}
 u32 c_save(const u32 *t, size_t tn, u32 *page, size_t room, size_t *written) {
     if (!table_good(t, tn))
         return TABLE;
     size_t streams = t[0], length = 2 + 2 * streams, at = length;
     for (size_t s = 0; s < streams; s++)
-        length += held_words(t[2 + RECORD * s]);
+        length += HEAD + words(t[2 + RECORD * s]);
     if (length > MOST)
         return SIZE;
     if (room < length)
@@ -146,15 +137,19 @@ u32 c_save(const u32 *t, size_t tn, u32 *page, size_t room, size_t *written) {
     page[0] = streams;
     page[1] = length;
     for (size_t s = 0; s < streams; s++) {
-        const u32 *r = t + 1 + RECORD * s;
+        const u32 *r = t + 1 + RECORD * s, *slot = r + HEAD;
         u32 held = r[1], *b = page + at;
         memcpy(b, r, HEAD * 4);
         b += HEAD;
-        while (held) {
-            u32 bit = __builtin_clz(held) ^ 31;
-            held ^= 1u << bit;
-            for (size_t i = 0; i < sizes[bit]; i++)
-                *b++ = r[slots[bit] + i];
+#pragma GCC unroll 21
+        for (u32 bit = 30; bit >= 10; bit--) {
+            if (bit == 14 && !(held & LAST))
+                break;
+            if (held >> bit & 1) {
+                memcpy(b, slot, size_of(bit) * 4);
+                b += size_of(bit);
+            }
+            slot += size_of(bit);
         }
         page[2 + 2 * s] = at;
         page[3 + 2 * s] = b - page - at;
@@ -163,27 +158,27 @@ u32 c_save(const u32 *t, size_t tn, u32 *page, size_t room, size_t *written) {
     *written = length;
     return 0;
 }
-// A record out of the body at b.
-static void fill_record(u32 *r, const u32 *b) {
-    u32 held = b[1] & 0x7fffffff;
-    memset(r + HEAD, 0, (RECORD - HEAD) * 4);
-    memcpy(r, b, HEAD * 4);
-    b += HEAD;
-    while (held) {
-        u32 bit = __builtin_clz(held) ^ 31;
-        held ^= 1u << bit;
-        for (size_t i = 0; i < sizes[bit]; i++)
-            r[slots[bit] + i] = *b++;
-    }
+// Whether the record of a body is good: the slots of what is not held will be zero.
+static inline int body_good(const u32 *b) {
+    const u32 *f = b + HEAD;
+    u32 bad = 0;
+    if (!head_good(b))
+        return 0;
+#pragma GCC unroll 16
+    for (u32 bit = 30; bit >= 15; bit--)
+        if (b[1] >> bit & 1) {
+            bad |= broken(bit, f, 1);
+            f += size_of(bit);
+        }
+    return !bad;
 }
 static int page_good(const u32 *p, size_t n) {
-    u32 r[RECORD];
     size_t streams = n ? p[0] : 0, at = 2 + 2 * streams;
     if (streams < 1 || streams > 32 || n < at || p[1] != n)
         return 0;
     for (size_t s = 0; s < streams; s++) {
         size_t length = p[3 + 2 * s];
-        if (p[2 + 2 * s] != at || length < HEAD || n - at < length || p[at + 1] & ~HELD || held_words(p[at + 1]) != length)
+        if (p[2 + 2 * s] != at || length < HEAD || n - at < length || p[at + 1] & ~HELD || HEAD + words(p[at + 1]) != length)
             return 0;
         at += length;
     }
@@ -193,11 +188,9 @@ static int page_good(const u32 *p, size_t n) {
         for (size_t j = 0; j < i; j++)
             if (p[p[2 + 2 * i]] == p[p[2 + 2 * j]])
                 return 0;
-    for (size_t s = 0; s < streams; s++) {
-        fill_record(r, p + p[2 + 2 * s]);
-        if (!record_good(r))
+    for (size_t s = 0; s < streams; s++)
+        if (!body_good(p + p[2 + 2 * s]))
             return 0;
-    }
     return 1;
 }
 u32 c_put_back(const u32 *p, size_t n, u32 *t, size_t tn, size_t *written) {
@@ -207,8 +200,12 @@ u32 c_put_back(const u32 *p, size_t n, u32 *t, size_t tn, size_t *written) {
     if (tn < 1 + RECORD * streams)
         return ROOM;
     t[0] = streams;
-    for (size_t s = 0; s < streams; s++)
-        fill_record(t + 1 + RECORD * s, p + p[2 + 2 * s]);
+    for (size_t s = 0; s < streams; s++) {
+        const u32 *b = p + p[2 + 2 * s];
+        u32 *r = t + 1 + RECORD * s;
+        memcpy(r, b, HEAD * 4);
+        fill(r, b + HEAD, b[1], 1);
+    }
     *written = 1 + RECORD * streams;
     return 0;
 }
@@ -218,8 +215,8 @@ struct shown {
     int64_t hertz;
     float first, second;
 };
-static inline struct shown show(const u32 *r, u32 bit) {
-    const u32 *f = r + slots[bit];
+static inline __attribute__((always_inline)) struct shown show(const u32 *r, u32 bit) {
+    const u32 *f;
     struct shown a = {6, 0, 0, 0, 0};
     if (!(r[1] >> bit & 1))
         return a;
@@ -230,22 +227,24 @@ static inline struct shown show(const u32 *r, u32 bit) {
     case 26:
     case 25:
     case 21:
+        f = r + (bit == 21 ? slot_of(21) : slot_of(29) + 2 * (29 - bit));
         a.kind = 1;
         a.parts = f[1] & 0xfffff;
         a.hertz = (int64_t)((u64)f[0] << 32 | f[1]) >> 20;
         return a;
     case 24:
         a.kind = 2;
-        a.first = (int16_t)f[0] / 128.0f;
+        a.first = (int16_t)r[slot_of(24)] / 128.0f;
         return a;
     case 23:
+        f = r + slot_of(23);
         a.kind = 3;
         a.first = (int16_t)f[0] / 128.0f;
         a.second = (int16_t)(f[0] >> 16) / 128.0f;
         return a;
     case 18:
         a.kind = 4;
-        a.first = (int16_t)f[0] / 64.0f;
+        a.first = (int16_t)r[slot_of(18)] / 64.0f;
         return a;
     default:
         a.kind = 5;
@@ -272,6 +271,7 @@ u32 c_readings(const u32 *t, size_t tn, size_t s, u32 *kinds, u32 *parts, int64_
         return TABLE;
     if (s >= t[0])
         return STREAM;
+#pragma GCC unroll 21
     for (u32 i = 0; i < 21; i++) {
         struct shown a = show(t + 1 + RECORD * s, 30 - i);
         kinds[i] = a.kind;
@@ -290,11 +290,12 @@ u32 c_held_words(const u32 *t, size_t tn, size_t s, u32 bit, u32 *out, size_t ro
     if (bit < 10 || bit > 30)
         return VALUE;
     const u32 *r = t + 1 + RECORD * s;
-    size_t n = r[1] >> bit & 1 ? sizes[bit] : 0;
+    size_t n = r[1] >> bit & 1 ? size_of(bit) : 0;
     if (room < n)
         return ROOM;
+    const u32 *slot = r + slot_of(bit);
     for (size_t i = 0; i < n; i++)
-        out[i] = r[slots[bit] + i];
+        out[i] = slot[i];
     *written = n;
     return 0;
 }

@@ -9,17 +9,15 @@ typedef uint32_t u32;
 typedef uint8_t u8;
 enum { EMPTY = 1, TYPE, BITS, SHORT, CUT, CLASS, TIME, INDICATOR, LAYOUT, FIELD, STREAM, TABLE = 18, PAD = 20 };
 enum { CHOICE = 14, HEAD = 15, RECORD = 89, ENTRY = 5 };
-// the fields of fixed size, 30 to 10, and those of them that are held: all but the over-range count, 22
+// the fields of fixed size, 30 to 10; those of them that are held: all but the over-range count, 22; and the last, which few packets carry
 #define FIXED 0x7ffffc00u
 #define HELD 0x7fbffc00u
+#define LAST 0x7c00u
+// document 01's groups of two, eleven and thirteen words; the other fields of fixed size have one
+#define TWO 0x3e328000u
+#define ELEVEN 0x6000u
+#define THIRTEEN 0x1800u
 #define TIME_LIMIT 1000000000000u
-// the words of a field of fixed size, and the place of its slot in a record, by its bit
-static const u8 sizes[32] = {0, 0, 0, 0, 0, 0, 0, 0, 0, 0, 1, 13, 13, 11, 11, 2,
-                             1, 2, 1, 1, 2, 2, 1, 1, 1, 2, 2, 2,  2,  2,  1,  0};
-static const u8 slots[32] = {0,  0,  0,  0,  0,  0,  0,  0,  0,  0,  88, 75, 62, 51, 40, 38,
-                             37, 35, 34, 33, 31, 29, 28, 27, 26, 24, 22, 20, 18, 16, 15, 0};
-// the slots of the over-range count, which stays zero, and of the state
-enum { OVER_RANGE = 28, STATE = 37 };
 // the place of a type's count in a record
 static const u8 counts[6] = {0, 2, 0, 5, 8, 11};
 // a packet that was read: its stream's record, which is none where it is not declared, and the stream
@@ -28,6 +26,25 @@ struct packet {
     long stream;
     const u32 *body;
 };
+static inline u32 ones(u32 x) {
+    x -= x >> 1 & 0x55555555;
+    x = (x & 0x33333333) + (x >> 2 & 0x33333333);
+    return ((x + (x >> 4)) & 0x0f0f0f0f) * 0x01010101 >> 24;
+}
+// The words of fields of fixed size together. One of two words counts twice, the second time at a bit that is none of theirs.
+static inline size_t words(u32 bits) {
+    u32 two = bits & TWO;
+    size_t n = ones((bits & FIXED) | two >> 20 | (two & 0xfffff) >> 13);
+    if (bits & (ELEVEN | THIRTEEN))
+        n += 10 * ((bits >> 14 & 1) + (bits >> 13 & 1)) + 12 * ((bits >> 12 & 1) + (bits >> 11 & 1));
+    return n;
+}
+// The words of a field of fixed size, and the place of its slot in a record. In the unrolled loops below both are known to the compiler.
+static inline int size_of(u32 bit) { return TWO >> bit & 1 ? 2 : ELEVEN >> bit & 1 ? 11 : THIRTEEN >> bit & 1 ? 13 : 1; }
+static inline size_t slot_of(u32 bit) {
+    size_t n = HEAD + 30 - bit + ones(TWO >> bit >> 1);
+    return bit < 14 ? n + 10 * ones(ELEVEN >> bit >> 1) + 12 * ones(THIRTEEN >> bit >> 1) : n;
+}
 static int format_ok(u32 w) {
     u32 code = w >> 24 & 31, item = (w & 63) + 1, ev = w >> 20 & 7, ch = w >> 16 & 15, f = (w >> 6 & 63) + 1;
     if (w >> 12 & 15)
@@ -48,56 +65,60 @@ static inline u32 spoken(u32 w) {
     u32 e = w >> 26;
     return e << 26 | e << 14 | 0xff;
 }
-// Whether a field obeys its rule; a held state has no bits but those that it speaks of.
-static inline int rule_ok(u32 bit, const u32 *f, int held) {
+// What breaks the rule of a field of fixed size; a held state has no bits but those that it speaks of.
+static inline u32 broken(u32 bit, const u32 *f, int held) {
     switch (bit) {
     case 29:
     case 21:
-        return !(f[0] >> 31);
+        return f[0] >> 31;
     case 24:
     case 18:
-        return !(f[0] >> 16);
+        return f[0] >> 16;
     case 17:
-        return !(f[0] >> 24) && !(f[1] >> 16);
+        return f[0] >> 24 | f[1] >> 16;
     case 16:
-        return !(f[0] & (held ? ~spoken(f[0]) : 0x00f00f00));
+        return f[0] & (held ? ~spoken(f[0]) : 0x00f00f00);
     case 15:
-        return format_ok(f[0]);
-    case 9:
-        return !(f[0] >> 24);
-    case 8:
-        return !(f[0] & 0xfe00fe00);
+        return !format_ok(f[0]);
     default:
-        return 1;
+        return 0;
     }
 }
 // INDICATOR, LAYOUT, FIELD: one pass, which never reads past the body. Not inlined, so that data packets do
 // not pay for its registers.
 static __attribute__((noinline)) u32 check_context(const u32 *body, size_t n) {
-    u32 bits = body[0] & 0x7fffffff;
-    size_t at = 1;
-    int ok = 1;
+    const u32 *end = body + n;
+    ptrdiff_t at = 1 - (ptrdiff_t)n; // the place from the end
+    u32 bits = body[0], bad = 0;
     if (bits & 255)
         return INDICATOR;
-    while (bits) {
-        u32 bit = __builtin_clz(bits) ^ 31;
-        size_t size = sizes[bit];
-        bits ^= 1u << bit;
-        if (!size) {
-            if (n - at < 2)
+#pragma GCC unroll 16
+    for (u32 bit = 30; bit >= 15; bit--)
+        if (bits >> bit & 1) {
+            if (at > -size_of(bit))
                 return LAYOUT;
-            u32 a = body[at], b = body[at + 1];
-            size = bit == 9 ? 2 + (size_t)b
-                            : 2 + (a >> 16 & 511) + (a & 511) + (b >> 16) + ((b & 0x7fff) << (b >> 15 & 1));
+            bad |= broken(bit, end + at, 0);
+            at += size_of(bit);
         }
-        if (n - at < size)
-            return LAYOUT;
-        ok &= rule_ok(bit, body + at, 0);
-        at += size;
+    if (bits & (LAST | 1 << 9 | 1 << 8)) {
+        at += words(bits & LAST);
+        if (bits >> 9 & 1) {
+            if (at > -2)
+                return LAYOUT;
+            bad |= end[at] >> 24;
+            at += 2 + (ptrdiff_t)end[at + 1];
+        }
+        if (bits >> 8 & 1) {
+            if (at > -2)
+                return LAYOUT;
+            u32 a = end[at], b = end[at + 1];
+            bad |= a & 0xfe00fe00;
+            at += 2 + (a >> 16 & 511) + (a & 511) + (b >> 16) + ((b & 0x7fff) << (b >> 15 & 1));
+        }
     }
-    if (at != n)
+    if (at)
         return LAYOUT;
-    return ok ? 0 : FIELD;
+    return bad ? FIELD : 0;
 }
 // The record of an identifier, and its stream; none where it is not declared.
 static inline u32 *seek(u32 *t, u32 identifier, long *stream) {
@@ -144,26 +165,37 @@ static inline u32 read_packet(u32 *t, const u32 *w, size_t n, struct packet *p) 
         return check_context(w + body, size - body);
     return survey ? check_survey(h, w + class, size - body - trailed) : 0;
 }
-static int all_zero(const u32 *w, size_t n) {
-    for (size_t i = 0; i < n; i++)
-        if (w[i])
+// The ones of n words, two words at a time.
+static inline u64 any(const u32 *w, size_t n) {
+    u64 all = n & 1 ? w[n - 1] : 0, two;
+#pragma GCC unroll 6
+    for (size_t i = 0; i + 1 < n; i += 2) {
+        memcpy(&two, w + i, 8);
+        all |= two;
+    }
+    return all;
+}
+// Whether the words before the slots are good: the held indicator, the counts and the choice.
+static inline int head_good(const u32 *r) {
+    if (r[1] & ~HELD || (r[1] && !r[10]) || r[CHOICE] > 1)
+        return 0;
+#pragma GCC unroll 4
+    for (const u32 *c = r + 2; c < r + CHOICE; c += 3)
+        if (c[2] > 16 || (!c[2] && c[0] | c[1]))
             return 0;
     return 1;
 }
 static int record_good(const u32 *r) {
-    u32 held = r[1];
-    if (held & ~HELD || (held && !r[10]) || r[CHOICE] > 1)
-        return 0;
-    for (const u32 *c = r + 2; c < r + CHOICE; c += 3)
-        if (c[2] > 16 || (!c[2] && (c[0] || c[1])))
-            return 0;
     const u32 *slot = r + HEAD;
+    u64 bad = 0;
+    if (!head_good(r))
+        return 0;
+#pragma GCC unroll 21
     for (u32 bit = 30; bit >= 10; bit--) {
-        if (!(held >> bit & 1 ? rule_ok(bit, slot, 1) : all_zero(slot, sizes[bit])))
-            return 0;
-        slot += sizes[bit];
+        bad |= r[1] >> bit & 1 ? broken(bit, slot, 1) : any(slot, size_of(bit));
+        slot += size_of(bit);
     }
-    return 1;
+    return !bad;
 }
 static int table_good(const u32 *t, size_t n) {
     size_t s = n ? t[0] : 0;
@@ -178,34 +210,30 @@ static int table_good(const u32 *t, size_t n) {
             return 0;
     return 1;
 }
-// Each field of the bits into its slot; they stand in the body one after the other.
-static inline void fill(u32 *r, const u32 *body, u32 bits) {
-    while (bits) {
-        u32 bit = __builtin_clz(bits) ^ 31;
-        size_t n = sizes[bit];
-        bits ^= 1u << bit;
-        memcpy(r + slots[bit], body, n * 4);
-        body += n;
+// Each field of the bits into its slot; they stand in the body one after the other. The over-range count is passed over, and of the old state
+// stays what the new one does not speak of. A fresh record takes the state whole, and its other slots are cleared.
+static inline void fill(u32 *r, const u32 *body, u32 bits, int fresh) {
+    u32 *slot = r + HEAD, mask;
+#pragma GCC unroll 21
+    for (u32 bit = 30; bit >= 10; bit--) {
+        if (bit == 14 && !fresh && !(bits & LAST))
+            return;
+        if (bits >> bit & 1) {
+            if (bit == 16 && !fresh) {
+                mask = spoken(*body);
+                *slot = (*body & mask) | (*slot & ~mask);
+            } else if (bit != 22)
+                memcpy(slot, body, size_of(bit) * 4);
+            body += size_of(bit);
+        } else if (fresh)
+            memset(slot, 0, size_of(bit) * 4);
+        slot += size_of(bit);
     }
-}
-// Holds a packet's fields where the over-range count or the state is among them. Both are copied with the rest;
-// then the count is cleared, and of the old state comes back what the new one does not speak of.
-static __attribute__((noinline)) void hold_state(u32 *r, const u32 *body) {
-    u32 bits = body[0] & FIXED, old = r[STATE];
-    r[1] |= bits & HELD;
-    fill(r, body + 1, bits);
-    r[OVER_RANGE] = 0;
-    u32 mask = spoken(r[STATE]);
-    r[STATE] = (r[STATE] & mask) | (old & ~mask);
 }
 static __attribute__((noinline)) void hold(u32 *r, const u32 *body) {
-    u32 bits = body[0] & FIXED;
-    if (bits & (1 << 22 | 1 << 16)) {
-        hold_state(r, body);
-        return;
-    }
-    r[1] |= bits;
-    fill(r, body + 1, bits);
+    u32 bits = body[0];
+    r[1] |= bits & HELD;
+    fill(r, body + 1, bits, 0);
 }
 // Plays a packet that was read; gives the stream, or -1 where there is none, and the missing that it adds.
 static inline long hear(const struct packet *p, u32 *missing) {

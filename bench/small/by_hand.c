@@ -15,33 +15,25 @@ u32 c_trailer_word(u32 enables, u32 indicators, u32 e, u32 associated, u32 *word
     *word = enables << 20 | indicators << 8 | e << 7 | associated;
     return 0;
 }
-u32 c_field_count(u32 indicator) { return __builtin_popcount(indicator & 0x7fffff00); }
+u32 c_field_count(u32 indicator) { return ones(indicator & 0x7fffff00); }
 u32 c_check_body(const u32 *body, size_t n) { return n ? check_context(body, n) : LAYOUT; }
-// The words of the field at a place; of one that says its own length and whose first two words are not there, more than there are.
-static inline size_t words_of(u32 bit, const u32 *body, size_t n, size_t at) {
-    if (sizes[bit])
-        return sizes[bit];
-    if (n - at < 2)
-        return n + 1;
-    u32 a = body[at], b = body[at + 1];
-    return bit == 9 ? 2 + (size_t)b : 2 + (a >> 16 & 511) + (a & 511) + (b >> 16) + ((b & 0x7fff) << (b >> 15 & 1));
-}
 u32 c_find(const u32 *body, size_t n, u32 bit, size_t *a) {
     a[0] = a[1] = a[2] = 0;
     if (bit > 30 || bit < 8 || !n || !(body[0] >> bit & 1))
         return 0;
-    u32 above = body[0] & 0x7fffffff & ~((2u << bit) - 1);
-    size_t at = 1;
-    while (above) {
-        u32 b = __builtin_clz(above) ^ 31;
-        above ^= 1u << b;
-        size_t size = words_of(b, body, n, at);
-        if (n - at < size)
+    size_t at = 1 + words(body[0] & -(2u << bit)), size = size_of(bit);
+    if (bit < 10) {
+        if (bit == 8 && body[0] >> 9 & 1) {
+            if (n < at + 2)
+                return 0;
+            at += 2 + (size_t)body[at + 1];
+        }
+        if (n < at + 2)
             return 0;
-        at += size;
+        u32 x = body[at], y = body[at + 1];
+        size = bit == 9 ? 2 + (size_t)y : 2 + (x >> 16 & 511) + (x & 511) + (y >> 16) + ((y & 0x7fff) << (y >> 15 & 1));
     }
-    size_t size = words_of(bit, body, n, at);
-    if (n - at < size)
+    if (n < at + size)
         return 0;
     a[0] = 1;
     a[1] = at;
@@ -74,12 +66,12 @@ u32 c_well_made(const u32 *t, size_t tn) { return table_good(t, tn); }
 u32 c_page_length(const u32 *t, size_t tn, size_t *length) {
     if (!table_good(t, tn))
         return TABLE;
-    size_t words = 2 + 2 * t[0];
+    size_t n = 2 + 2 * t[0];
     for (size_t s = 0; s < t[0]; s++)
-        words += held_words(t[2 + RECORD * s]);
-    if (words > MOST)
+        n += HEAD + words(t[2 + RECORD * s]);
+    if (n > MOST)
         return SIZE;
-    *length = words;
+    *length = n;
     return 0;
 }
 // The record of a stream, or the refusal of the table or of the stream's number.
@@ -134,12 +126,14 @@ u32 c_changed(const u32 *t, size_t tn, size_t s, const u32 *u, size_t un, size_t
         return STREAM;
     const u32 *p = t + 1 + RECORD * s, *q = u + 1 + RECORD * v;
     u32 changed = p[1] ^ q[1], both = p[1] & q[1];
-    while (both) {
-        u32 bit = __builtin_clz(both) ^ 31;
-        both ^= 1u << bit;
-        for (size_t i = slots[bit]; i < slots[bit] + sizes[bit]; i++)
-            if (p[i] != q[i])
-                changed |= 1u << bit;
+    size_t slot = HEAD;
+#pragma GCC unroll 21
+    for (u32 bit = 30; bit >= 10; bit--) {
+        if (bit == 14 && !(both & LAST))
+            break;
+        if (both >> bit & 1 && memcmp(p + slot, q + slot, size_of(bit) * 4))
+            changed |= 1u << bit;
+        slot += size_of(bit);
     }
     *fields = changed;
     return 0;
