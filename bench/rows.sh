@@ -1,5 +1,5 @@
 # For bench/calls and bench/small, which source it with `here` set to their folder: builds its drive.c with C by hand and with libvrt49.a, counts the
-# instructions of a call on both sides, and compares what they answer.
+# instructions of a call on both sides, and compares what they answer. BY_HAND=by_hand_tighter.c takes the tighter C of bench/play.
 CC=${CC:-x86_64-linux-gnu-gcc}
 INSNCOUNT=${INSNCOUNT:-tools/insncount}
 LIB=${LIB:-target/staticlib/libvrt49.a}
@@ -8,7 +8,7 @@ work=${WORK:-$(mktemp -d)}
 trap 'exit 1' HUP INT TERM
 n=1000
 built() { # FILE ..: those of C by hand
-    $CC -O2 -static -DSIDE=c "$here/drive.c" "$@" -o "$work/c"
+    $CC -O2 -static -DSIDE=c -DBY_HAND="\"../play/${BY_HAND:-by_hand.c}\"" "$here/drive.c" "$@" -o "$work/c"
     $CC -O2 -static -DSIDE=vrt49 "$here/drive.c" "$LIB" -o "$work/r"
     echo 'call           of                                  C by hand    proved  ratio  results'
 }

@@ -1,7 +1,7 @@
 // What the calls of libvrt49.a are measured against: read, write, play, save, put back, readings and held words in C by hand, with the
-// same checks in the same order and the same entries written. The tests of bodies, records and tables are those of the play bench; read and write by
-// 49A stand in survey.c.
-#include "../play/by_hand.c"
+// same checks in the same order and the same entries written. The tests of bodies, records and tables are those of the play bench, of its file BY_HAND;
+// read and write by 49A stand in survey.c.
+#include BY_HAND
 enum { ROOM = 13, VALUE = 14, SIZE = 15, PAGE = 19, MOST = 65535 };
 // where the parts that a header announces begin, and how many words are required
 struct places {
@@ -124,6 +124,19 @@ u32 c_play(u32 *t, size_t tn, const u32 *w, size_t n, u32 *a) {
     a[3] = missing;
     return 0;
 }
+// Each field of the bits, from bit high to bit low, out of its slot into a body, one after the other. Gives the place after them.
+static inline u32 *take(u32 *body, const u32 *slot, u32 bits, u32 high, u32 low) {
+    UNROLLED
+    for (u32 bit = high; bit >= low; bit--) {
+        size_t n = size_of(bit);
+        if (bits >> bit & 1) {
+            copy(body, slot, n);
+            body += n;
+        }
+        slot += n;
+    }
+    return body;
+}
 u32 c_save(const u32 *t, size_t tn, u32 *page, size_t room, size_t *written) {
     if (!table_good(t, tn))
         return TABLE;
@@ -137,20 +150,13 @@ u32 c_save(const u32 *t, size_t tn, u32 *page, size_t room, size_t *written) {
     page[0] = streams;
     page[1] = length;
     for (size_t s = 0; s < streams; s++) {
-        const u32 *r = t + 1 + RECORD * s, *slot = r + HEAD;
+        const u32 *r = t + 1 + RECORD * s;
         u32 held = r[1], *b = page + at;
         memcpy(b, r, HEAD * 4);
         b += HEAD;
-#pragma GCC unroll 21
-        for (u32 bit = 30; bit >= 10; bit--) {
-            if (bit == 14 && !(held & LAST))
-                break;
-            if (held >> bit & 1) {
-                memcpy(b, slot, size_of(bit) * 4);
-                b += size_of(bit);
-            }
-            slot += size_of(bit);
-        }
+        b = take(b, r + HEAD, held, 30, 15);
+        if (held & LAST)
+            b = take(b, r + slot_of(14), held, 14, 10);
         page[2 + 2 * s] = at;
         page[3 + 2 * s] = b - page - at;
         at = b - page;
@@ -159,19 +165,7 @@ u32 c_save(const u32 *t, size_t tn, u32 *page, size_t room, size_t *written) {
     return 0;
 }
 // Whether the record of a body is good: the slots of what is not held will be zero.
-static inline int body_good(const u32 *b) {
-    const u32 *f = b + HEAD;
-    u32 bad = 0;
-    if (!head_good(b))
-        return 0;
-#pragma GCC unroll 16
-    for (u32 bit = 30; bit >= 15; bit--)
-        if (b[1] >> bit & 1) {
-            bad |= broken(bit, f, 1);
-            f += size_of(bit);
-        }
-    return !bad;
-}
+static inline int body_good(const u32 *b) { return head_good(b) && !fields_bad(b + HEAD, b[1], 1); }
 static int page_good(const u32 *p, size_t n) {
     size_t streams = n ? p[0] : 0, at = 2 + 2 * streams;
     if (streams < 1 || streams > 32 || n < at || p[1] != n)
@@ -204,51 +198,36 @@ u32 c_put_back(const u32 *p, size_t n, u32 *t, size_t tn, size_t *written) {
         const u32 *b = p + p[2 + 2 * s];
         u32 *r = t + 1 + RECORD * s;
         memcpy(r, b, HEAD * 4);
-        fill(r, b + HEAD, b[1], 1);
+        memset(r + HEAD, 0, (RECORD - HEAD) * 4);
+        fill(r, b + HEAD, b[1]);
     }
     *written = 1 + RECORD * streams;
     return 0;
 }
-// What a field shows, as numbers.
-struct shown {
-    u32 kind, parts;
-    int64_t hertz;
-    float first, second;
-};
-static inline __attribute__((always_inline)) struct shown show(const u32 *r, u32 bit) {
+// the fields that show hertz, and all that show a number
+#define HERTZ 0x3e200000u
+#define SHOWN 0x3fa40000u
+// What a held field shows, as numbers. What it does not show is zero already.
+static inline __attribute__((always_inline)) void show(const u32 *r, u32 bit, u32 *kind, u32 *parts, int64_t *hertz, float *first, float *second) {
     const u32 *f;
-    struct shown a = {6, 0, 0, 0, 0};
-    if (!(r[1] >> bit & 1))
-        return a;
-    switch (bit) {
-    case 29:
-    case 28:
-    case 27:
-    case 26:
-    case 25:
-    case 21:
+    if (!(SHOWN >> bit & 1)) {
+        *kind = 5;
+    } else if (HERTZ >> bit & 1) {
         f = r + (bit == 21 ? slot_of(21) : slot_of(29) + 2 * (29 - bit));
-        a.kind = 1;
-        a.parts = f[1] & 0xfffff;
-        a.hertz = (int64_t)((u64)f[0] << 32 | f[1]) >> 20;
-        return a;
-    case 24:
-        a.kind = 2;
-        a.first = (int16_t)r[slot_of(24)] / 128.0f;
-        return a;
-    case 23:
+        *kind = 1;
+        *parts = f[1] & 0xfffff;
+        *hertz = (int64_t)((u64)f[0] << 32 | f[1]) >> 20;
+    } else if (bit == 24) {
+        *kind = 2;
+        *first = (int16_t)r[slot_of(24)] / 128.0f;
+    } else if (bit == 23) {
         f = r + slot_of(23);
-        a.kind = 3;
-        a.first = (int16_t)f[0] / 128.0f;
-        a.second = (int16_t)(f[0] >> 16) / 128.0f;
-        return a;
-    case 18:
-        a.kind = 4;
-        a.first = (int16_t)r[slot_of(18)] / 64.0f;
-        return a;
-    default:
-        a.kind = 5;
-        return a;
+        *kind = 3;
+        *first = (int16_t)f[0] / 128.0f;
+        *second = (int16_t)(f[0] >> 16) / 128.0f;
+    } else {
+        *kind = 4;
+        *first = (int16_t)r[slot_of(18)] / 64.0f;
     }
 }
 u32 c_reading(const u32 *t, size_t tn, size_t s, u32 bit, u32 *kind, u32 *parts, int64_t *hertz, float *levels) {
@@ -258,12 +237,13 @@ u32 c_reading(const u32 *t, size_t tn, size_t s, u32 bit, u32 *kind, u32 *parts,
         return STREAM;
     if (bit < 10 || bit > 30)
         return VALUE;
-    struct shown a = show(t + 1 + RECORD * s, bit);
-    *kind = a.kind;
-    *parts = a.parts;
-    *hertz = a.hertz;
-    levels[0] = a.first;
-    levels[1] = a.second;
+    const u32 *r = t + 1 + RECORD * s;
+    *kind = 6;
+    *parts = 0;
+    *hertz = 0;
+    levels[0] = levels[1] = 0;
+    if (r[1] >> bit & 1)
+        show(r, bit, kind, parts, hertz, levels, levels + 1);
     return 0;
 }
 u32 c_readings(const u32 *t, size_t tn, size_t s, u32 *kinds, u32 *parts, int64_t *hertz, float *first, float *second) {
@@ -271,15 +251,19 @@ u32 c_readings(const u32 *t, size_t tn, size_t s, u32 *kinds, u32 *parts, int64_
         return TABLE;
     if (s >= t[0])
         return STREAM;
-#pragma GCC unroll 21
-    for (u32 i = 0; i < 21; i++) {
-        struct shown a = show(t + 1 + RECORD * s, 30 - i);
-        kinds[i] = a.kind;
-        parts[i] = a.parts;
-        hertz[i] = a.hertz;
-        first[i] = a.first;
-        second[i] = a.second;
-    }
+    const u32 *r = t + 1 + RECORD * s;
+    u32 held = r[1];
+    for (u32 i = 0; i < 20; i++) // four at a time by the compiler
+        kinds[i] = 6;
+    kinds[20] = 6;
+    memset(parts, 0, 21 * sizeof *parts);
+    memset(hertz, 0, 21 * sizeof *hertz);
+    memset(first, 0, 21 * sizeof *first);
+    memset(second, 0, 21 * sizeof *second);
+    UNROLLED
+    for (u32 i = 0; i < 21; i++)
+        if (held >> (30 - i) & 1)
+            show(r, 30 - i, kinds + i, parts + i, hertz + i, first + i, second + i);
     return 0;
 }
 u32 c_held_words(const u32 *t, size_t tn, size_t s, u32 bit, u32 *out, size_t room, size_t *written) {

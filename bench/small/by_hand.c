@@ -119,6 +119,19 @@ u32 c_own_table(const u32 *t, size_t tn, size_t s, u32 *out, size_t room, size_t
     *length = 1 + RECORD;
     return 0;
 }
+// Which fields of the bits, from bit high to bit low, differ in two records.
+static inline u32 differing(const u32 *v, const u32 *w, u32 bits, u32 high, u32 low) {
+    u32 found = 0;
+    UNROLLED
+    for (u32 bit = high; bit >= low; bit--) {
+        size_t n = size_of(bit);
+        if (bits >> bit & 1 && differ(v, w, n))
+            found |= 1u << bit;
+        v += n;
+        w += n;
+    }
+    return found;
+}
 u32 c_changed(const u32 *t, size_t tn, size_t s, const u32 *u, size_t un, size_t v, u32 *fields) {
     if (!table_good(t, tn) || !table_good(u, un))
         return TABLE;
@@ -126,15 +139,9 @@ u32 c_changed(const u32 *t, size_t tn, size_t s, const u32 *u, size_t un, size_t
         return STREAM;
     const u32 *p = t + 1 + RECORD * s, *q = u + 1 + RECORD * v;
     u32 changed = p[1] ^ q[1], both = p[1] & q[1];
-    size_t slot = HEAD;
-#pragma GCC unroll 21
-    for (u32 bit = 30; bit >= 10; bit--) {
-        if (bit == 14 && !(both & LAST))
-            break;
-        if (both >> bit & 1 && memcmp(p + slot, q + slot, size_of(bit) * 4))
-            changed |= 1u << bit;
-        slot += size_of(bit);
-    }
+    changed |= differing(p + HEAD, q + HEAD, both, 30, 15);
+    if (both & LAST)
+        changed |= differing(p + slot_of(14), q + slot_of(14), both, 14, 10);
     *fields = changed;
     return 0;
 }

@@ -1,6 +1,7 @@
 #!/bin/sh
 # Instructions executed for each of the smaller calls of libvrt49.a, against C by hand; the results are compared.
 # Run it at the project's root: bench/small/measure.sh, after `make lib`. It needs x86_64-linux-gnu-gcc (or CC set) and Debian's qemu-user.
+# BY_HAND=by_hand_tighter.c measures against the tighter C.
 set -eu
 here=$(cd "$(dirname "$0")" && pwd)
 . "$here/../rows.sh"
