@@ -1,12 +1,13 @@
 -- The sizes of fields. The idea: what holds of the rows at every bit is one test that computes, and `wordsOf` looks only at the first two words, and
 -- at none from bit 10 up. A bit is in one group at most, so the words of any set bits are the counts of ones in the groups, each times its words, by one
 -- induction over the width (`size-grouped`, `sizes-counted`).
-use Rattle.words.proofs.Kit.{_≡_, refl, sym, ap, _∙_, Bool, true, false, ⊎-elim, List, [], _∷_, _++_, ℕ, zero, suc, _+_, _-_, _*_, _/_, _%_, _^_, _≤_, _<_, arith}
-use Rattle.words.proofs.Kit.{le-ltb, ne-eqb, eqb-true, eqb, ltb, leb, length, getD}
-use native.Mathlib.Nat.{mul-le-mul-left, zero-add, mod-eq-of-lt, lt-of-le-of-lt}
+use Rattle.words.proofs.Kit.{_≡_, refl, sym, ap, _∙_, Bool, true, false, not, ⊎-elim, List, [], _∷_, _++_, ℕ, zero, suc, _+_, _-_, _*_, _/_, _%_, _^_, _≤_, _<_, arith}
+use Rattle.words.proofs.Kit.{le-ltb, ne-eqb, eqb-true, not-true, eqb, ltb, leb, length, getD}
+use native.Mathlib.Nat.{mul-le-mul-left, zero-add, add-zero, mod-lt, mod-eq-of-lt, lt-of-le-of-lt}
 use borrow.Author.Tests.{leb-true}
 use lib.Bits.{bitAnd, and-le-r}
 use lib.Count.{ones, ones-cat}
+use lib.Pow as Pow
 use lib.Pow.{pow-pos}
 use Rattle.words.specs.Tests.{pick, when, both}
 use Rattle.words.specs.Word.{has}
@@ -14,11 +15,11 @@ use Rattle.words.specs.SetBits.{bitsOf, above}
 use Rattle.words.specs.All.{all}
 use Rattle.words.proofs.Cases.{le-or-lt, true-or-false, both-left, both-right, both-no}
 use Rattle.words.proofs.AllLaws.{all-at}
-use Rattle.words.proofs.BitLaws.{has-and, word-same}
+use Rattle.words.proofs.BitLaws.{has-and, has-low, word-same}
 use Rattle.words.proofs.SetBitLaws.{bits-zero, bits-yes, bits-no, bits-parts, bits-counted, bits-few, bits-none, has-above}
 use Rattle.fields.specs.Sizes.{fieldSize, sizesOf, listWords, wordsOf}
 use Rattle.fields.specs.Layout.{carried}
-use Rattle.fields.specs.inner.Groups.{oneWord, twoWords, elevenWords, thirteenWords}
+use Rattle.fields.specs.inner.Groups.{oneWord, twoWords, elevenWords, thirteenWords, fromFifteen, lastFive, tenAlone}
 
 small : ℕ → Bool
 small b = leb (fieldSize b) 13
@@ -91,7 +92,7 @@ askedGroup b =
     pick (ltb 14 b) (1 + twoWords / 2 ^ b % 2)
     (pick (has elevenWords b) 11
     (pick (has thirteenWords b) 13
-    (oneWord / 2 ^ b % 2)))
+    (tenAlone / 2 ^ b % 2)))
 
 abbrev allGroups : ℕ → ℕ
 allGroups b = when (has oneWord b) 1 + 2 * when (has twoWords b) 1 + 11 * when (has elevenWords b) 1 + 13 * when (has thirteenWords b) 1
@@ -106,7 +107,7 @@ rows-grouped = refl
 
 pub size-asked : (b : ℕ) → b < 31
     → fieldSize b
-    ≡ pick (ltb 14 b) (1 + twoWords / 2 ^ b % 2) (pick (has elevenWords b) 11 (pick (has thirteenWords b) 13 (oneWord / 2 ^ b % 2)))
+    ≡ pick (ltb 14 b) (1 + twoWords / 2 ^ b % 2) (pick (has elevenWords b) 11 (pick (has thirteenWords b) 13 (tenAlone / 2 ^ b % 2)))
 unfolding grouped
 size-asked b h = eqb-true _ _ (both-left _ (eqb (fieldSize b) (allGroups b)) (all-at grouped 31 b h rows-grouped))
 
@@ -166,70 +167,92 @@ group-ones n g h = sym (bits-counted 31 (bitAnd n g) ∙ ap ones (mod-eq-of-lt (
 pub group-few : (n g : ℕ) → g < 2 ^ 31 → ones (bitAnd n g) ≤ 31
 group-few n g h = rw (group-ones n g h) (bits-few 31 (bitAnd n g))
 
--- two groups that have no bit in common, in one count
+-- the bits of the first two groups are those from 15 up, and 10
 apart : ℕ → Bool
-apart b = eqb (when (has (oneWord + twoWords) b) 1) (when (has oneWord b) 1 + when (has twoWords b) 1)
+apart b = eqb (when (has fromFifteen b) 1 + when (has tenAlone b) 1) (when (has oneWord b) 1 + when (has twoWords b) 1)
 
-short-apart : (b : ℕ) → b < 31 → when (has (oneWord + twoWords) b) 1 ≡ when (has oneWord b) 1 + when (has twoWords b) 1
+first-two : (b : ℕ) → b < 31 → when (has fromFifteen b) 1 + when (has tenAlone b) 1 ≡ when (has oneWord b) 1 + when (has twoWords b) 1
 unfolding apart all
-short-apart b h = eqb-true _ _ (all-at apart 31 b h refl)
+first-two b h = eqb-true _ _ (all-at apart 31 b h refl)
 
-short-joined : (k n : ℕ) → k ≤ 31
-    → length (bitsOf k (bitAnd n (oneWord + twoWords))) ≡ length (bitsOf k (bitAnd n oneWord)) + length (bitsOf k (bitAnd n twoWords))
+high-joined : (k n : ℕ) → k ≤ 31
+    → length (bitsOf k (bitAnd n fromFifteen)) + length (bitsOf k (bitAnd n tenAlone))
+    ≡ length (bitsOf k (bitAnd n oneWord)) + length (bitsOf k (bitAnd n twoWords))
 unfolding bitsOf
-short-joined zero n h = refl
-short-joined (suc k) n h =
-    let lower = short-joined k n (omega arith) in
+high-joined zero n h = refl
+high-joined (suc k) n h =
+    let lower = high-joined k n (omega arith) in
     ⊎-elim
     (λ (y : has n k ≡ true).
     omega (
       arith,
       lower,
-      short-apart k (omega arith),
-      counted-yes k n (oneWord + twoWords) y,
+      first-two k (omega arith),
+      counted-yes k n fromFifteen y,
+      counted-yes k n tenAlone y,
       counted-yes k n oneWord y,
       counted-yes k n twoWords y,
     ))
     (λ (y : has n k ≡ false).
-    omega (arith, lower, counted-no k n (oneWord + twoWords) y, counted-no k n oneWord y, counted-no k n twoWords y))
+    omega (arith, lower, counted-no k n fromFifteen y, counted-no k n tenAlone y, counted-no k n oneWord y, counted-no k n twoWords y))
     (true-or-false (has n k))
 
+-- a group that has no bit below 15, counted from there on
+abbrev Above15 : ℕ → Type 0
+Above15 g = (b : ℕ) → b < 15 → has g b ≡ false
+
+module _ (n g : ℕ) (none : Above15 g) where
+  low-zero : bitAnd n g % 2 ^ 15 ≡ 0
+  low-zero =
+      word-same 15 _ 0 (mod-lt (bitAnd n g) (pow-pos 15)) (pow-pos 15)
+      (λ b l.
+      has-low (bitAnd n g) 15 b l ∙ has-and n g b ∙ ap (both (has n b)) (none b l) ∙ both-no (has n b) ∙ sym (has-above 0 b (pow-pos b)))
+
+  high-whole : bitAnd n g / 2 ^ 15 * 2 ^ 15 ≡ bitAnd n g
+  high-whole = omega (arith, Pow.split (bitAnd n g) 15, low-zero)
+
+  high-down : ones (bitAnd n g / 2 ^ 15) ≡ ones (bitAnd n g)
+  unfolding ones
+  high-down =
+      let whole : bitAnd n g ≡ bitAnd n g / 2 ^ 15 * 2 ^ 15 + 0 = omega (arith, high-whole) in
+      sym (ap ones whole ∙ ones-cat 15 (bitAnd n g / 2 ^ 15) 0 (pow-pos 15) ∙ add-zero (ones (bitAnd n g / 2 ^ 15)))
+
+  pub high-beside : (r : ℕ) → r < 2 ^ 15 → ones (bitAnd n g + r) ≡ ones (bitAnd n g) + ones r
+  high-beside r h =
+      ap (λ (m : ℕ). ones (m + r)) (sym high-whole) ∙ ones-cat 15 (bitAnd n g / 2 ^ 15) r h ∙ ap (λ (m : ℕ). m + ones r) high-down
+
+none-below : ℕ → ℕ → Bool
+none-below g b = not (has g b)
+
+fifteen-above : Above15 fromFifteen
+unfolding none-below all
+fifteen-above b h = not-true (has fromFifteen b) (all-at (none-below fromFifteen) 15 b h refl)
+
+two-above : Above15 twoWords
+unfolding none-below all
+two-above b h = not-true (has twoWords b) (all-at (none-below twoWords) 15 b h refl)
+
+-- as a program counts the fields from bit 15 up
 module _ (n : ℕ) where
-  abbrev short : ℕ
-  short = bitAnd n (oneWord + twoWords)
+  again-small : bitAnd n twoWords / 2 ^ 15 < 2 ^ 15
+  again-small = omega (arith, and-le-r n twoWords)
 
-  short-small : bitAnd n (oneWord + twoWords) < 2 ^ 32
-  short-small = omega (arith, and-le-r n (oneWord + twoWords))
+  pub high-fits : bitAnd n fromFifteen + bitAnd n twoWords / 2 ^ 15 < 2 ^ 32
+  high-fits = omega (arith, and-le-r n fromFifteen, again-small)
 
-  -- the number that is counted, and its parts, fit 64 bits
-  pub group-fits : (g : ℕ) → g < 2 ^ 31 → bitAnd n g < 2 ^ 64
-  group-fits g h = omega (arith, and-le-r n g)
-
-  pub upper-fits : bitAnd n twoWords * 2 ^ 32 < 2 ^ 64
-  upper-fits = omega (arith, and-le-r n twoWords)
-
-  pub both-fit : bitAnd n twoWords * 2 ^ 32 + bitAnd n (oneWord + twoWords) < 2 ^ 64
-  both-fit = omega (arith, and-le-r n twoWords, short-small)
-
-  pub short-ones : ones (bitAnd n twoWords * 2 ^ 32 + bitAnd n (oneWord + twoWords))
-      ≡ length (bitsOf 31 (bitAnd n oneWord)) + 2 * length (bitsOf 31 (bitAnd n twoWords))
-  short-ones =
+  pub high-ones : ones (bitAnd n fromFifteen + bitAnd n twoWords / 2 ^ 15)
+      ≡ length (bitsOf 31 (bitAnd n fromFifteen)) + length (bitsOf 31 (bitAnd n twoWords))
+  high-ones =
       omega (
         arith,
-        ones-cat 32 (bitAnd n twoWords) short short-small,
-        group-ones n (oneWord + twoWords) (omega arith),
+        high-beside n fromFifteen fifteen-above (bitAnd n twoWords / 2 ^ 15) again-small,
+        high-down n twoWords two-above,
+        group-ones n fromFifteen (omega arith),
         group-ones n twoWords (omega arith),
-        short-joined 31 n (omega arith),
       )
 
-  pub short-few : ones (bitAnd n twoWords * 2 ^ 32 + bitAnd n (oneWord + twoWords)) ≤ 64
-  short-few =
-      omega (
-        arith,
-        ones-cat 32 (bitAnd n twoWords) short short-small,
-        group-few n (oneWord + twoWords) (omega arith),
-        group-few n twoWords (omega arith),
-      )
+  pub high-few : ones (bitAnd n fromFifteen + bitAnd n twoWords / 2 ^ 15) ≤ 62
+  high-few = omega (arith, high-ones, bits-few 31 (bitAnd n fromFifteen), bits-few 31 (bitAnd n twoWords))
 
 -- fewer bits take fewer words
 pub sizes-within : (k n m : ℕ) → ((b : ℕ) → b < k → has n b ≡ true → has m b ≡ true) → sizesOf (bitsOf k n) ≤ sizesOf (bitsOf k m)
@@ -267,48 +290,63 @@ sizes-between n first past h g =
       sizes-most n,
     )
 
--- the two groups of long fields, as bits of their sum
-within-long : ℕ → ℕ → Bool
-within-long g b = pick (has g b) (has (elevenWords + thirteenWords) b) true
+-- 10 and the groups of long fields are among the last five
+within-last : ℕ → ℕ → Bool
+within-last g b = pick (has g b) (has lastFive b) true
 
-eleven-long : (b : ℕ) → b < 31 → has elevenWords b ≡ true → has (elevenWords + thirteenWords) b ≡ true
-unfolding within-long all
-eleven-long b h e = rw e at (all-at (within-long elevenWords) 31 b h refl)
+abbrev Last : ℕ → Type 0
+Last g = (b : ℕ) → b < 31 → has g b ≡ true → has lastFive b ≡ true
 
-thirteen-long : (b : ℕ) → b < 31 → has thirteenWords b ≡ true → has (elevenWords + thirteenWords) b ≡ true
-unfolding within-long all
-thirteen-long b h e = rw e at (all-at (within-long thirteenWords) 31 b h refl)
+ten-last : Last tenAlone
+unfolding within-last all
+ten-last b h e = rw e at (all-at (within-last tenAlone) 31 b h refl)
 
--- as a program adds them: s is the words of the fields of one word and of two, c and d how many there are of the others
-module _ (n s : ℕ) (e : s ≡ length (bitsOf 31 (bitAnd n oneWord)) + 2 * length (bitsOf 31 (bitAnd n twoWords))) where
-  module _ (none : bitAnd n (elevenWords + thirteenWords) ≡ 0) where
-    no-long : (g : ℕ) → g < 2 ^ 31 → ((b : ℕ) → b < 31 → has g b ≡ true → has (elevenWords + thirteenWords) b ≡ true) → length (bitsOf 31 (bitAnd n g)) ≡ 0
-    no-long g h w =
-        let zero : bitAnd n g ≡ 0 = word-same 31 (bitAnd n g) 0 (omega (arith, and-le-r n g)) (omega arith)
-        (λ b l. has-and n g b ∙ outside b l ∙ sym (has-above 0 b (pow-pos b))) in
-        ap (λ (m : ℕ). length (bitsOf 31 m)) zero ∙ ap length (bits-none 31 0 (omega arith))
-      where
-        outside : (b : ℕ) → b < 31 → both (has n b) (has g b) ≡ false
-        outside b l =
-            ⊎-elim
-            (λ (y : has g b ≡ true).
-            let f : both (has n b) (has (elevenWords + thirteenWords) b) ≡ false =
-            sym (has-and n (elevenWords + thirteenWords) b) ∙ ap (λ (m : ℕ). has m b) none ∙ has-above 0 b (pow-pos b) in
-            ap (both (has n b)) (y ∙ sym (w b l y)) ∙ f)
-            (λ (z : has g b ≡ false). rw z (both-no (has n b))) (true-or-false (has g b))
+eleven-last : Last elevenWords
+unfolding within-last all
+eleven-last b h e = rw e at (all-at (within-last elevenWords) 31 b h refl)
 
-    pub short-sizes : s ≡ sizesOf (bitsOf 31 n)
-    short-sizes =
-        omega (arith, sizes-counted 31 n (omega arith), no-long elevenWords (omega arith) eleven-long, no-long thirteenWords (omega arith) thirteen-long)
+thirteen-last : Last thirteenWords
+unfolding within-last all
+thirteen-last b h e = rw e at (all-at (within-last thirteenWords) 31 b h refl)
 
-    pub short-most : s ≤ 74
-    short-most = omega (arith, short-sizes, sizes-most n)
+-- as a program adds them: s is the words of the fields from bit 15 up, a, c and d how many there are of 10 and of the others
+module _ (n s : ℕ) (e : s ≡ length (bitsOf 31 (bitAnd n fromFifteen)) + length (bitsOf 31 (bitAnd n twoWords))) where
+  module _ (none : bitAnd n lastFive ≡ 0) where
+    outside : (g b : ℕ) → Last g → b < 31 → both (has n b) (has g b) ≡ false
+    outside g b w l =
+        ⊎-elim
+        (λ (y : has g b ≡ true).
+        let f : both (has n b) (has lastFive b) ≡ false =
+        sym (has-and n lastFive b) ∙ ap (λ (m : ℕ). has m b) none ∙ has-above 0 b (pow-pos b) in
+        ap (both (has n b)) (y ∙ sym (w b l y)) ∙ f)
+        (λ (z : has g b ≡ false). rw z (both-no (has n b))) (true-or-false (has g b))
 
-  module _ (c d : ℕ) (g : c ≡ length (bitsOf 31 (bitAnd n elevenWords))) (h : d ≡ length (bitsOf 31 (bitAnd n thirteenWords))) where
-    pub groups-sizes : s + 11 * c + 13 * d ≡ sizesOf (bitsOf 31 n)
-    groups-sizes = omega (arith, sizes-counted 31 n (omega arith))
+    none-last : (g : ℕ) → g < 2 ^ 31 → Last g → length (bitsOf 31 (bitAnd n g)) ≡ 0
+    none-last g h w =
+        let gone : bitAnd n g ≡ 0 = word-same 31 (bitAnd n g) 0 (omega (arith, and-le-r n g)) (omega arith)
+        (λ b l. has-and n g b ∙ outside g b w l ∙ sym (has-above 0 b (pow-pos b))) in
+        ap (λ (m : ℕ). length (bitsOf 31 m)) gone ∙ ap length (bits-none 31 0 (omega arith))
 
-    pub groups-most : s + 11 * c + 13 * d ≤ 74
+    pub high-sizes : s ≡ sizesOf (bitsOf 31 n)
+    high-sizes =
+        omega (
+          arith,
+          sizes-counted 31 n (omega arith),
+          high-joined 31 n (omega arith),
+          none-last tenAlone (omega arith) ten-last,
+          none-last elevenWords (omega arith) eleven-last,
+          none-last thirteenWords (omega arith) thirteen-last,
+        )
+
+    pub high-most : s ≤ 74
+    high-most = omega (arith, high-sizes, sizes-most n)
+
+  module _ (a c d : ℕ) (f : a ≡ length (bitsOf 31 (bitAnd n tenAlone))) (g : c ≡ length (bitsOf 31 (bitAnd n elevenWords)))
+      (h : d ≡ length (bitsOf 31 (bitAnd n thirteenWords))) where
+    pub groups-sizes : s + a + 11 * c + 13 * d ≡ sizesOf (bitsOf 31 n)
+    groups-sizes = omega (arith, sizes-counted 31 n (omega arith), high-joined 31 n (omega arith))
+
+    pub groups-most : s + a + 11 * c + 13 * d ≤ 74
     groups-most = omega (arith, groups-sizes, sizes-most n)
 
 -- ---- fields that say their sizes themselves

@@ -17,3 +17,13 @@ elevenWords = 0x6000
 -- "12, 11": 13
 abbrev pub thirteenWords : ℕ
 thirteenWords = 0x1800
+
+-- as a program counts them: the bits from 15 up, which are all in the first two groups; the five below; and 10, which alone of these is in the first
+abbrev pub fromFifteen : ℕ
+fromFifteen = 0x7FFF8000
+
+abbrev pub lastFive : ℕ
+lastFive = 0x7C00
+
+abbrev pub tenAlone : ℕ
+tenAlone = 0x400

@@ -1,31 +1,29 @@
 // How many words the fields of indicator bits take: those of fixed size by the groups of document 01, and the two that say their own size.
-ghost use Rattle.words.specs.Kit.{_≡_, [], _∷_, _+_, _*_, _^_, _≤_, _<_, length, drop};
+ghost use Rattle.words.specs.Kit.{_≡_, [], _∷_, _+_, _^_, _≤_, _<_, length, drop};
 ghost use lib.Bits.{bitAnd};
 ghost use Rattle.words.specs.SetBits.{bitsOf};
-ghost use Rattle.fields.specs.inner.Groups.{oneWord, twoWords};
+ghost use Rattle.fields.specs.inner.Groups.{twoWords, fromFifteen};
 ghost use Rattle.fields.specs.Sizes.{fieldSize, sizesOf, asciiWords, listWords, wordsOf};
 
-// Document 01, "Words for each bit": the bits of the fields of 1 word, of 2, of 11 and of 13.
-const ONE: u32 = 0x41CD_0400;
-
+// Document 01, "Words for each bit": the bits of the fields of 2 words, of 11 and of 13. The other fields of fixed size have 1.
 const TWO: u32 = 0x3E32_8000;
 
 const ELEVEN: u32 = 0x6000;
 
 const THIRTEEN: u32 = 0x1800;
 
-// Those of the first two groups, and of the last two.
-const SHORT: u32 = ONE + TWO;
+// The bits of the fields from 15 up, which have 1 word or 2; of the last five; and of 10, which alone of these has 1.
+const HIGH: u32 = 0x7FFF_8000;
 
-const LONG: u32 = ELEVEN + THIRTEEN;
+const LAST: u32 = 0x7C00;
 
-// The words of the fields of one word and of two that some bits have: one count of ones, in which a field of two words stands in both halves of the number.
-fn short_words(bits: u32) -> usize
-    ensures { λ r. ⌜ (r ≡ length (bitsOf 31 (bitAnd bits oneWord)) + 2 * length (bitsOf 31 (bitAnd bits twoWords))) × (r ≤ 64) ⌝ }
+const TEN: u32 = 0x400;
+
+// The words of the fields from bit 15 up that some bits have: one count of ones, in which those of two words stand twice, the second time below bit 15.
+fn high_words(bits: u32) -> usize
+    ensures { λ r. ⌜ (r ≡ length (bitsOf 31 (bitAnd bits fromFifteen)) + length (bitsOf 31 (bitAnd bits twoWords))) × (r ≤ 62) ⌝ }
 {
-    let once = (bits & SHORT) as u64;
-    let again = (bits & TWO) as u64;
-    u64::count_ones(again * 0x1_0000_0000 + once) as usize
+    u32::count_ones((bits & HIGH) + (bits & TWO) / 0x8000) as usize
 }
 
 // How many of some bits are in a group: count of ones.
@@ -36,18 +34,18 @@ fn in_group(bits: u32, group: u32) -> usize
     u32::count_ones(bits & group) as usize
 }
 
-// The words that the fields of fixed size of some bits take together: of each group, how many there are, times its words. Few bits have a field of 11 words or 13.
+// The words that the fields of fixed size of some bits take together: of each group, how many there are, times its words. Few packets have one of the last five.
 pub fn fixed_words(bits: u32) -> usize
     ensures { λ r. ⌜ (r ≡ sizesOf (bitsOf 31 bits)) × (r ≤ 74) ⌝ }
 {
-    let short = short_words(bits);
-    if bits & LONG == 0 {
-        return short;
+    let high = high_words(bits);
+    if bits & LAST == 0 {
+        return high;
     }
-    short + 11 * in_group(bits, ELEVEN) + 13 * in_group(bits, THIRTEEN)
+    high + in_group(bits, TEN) + 11 * in_group(bits, ELEVEN) + 13 * in_group(bits, THIRTEEN)
 }
 
-// The words of a field of fixed size, by the group that its bit is in; 0 for a bit in none. Every bit from 15 up is in the groups of 1 word and of 2.
+// The words of a field of fixed size, by the group that its bit is in; 0 for a bit in none. From 15 up a field has 1 word or 2.
 pub fn field_size(bit: u32) -> usize
     requires { ⌜ bit < 31 ⌝ }
     ensures { λ r. ⌜ (r ≡ fieldSize bit) × (r ≤ 13) ⌝ }
@@ -61,7 +59,7 @@ pub fn field_size(bit: u32) -> usize
     if (THIRTEEN >> bit) % 2 == 1 {
         return 13;
     }
-    ((ONE >> bit) % 2) as usize
+    ((TEN >> bit) % 2) as usize
 }
 
 // The words of field 9 at a place of a body.

@@ -1,0 +1,12 @@
+-- `high_words` meets its promise: the bits from 15 up and those that are counted again do not meet (`high-ones`).
+use Rattle.words.proofs.Kit.{arith, needs}
+use Rattle.fields.proofs.SizeLaws.{high-fits, high-ones, high-few}
+use Rattle.fields.proofs.inner.sizes.high_words.Statement.{statement}
+use Rattle.fields.proofs.inner.sizes.high_words.Tie as tie
+
+pub high-words-spec : {M : Type 1} → statement M
+high-words-spec =
+    tie.close
+    (tie.spec
+    (λ c. record { fits = high-fits (c .args .bits) }) (λ c. record { fits = omega (arith, high-few (c .args .bits)) })
+    (λ c. (search high-ones, search high-few)))
