@@ -11,7 +11,7 @@ use Rattle.words.specs.Word.{has}
 use Rattle.words.specs.All.{all}
 use Rattle.words.proofs.Cases.{true-or-false, le-or-lt, true-is-false, both-yes, neither, agreed}
 use Rattle.words.proofs.AllLaws.{all-at}
-use Rattle.fields.specs.Sizes.{fieldSize, wordsOf}
+use Rattle.fields.specs.Sizes.{fieldSize}
 use Rattle.fields.specs.Rules.{ruleOf, notNegativeFields, upperHalfFields, notNegative, upperHalfZero}
 use Rattle.fields.specs.Rules.{deviceRule, stateRule, formatRule, asciiRule, listsRule}
 use Rattle.fields.specs.inner.Limits.{ruledFields, ruled, limitOf, firstOk, deviceSecond, moreOk}
@@ -84,9 +84,6 @@ module _ (b : ℕ) (ws : List ℕ) (below : Bool) (f : below ≡ firstOk b (getD
   pub rule-broken : below ≡ false → false ≡ ruleOf b ws
   rule-broken over = sym (rule-limit b ws h ∙ rw (← f, over))
 
-  pub rule-above : below ≡ true → 17 < b → true ≡ ruleOf b ws
-  rule-above under g = sym (rule-limit b ws h ∙ rw (← f, under) (more-above b (getD ws 0 0) (getD ws 1 0) g))
-
   pub rule-only : 17 < b → below ≡ ruleOf b ws
   rule-only g = sym (rule-limit b ws h ∙ rw (← f, more-above b (getD ws 0 0) (getD ws 1 0) g) (both-yes below))
 
@@ -100,9 +97,6 @@ module _ (b u at : ℕ) (body : List ℕ) (e : u ≡ getD body at 0) (below : Bo
 
   pub rule-broken-at : below ≡ false → false ≡ ruleOf b (drop at body)
   rule-broken-at = rule-broken b (drop at body) below (f ∙ rw first-is) (rw (← first-is) h)
-
-  pub rule-above-at : below ≡ true → 17 < b → true ≡ ruleOf b (drop at body)
-  rule-above-at = rule-above b (drop at body) below (f ∙ rw first-is) (rw (← first-is) h)
 
   pub rule-only-at : 17 < b → below ≡ ruleOf b (drop at body)
   rule-only-at = rule-only b (drop at body) below (f ∙ rw first-is) (rw (← first-is) h)

@@ -1,8 +1,8 @@
 -- A record and its body. The idea: their first words are the same; the rest of a body is the held words of the record's slots, and crate record's laws of
 -- squeezing say that slots give the words again and words the slots (`record-body`, `body-record`).
-use Rattle.words.proofs.Kit.{_≡_, refl, sym, ap, ap₂, _∙_, ⊎-elim, Bool, true, false, List, _∷_, _++_, ℕ, zero, suc, _+_, _-_, _%_, _^_, _≤_, _<_}
+use Rattle.words.proofs.Kit.{_≡_, refl, sym, ap, ap₂, _∙_, ⊎-elim, Bool, true, false, List, _++_, ℕ, _+_, _-_, _≤_, _<_}
 use Rattle.words.proofs.Kit.{arith, eqb-true, eqb, length, drop, getD}
-use native.Mathlib.Nat.{zero-add, mod-lt}
+use native.Mathlib.Nat.{zero-add}
 use lib.Bits.{bitAnd}
 use lib.ListN.{replicate, length-append, length-drop, length-replicate, take-append-drop}
 use lib.Seq.{drop-at, ext-getD}
@@ -10,9 +10,6 @@ use Rattle.words.specs.Tests.{pick, both}
 use Rattle.words.specs.Word.{has}
 use Rattle.words.specs.Part.{part}
 use Rattle.words.specs.SetBits.{bitsOf}
-use Rattle.words.specs.All.{all}
-use Rattle.words.proofs.AllLaws.{all-at}
-use Rattle.words.proofs.SetBitLaws.{bits-zero, bits-yes, bits-no, bits-none, bits-trim, bits-mod}
 use Rattle.words.proofs.Cases.{both-left, true-or-false}
 use Rattle.words.proofs.PartLaws.{getD-part, part-length, part-front, part-past, part-whole, part-is}
 use Rattle.fields.specs.Sizes.{fieldSize, sizesOf}

@@ -32,7 +32,7 @@ use Rattle.record.specs.After.{slotAfter, heldAfter, holdRecord}
 use Rattle.record.specs.Good.{zeros, countGood, countGoodAt, heldGood, heldRule, slotGood, choiceGood, recordGood, GoodCount, Good}
 use Rattle.record.specs.inner.Head.{headGood}
 use Rattle.record.specs.inner.Between.{goodBetween}
-use Rattle.record.proofs.SlotLaws.{slotted-not, slotted-low, slotted-high, slotted-all, slot-first, slot-next, held-small}
+use Rattle.record.proofs.SlotLaws.{slotted-not, slotted-low, slotted-high, slotted-all, slot-next, held-small}
 use Rattle.record.proofs.StateLaws.{state-ruled, state-none, state-stays-good}
 use Rattle.record.proofs.CopyLaws.{size-slotted, size-eleven}
 use Rattle.record.proofs.HoldLaws.{slot-inside, within-bits, within-mask}

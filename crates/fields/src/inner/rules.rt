@@ -97,9 +97,6 @@ pub fn rule_at(bit: u32, body: &[u32], at: usize) -> bool
 {
     let word = words::inner::word_at(body, at);
     if first_ok(bit, word) {
-        if 17 < bit {
-            return true;
-        }
         return more_ok(bit, word, words::inner::word_at(body, at + 1));
     }
     false

@@ -1,5 +1,5 @@
 -- `high_words` meets its promise: the bits from 15 up and those that are counted again do not meet (`high-ones`).
-use Rattle.words.proofs.Kit.{arith, needs}
+use Rattle.words.proofs.Kit.{arith}
 use Rattle.fields.proofs.SizeLaws.{high-fits, high-ones, high-few}
 use Rattle.fields.proofs.inner.sizes.high_words.Statement.{statement}
 use Rattle.fields.proofs.inner.sizes.high_words.Tie as tie

@@ -1,5 +1,5 @@
 -- `in_group` meets its promise: the law of counts of ones.
-use Rattle.words.proofs.Kit.{arith, needs}
+use Rattle.words.proofs.Kit.{arith}
 use Rattle.fields.proofs.SizeLaws.{group-ones, group-few}
 use Rattle.fields.proofs.inner.sizes.in_group.Statement.{statement}
 use Rattle.fields.proofs.inner.sizes.in_group.Tie as tie

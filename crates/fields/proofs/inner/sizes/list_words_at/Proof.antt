@@ -1,5 +1,5 @@
 -- `list_words_at` meets its promise: the words that it looks at are the first two of those from the place on.
-use Rattle.words.proofs.Kit.{_∙_, needs}
+use Rattle.words.proofs.Kit.{needs}
 use Rattle.fields.proofs.PlaceLaws.{lists-at}
 use Rattle.fields.proofs.inner.sizes.list_words_at.Statement.{statement}
 use Rattle.fields.proofs.inner.sizes.list_words_at.Tie as tie

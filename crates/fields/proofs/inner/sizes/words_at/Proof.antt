@@ -1,5 +1,5 @@
 -- `words_at` meets its promise: each return is a row of the definition, answered by that row's function.
-use Rattle.words.proofs.Kit.{sym, _∙_, arith, needs}
+use Rattle.words.proofs.Kit.{needs}
 use Rattle.words.proofs.Cases.{cases}
 use Rattle.fields.specs.Sizes.{wordsOf}
 use Rattle.fields.proofs.SizeLaws.{words-some, words-lacking}
