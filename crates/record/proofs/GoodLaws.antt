@@ -35,7 +35,7 @@ use Rattle.record.specs.inner.Between.{goodBetween}
 use Rattle.record.proofs.SlotLaws.{slotted-not, slotted-low, slotted-high, slotted-all, slot-next, held-small}
 use Rattle.record.proofs.StateLaws.{state-ruled, state-none, state-stays-good}
 use Rattle.record.proofs.CopyLaws.{size-slotted, size-eleven}
-use Rattle.record.proofs.HoldLaws.{slot-inside, within-bits, within-mask}
+use Rattle.record.proofs.HoldLaws.{slot-inside, within-bits, within-mask, Along, along-start, along-slotted, along-fits, along-next}
 use Rattle.record.proofs.AfterLaws.{hold-slot, hold-held, hold-choice, hold-count, held-bit, count-count, count-other, count-slot, count-held}
 use Rattle.record.proofs.AfterLaws.{count-choice}
 
@@ -211,27 +211,16 @@ module _ (r : List ℕ) (b at n : ℕ) (l : length r ≡ recordWords) (o : slott
   slot-free g =
       rw (o, eq-eqb (heldOf r / 2 ^ b % 2) 1 held, ← (unruled-kept b (slotOf b r) false (sym (unruled-low b (slotted-low b o) g)) refl), ne-eqb b 16 (λ e. omega arith))
 
--- ---- the slots, as a program tests them from bit `first` down to the one above `past`: those of the bits above b are good, and the slot of b begins at `at`
+-- ---- the slots, as a program tests them from bit `first` down to the one above `past`: those of the bits above b are good
 
-pub record Testing (r : List ℕ) (first past b at : ℕ) : Type 0 where
-  pub least : 9 ≤ past
-  pub most : first ≤ 30
-  pub low : past ≤ b
-  pub high : b ≤ first
-  pub here : at ≡ headWords + slotAt b
+pub record Testing (r : List ℕ) (first past b slot : ℕ) : Type 0 where
+  pub along : Along first past b slot
   pub good : (x : ℕ) → b < x → x ≤ first → slotGood r x ≡ true
 
-pub testing-start : (r : List ℕ) (first past at : ℕ) → 9 ≤ past → past ≤ first → first ≤ 30 → at ≡ slotAt first → Testing r first past first (headWords + at)
-testing-start r first past at l h m e = record {
-  least = l;
-  most = m;
-  low = h;
-  high = le-refl first;
-  here = ap (λ (n : ℕ). headWords + n) e;
-  good = λ x g k. absurd (omega arith);
-}
+pub testing-start : (r : List ℕ) (first past slot : ℕ) → 9 ≤ past → past ≤ first → first ≤ 30 → slot ≡ slotAt first → Testing r first past first slot
+testing-start r first past slot b l t e = record { along = along-start first past slot b l t e; good = λ x g k. absurd (omega arith) }
 
-module _ (r : List ℕ) (first past b at : ℕ) (p : Testing r first past b at) where
+module _ (r : List ℕ) (first past b slot : ℕ) (p : Testing r first past b slot) where
   pub testing-end : b ≤ past → true ≡ goodBetween first past r
   unfolding goodBetween
   testing-end h =
@@ -240,26 +229,29 @@ module _ (r : List ℕ) (first past b at : ℕ) (p : Testing r first past b at) 
 
   module _ (h : past < b) where
     pub testing-slotted : slotted b ≡ true
-    testing-slotted = slotted-all b (omega (arith, p .least)) (omega (arith, p .high, p .most))
+    testing-slotted = along-slotted (p .along) h
 
-    pub testing-fits : (n : ℕ) → n ≡ fieldSize b → at + n < 2 ^ 64
-    testing-fits n en = omega (arith, p .here, slot-inside b testing-slotted)
+    pub testing-here : headWords + slot ≡ headWords + slotAt b
+    testing-here = ap (λ (n : ℕ). headWords + n) (p .along .here)
 
-    module _ (t : Bool) (e : t ≡ slotGood r b) where
-      pub testing-fails : not t ≡ true → false ≡ goodBetween first past r
-      unfolding goodBetween
-      testing-fails o = sym (all-fails _ (suc first) b (omega (arith, p .high)) (rw (lt-leb b past h) (sym e ∙ not-true t o)))
+    pub testing-head : headWords + slot < 2 ^ 64
+    testing-head = omega (arith, p .along .here, slot-inside b testing-slotted)
 
-      pub testing-turn : (n : ℕ) → n ≡ fieldSize b → not t ≡ false → Testing r first past (b - 1) (at + n)
-      testing-turn n en o = record {
-        least = p .least;
-        most = p .most;
-        low = omega arith;
-        high = omega (arith, p .high);
-        here = omega (arith, p .here, slot-next b (slotAt b) n testing-slotted refl en);
-        good = λ x g l.
-            ⊎-elim (λ (i : x ≡ b). rw i (sym e ∙ not-false t o)) (λ (d : x ≡ b → ⊥). p .good x (omega arith) l) (same-or-not x b);
-      }
+    module _ (n : ℕ) (en : n ≡ fieldSize b) where
+      pub testing-fits : slot + n < 2 ^ 64
+      testing-fits = along-fits (p .along) h n en
+
+      module _ (t : Bool) (e : t ≡ slotGood r b) where
+        pub testing-turn : not t ≡ false → Testing r first past (b - 1) (slot + n)
+        testing-turn o = record {
+          along = along-next (p .along) h n en;
+          good = λ x g l.
+              ⊎-elim (λ (i : x ≡ b). rw i (sym e ∙ not-false t o)) (λ (d : x ≡ b → ⊥). p .good x (omega arith) l) (same-or-not x b);
+        }
+
+    pub testing-fails : (t : Bool) → t ≡ slotGood r b → not t ≡ true → false ≡ goodBetween first past r
+    unfolding goodBetween
+    testing-fails t e o = sym (all-fails _ (suc first) b (omega (arith, p .along .high)) (rw (lt-leb b past h) (sym e ∙ not-true t o)))
 
 -- the slots of the parts, and all of them
 between-at : (r : List ℕ) (first past b : ℕ) → goodBetween first past r ≡ true → past < b → b ≤ first → slotGood r b ≡ true

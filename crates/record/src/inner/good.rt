@@ -161,13 +161,13 @@ fn high_good(rec: &[u32], first: u32, past: u32) -> bool
     ensures { λ r. ⌜ r ≡ goodBetween first past (now (rec .entry)) ⌝ }
 {
     let mut bit = first;
-    let mut at = crate::inner::HEAD_WORDS + crate::inner::held::slot_at(first);
+    let mut slot = crate::inner::held::slot_at(first);
     while past < bit {
         let size = fields::inner::field_size(bit);
-        if !limit_good(rec, bit, at, size) {
+        if !limit_good(rec, bit, crate::inner::HEAD_WORDS + slot, size) {
             return false;
         }
-        at += size;
+        slot += size;
         bit -= 1;
     }
     true
@@ -179,13 +179,13 @@ fn middle_good(rec: &[u32]) -> bool
     ensures { λ r. ⌜ r ≡ goodBetween 17 14 (now (rec .entry)) ⌝ }
 {
     let mut bit = 17;
-    let mut at = crate::inner::HEAD_WORDS + crate::inner::held::slot_at(17);
+    let mut slot = crate::inner::held::slot_at(17);
     while 14 < bit {
         let size = fields::inner::field_size(bit);
-        if !slot_good(rec, bit, at, size) {
+        if !slot_good(rec, bit, crate::inner::HEAD_WORDS + slot, size) {
             return false;
         }
-        at += size;
+        slot += size;
         bit -= 1;
     }
     true
@@ -197,13 +197,13 @@ fn low_good(rec: &[u32]) -> bool
     ensures { λ r. ⌜ r ≡ goodBetween 14 9 (now (rec .entry)) ⌝ }
 {
     let mut bit = 14;
-    let mut at = crate::inner::HEAD_WORDS + crate::inner::held::slot_at(14);
+    let mut slot = crate::inner::held::slot_at(14);
     while 9 < bit {
         let size = fields::inner::field_size(bit);
-        if !free_good(rec, bit, at, size) {
+        if !free_good(rec, bit, crate::inner::HEAD_WORDS + slot, size) {
             return false;
         }
-        at += size;
+        slot += size;
         bit -= 1;
     }
     true
