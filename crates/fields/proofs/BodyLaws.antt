@@ -169,7 +169,8 @@ module _ (n : ℕ) (body : List ℕ) (h : Bool) (p : ℕ) (eh : h ≡ obeyed (ab
 sizes-low : (k n : ℕ) → k ≤ 10 → sizesOf (bitsOf k n) ≡ 0
 sizes-low zero n h = rw (bits-zero n) sizes-none
 sizes-low (suc k) n h =
-    ⊎-elim (λ (y : has n k ≡ true). ap sizesOf (bits-yes k n y) ∙ omega (arith, sizes-more k (bitsOf k n), size-none k (omega arith), sizes-low k n (omega arith)))
+    ⊎-elim
+    (λ (y : has n k ≡ true). ap sizesOf (bits-yes k n y) ∙ omega (arith, sizes-more k (bitsOf k n), size-none k (omega arith), sizes-low k n (omega arith)))
     (λ (y : has n k ≡ false). ap sizesOf (bits-no k n y) ∙ sizes-low k n (omega arith)) (true-or-false (has n k))
 
 span-low : (k n : ℕ) (ws : List ℕ) → k ≤ 8 → spanOf (bitsOf k n) ws ≡ 0
@@ -208,12 +209,17 @@ end-counted n f a l body ef ea el =
     ap (λ (bs : List ℕ). spanOf bs ws) parts ∙ span-append (above 9 all) (bitsOf 10 n) ws ∙ rw fixed in
     omega (arith, whole, last, lists)
 
+-- where field 8 is not there
+pub end-ninth : (n f a : ℕ) (body : List ℕ) → has n 8 ≡ false → f ≡ sizesOf (bitsOf 31 n) → a ≡ when (has n 9) (asciiWords (drop (1 + f) body))
+    → 1 + f + a ≡ 1 + spanOf (bitsOf 31 n) (drop 1 body)
+end-ninth n f a body none e g = rw (add-zero (1 + f + a)) at (end-counted n f a 0 body e g (rw none))
+
 -- where neither is there
 pub end-fixed : (n f : ℕ) (body : List ℕ) → f ≡ sizesOf (bitsOf 31 n) → n / 256 % 4 ≡ 0 → 1 + f ≡ 1 + spanOf (bitsOf 31 n) (drop 1 body)
 end-fixed n f body e z =
     let nine : has n 9 ≡ false = ne-eqb (n / 2 ^ 9 % 2) 1 (λ o. omega arith) in
     let eight : has n 8 ≡ false = ne-eqb (n / 2 ^ 8 % 2) 1 (λ o. omega arith) in
-    rw (add-zero (1 + f)) at (rw (add-zero (1 + f + 0)) at (end-counted n f 0 0 body e (rw nine) (rw eight)))
+    rw (add-zero (1 + f)) at (end-ninth n f 0 body eight e (rw nine))
 
 pub place-fixed : (b : ℕ) (body : List ℕ) → 9 ≤ b → placeOf b body ≡ 1 + sizesOf (above b (carried (indicatorOf body)))
 unfolding placeOf

@@ -1,14 +1,18 @@
 -- Where a field stands. The words of a body from a place on: the first two of them, where a field's rule and its own lengths stand. A field lies
 -- inside where the words past its place suffice (`inside-cut`, `inside-whole`), and its place follows from the indicator with the bits up to
 -- its own cleared (`place-above`).
-use Rattle.words.proofs.Kit.{_≡_, sym, ap, _∙_, List, [], _∷_, ℕ, _+_, _-_, _*_, _/_, _%_, _^_, _≤_, _<_, arith, le-leb, lt-leb, length, take, drop}
-use Rattle.words.proofs.Kit.{getD}
-use native.Mathlib.Nat.{add-zero, mod-eq-of-lt, div-mul-le-self, lt-of-le-of-lt}
+use Rattle.words.proofs.Kit.{_≡_, sym, ap, _∙_, false, ⊎-elim, List, [], _∷_, ℕ, _+_, _-_, _*_, _/_, _%_, _^_, _≤_, _<_, arith}
+use Rattle.words.proofs.Kit.{ne-eqb, le-leb, lt-leb, length, take, drop, getD}
+use native.Mathlib.Nat.{add-zero, mul-assoc, mod-lt, mod-eq-of-lt, div-mul-le-self, lt-of-le-of-lt, lt-of-lt-of-le}
 use native.Mathlib.Numerals.{add-one}
 use lib.ListN.{length-drop}
+use lib.Pow.{pow-pos, pow-mono, pow-add, shl-shr}
 use lib.Seq.{getD-drop, take-all}
+use Rattle.words.specs.Word.{has}
 use Rattle.words.specs.SetBits.{bitsOf}
-use Rattle.words.proofs.SetBitLaws.{bits-mod, bits-above}
+use Rattle.words.proofs.Cases.{le-or-lt}
+use Rattle.words.proofs.BitLaws.{has-low}
+use Rattle.words.proofs.SetBitLaws.{has-above, bits-mod, bits-above}
 use Rattle.fields.specs.Sizes.{listWords, wordsOf}
 use Rattle.fields.specs.Layout.{spanOf, indicatorOf, placeOf, insideOf}
 use Rattle.fields.proofs.SizeLaws.{list-words-two}
@@ -51,6 +55,20 @@ module _ (b at n : ℕ) (body : List ℕ) (e : n ≡ wordsOf b (take (length bod
 
 pub cleared-small : (w k : ℕ) → w < 2 ^ 32 → w / 2 ^ k * 2 ^ k % 2 ^ 32 ≡ w / 2 ^ k * 2 ^ k
 cleared-small w k h = mod-eq-of-lt (lt-of-le-of-lt (div-mul-le-self w (2 ^ k)) h)
+
+-- no bit up to b is left
+pub cleared-bit : (w b i : ℕ) → w < 2 ^ 32 → i ≤ b → has (w / 2 ^ (b + 1) * 2 ^ (b + 1) % 2 ^ 32 % 2 ^ 31) i ≡ false
+cleared-bit w b i h l =
+    ⊎-elim
+    (λ (g : 31 ≤ i). has-above _ i (lt-of-lt-of-le (mod-lt _ (pow-pos 31)) (pow-mono g)))
+    (λ (g : i < 31).
+    let m : ℕ = w / 2 ^ (b + 1) in
+    let j : (b - i) + (1 + i) ≡ b + 1 = omega arith in
+    let apart : m * 2 ^ (b + 1) ≡ m * 2 ^ (b - i) * 2 * 2 ^ i =
+    ap (λ (k : ℕ). m * 2 ^ k) (sym j) ∙ rw (pow-add 2 (b - i) (1 + i), pow-add 2 1 i, ← mul-assoc, ← mul-assoc) in
+    has-low _ 31 i g ∙ ap (λ (k : ℕ). has k i) (cleared-small w (b + 1) h ∙ apart)
+    ∙ rw (shl-shr (m * 2 ^ (b - i) * 2) i) (ne-eqb (m * 2 ^ (b - i) * 2 % 2) 1 (λ e. omega arith)))
+    (le-or-lt 31 i)
 
 pub place-above : (w b at : ℕ) (body : List ℕ) → w ≡ indicatorOf body → w < 2 ^ 32
     → at ≡ 1 + spanOf (bitsOf 31 (w / 2 ^ (b + 1) * 2 ^ (b + 1) % 2 ^ 32 % 2 ^ 31)) (drop 1 body) → at ≡ placeOf b body

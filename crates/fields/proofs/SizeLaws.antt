@@ -1,8 +1,8 @@
 -- The sizes of fields. The idea: what holds of the rows at every bit is one test that computes, and `wordsOf` looks only at the first two words, and
 -- at none from bit 10 up. A bit is in one group at most, so the words of any set bits are the counts of ones in the groups, each times its words, by one
 -- induction over the width (`size-grouped`, `sizes-counted`).
-use Rattle.words.proofs.Kit.{_≡_, refl, sym, ap, _∙_, Bool, true, false, not, ⊎-elim, List, [], _∷_, _++_, ℕ, zero, suc, _+_, _-_, _*_, _/_, _%_, _^_, _≤_, _<_, arith}
-use Rattle.words.proofs.Kit.{le-ltb, ne-eqb, eqb-true, not-true, eqb, ltb, leb, length, getD}
+use Rattle.words.proofs.Kit.{_≡_, refl, sym, ap, _∙_, Bool, true, false, not, ⊎-elim, List, [], _∷_, _++_, ℕ, zero, suc, _+_, _-_, _*_, _/_, _%_, _^_, _≤_}
+use Rattle.words.proofs.Kit.{_<_, arith, le-ltb, ne-eqb, eqb-true, not-true, eqb, ltb, leb, length, getD}
 use native.Mathlib.Nat.{mul-le-mul-left, zero-add, add-zero, mod-lt, mod-eq-of-lt, lt-of-le-of-lt}
 use borrow.Author.Tests.{leb-true}
 use lib.Bits.{bitAnd, and-le-r}

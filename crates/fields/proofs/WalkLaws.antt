@@ -1,6 +1,6 @@
 -- The walks over the fields of a body. The idea: at a loop's head the rules of all fields are those of the bits that are left, from the place reached on, since
--- those passed obey. A walk between two bits goes from bit to bit (`Striding`); one over the low bits takes the first that is left (`Walking`), and bits that have
--- no rule decide nothing (`unruled-obeyed`).
+-- those passed obey. A walk between two bits goes from bit to bit (`Striding`); one over the low bits takes the first that is left (`Walking`), and bits that
+-- have no rule decide nothing (`unruled-obeyed`).
 use Rattle.words.proofs.Kit.{_≡_, refl, sym, ap, _∙_, Bool, true, false, not, ⊎-elim, List, [], _∷_, ℕ, zero, suc, _+_, _-_, _*_, _%_, _^_, _≤_, _<_, arith}
 use Rattle.words.proofs.Kit.{not-true, not-false, length, drop}
 use native.Mathlib.Nat.{zero-add, add-zero, le-refl}

@@ -13,6 +13,7 @@ pub use format::format_ok;
 pub use format::item_size;
 pub use format::packing_size;
 pub use format::real_complex;
+pub use layout::behind;
 pub use layout::end_of;
 pub use layout::rules_kept;
 pub use rules::first_ok;

@@ -40,5 +40,5 @@ pub fn find(body: &[u32], bit: u32) -> Found
         return Found::Absent;
     }
     let above = ((indicator >> (bit + 1)) << (bit + 1)) % 0x8000_0000;
-    inside(bit, body, crate::inner::end_of(above, body))
+    inside(bit, body, crate::inner::behind(above, body))
 }

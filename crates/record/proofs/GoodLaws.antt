@@ -209,7 +209,8 @@ module _ (r : List ℕ) (b at n : ℕ) (l : length r ≡ recordWords) (o : slott
   pub slot-free : b ≤ 14 → true ≡ slotGood r b
   unfolding slotGood heldRule
   slot-free g =
-      rw (o, eq-eqb (heldOf r / 2 ^ b % 2) 1 held, ← (unruled-kept b (slotOf b r) false (sym (unruled-low b (slotted-low b o) g)) refl), ne-eqb b 16 (λ e. omega arith))
+      let obeys : true ≡ ruleOf b (slotOf b r) = unruled-kept b (slotOf b r) false (sym (unruled-low b (slotted-low b o) g)) refl in
+      rw (o, eq-eqb (heldOf r / 2 ^ b % 2) 1 held, ← obeys, ne-eqb b 16 (λ e. omega arith))
 
 -- ---- the slots, as a program tests them from bit `first` down to the one above `past`: those of the bits above b are good
 
@@ -225,7 +226,8 @@ module _ (r : List ℕ) (first past b slot : ℕ) (p : Testing r first past b sl
   unfolding goodBetween
   testing-end h =
       sym (all-intro _ (suc first)
-      (λ x l. ⊎-elim (λ (g : x ≤ past). rw (le-leb x past g)) (λ (g : past < x). rw (lt-leb x past g) (p .good x (omega arith) (omega arith))) (le-or-lt x past)))
+      (λ x l.
+      ⊎-elim (λ (g : x ≤ past). rw (le-leb x past g)) (λ (g : past < x). rw (lt-leb x past g) (p .good x (omega arith) (omega arith))) (le-or-lt x past)))
 
   module _ (h : past < b) where
     pub testing-slotted : slotted b ≡ true
@@ -262,7 +264,8 @@ between-of : (r : List ℕ) (first past : ℕ) → first < 31 → all 31 (slotGo
 unfolding goodBetween
 between-of r first past h e =
     all-intro _ (suc first)
-    (λ b l. ⊎-elim (λ (g : b ≤ past). rw (le-leb b past g)) (λ (g : past < b). rw (lt-leb b past g) (all-at (slotGood r) 31 b (omega arith) e)) (le-or-lt b past))
+    (λ b l.
+    ⊎-elim (λ (g : b ≤ past). rw (le-leb b past g)) (λ (g : past < b). rw (lt-leb b past g) (all-at (slotGood r) 31 b (omega arith) e)) (le-or-lt b past))
 
 -- a slot that is not good is not good among all
 between-fails : (r : List ℕ) (first past : ℕ) (t : Bool) → first < 31 → t ≡ goodBetween first past r → not t ≡ true → false ≡ all 31 (slotGood r)

@@ -1,5 +1,5 @@
--- Document 01, "Words for each bit": the rows of fixed size as groups of bits, each group a number that has the bits of its row. That they are the rows says the
--- law `size-grouped` of `proofs/SizeLaws.antt`, by one test that computes.
+-- Document 01, "Words for each bit": the rows of fixed size as groups of bits, each group a number that has the bits of its row. That they are the rows says
+-- the law `size-grouped` of `proofs/SizeLaws.antt`, by one test that computes.
 use Rattle.words.specs.Kit.{ℕ}
 
 -- "30, 24, 23, 22, 19, 18, 16, 10": 1 word

@@ -1,5 +1,5 @@
 // Where the fields of a body end, and whether they obey their rules.
-ghost use Rattle.words.specs.Kit.{_≡_, true, suc, _^_, _+_, _≤_, _<_, drop};
+ghost use Rattle.words.specs.Kit.{_≡_, true, false, suc, _^_, _+_, _≤_, _<_, drop};
 ghost use Rattle.words.specs.Tests.{pick, when};
 ghost use Rattle.words.specs.Word.{has};
 ghost use Rattle.words.specs.SetBits.{bitsOf, above};
@@ -18,7 +18,16 @@ fn ascii_taken(bits: u32, body: &[u32], at: usize) -> usize
     0
 }
 
-// The same of field 8.
+// The place behind the fields of some bits from 9 up, which stand in a body from word 1 on: those of fixed size by counts of ones, and field 9 by what it says.
+pub fn behind(bits: u32, body: &[u32]) -> usize
+    requires { ⌜ has bits 8 ≡ false ⌝ }
+    ensures { λ r. ⌜ r ≡ 1 + spanOf (bitsOf 31 bits) (drop 1 (now (body .entry))) ⌝ }
+{
+    let fixed = 1 + crate::inner::sizes::fixed_words(bits);
+    fixed + ascii_taken(bits, body, fixed)
+}
+
+// The words that field 8 takes at a place of a body: none where the bits do not have it.
 fn lists_taken(bits: u32, body: &[u32], at: usize) -> usize
     requires { ⌜ at < 2 ^ 40 ⌝ }
     ensures { λ r. ⌜ (r ≡ when (has bits 8) (listWords (drop at (now (body .entry))))) × (r ≤ 2 ^ 33) ⌝ }

@@ -2,7 +2,7 @@
 use Rattle.words.proofs.Kit.{_≡_, now, needs}
 use Rattle.words.proofs.Cases.{cases}
 use Rattle.fields.specs.Layout.{placeOf, foundOf}
-use Rattle.fields.proofs.PlaceLaws.{place-above}
+use Rattle.fields.proofs.PlaceLaws.{cleared-bit, place-above}
 use Rattle.fields.proofs.places.find.Statement.{statement}
 use Rattle.fields.proofs.places.find.Tie as tie
 
@@ -24,8 +24,8 @@ returns-4 c =
     let start : tie.Start = search in
     let w = c .before .before .before .word-at in
     let a = start .args in
-    let e : c .before .end-of .result ≡ placeOf (a .bit) (now (a .body)) =
-    place-above (w .result) (a .bit) _ (now (a .body)) (w .ensures) (search needs) (c .before .end-of .ensures) in
+    let e : c .before .behind .result ≡ placeOf (a .bit) (now (a .body)) =
+    place-above (w .result) (a .bit) _ (now (a .body)) (w .ensures) (search needs) (c .before .behind .ensures) in
     search (cases, ← w .ensures, ← e, c .inside .ensures)
 
 pub find-spec : {M : Type 1} → statement M
@@ -33,4 +33,4 @@ find-spec =
     tie.close
     (tie.spec
     returns returns-2 (λ c κs. search needs) (λ c. search needs) returns-3 (λ c. search needs) (λ c. search needs) (λ c. search needs)
-    (λ c. search needs) (λ c κs. search needs) (λ c κs. search needs) returns-4)
+    (λ c. search needs) (λ c κs. search cleared-bit) (λ c κs. search needs) returns-4)

@@ -16,4 +16,5 @@ low-kept-spec =
     tie.close
     (tie.spec
     Inv-loop μ-loop (λ c. search walking-start) (λ c κs. search walking-some) (λ c κs. (search needs, search walking-near)) (λ c. search walking-broken)
-    (λ c κs. (search walking-bit, search walking-near)) (λ c. search (needs, walking-near)) (λ c. search needs) (λ c. search walking-turn) (λ c. search walking-end))
+    (λ c κs. (search walking-bit, search walking-near)) (λ c. search (needs, walking-near)) (λ c. search needs) (λ c. search walking-turn)
+    (λ c. search walking-end))

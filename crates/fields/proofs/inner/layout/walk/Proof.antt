@@ -2,7 +2,8 @@
 -- the turn.
 use Rattle.words.proofs.Kit.{sym, needs}
 use Rattle.words.proofs.Cases.{true-is-false}
-use Rattle.fields.proofs.WalkLaws.{Striding, striding-start, striding-near, striding-small, striding-fits, striding-broken, striding-turn, striding-end, striding-past}
+use Rattle.fields.proofs.WalkLaws.{Striding, striding-start, striding-near, striding-small, striding-fits}
+use Rattle.fields.proofs.WalkLaws.{striding-broken, striding-turn, striding-end, striding-past}
 use Rattle.fields.proofs.inner.layout.walk.Statement.{statement}
 use Rattle.fields.proofs.inner.layout.walk.Tie as tie
 
