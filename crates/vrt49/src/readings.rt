@@ -1,11 +1,13 @@
 // What the panel shows of a stream's fields, one by one and all at once, and their held words.
-ghost use Rattle.words.specs.Kit.{_≡_, _<_};
+ghost use lib.ListN.{replicate};
+ghost use Rattle.words.specs.Kit.{_≡_, _++_, _+_, _-_, _*_, _<_, take};
+ghost use Rattle.record.specs.Held.{slotAt};
 ghost use Rattle.table.specs.Layout.{Has, recordAt};
-ghost use Rattle.panel.specs.Readings.{readingOf, readingPaper};
+ghost use Rattle.panel.specs.Readings.{absent, readingOf, readingPaper};
 ghost use Rattle.panel.specs.AllReadings.{recordReadings, readingsOf};
 ghost use Rattle.panel.specs.HeldWords.{heldWordsOf};
 ghost use Rattle.vrt49.specs.Answers.{Tells, plain, beside};
-ghost use Rattle.vrt49.specs.Readings.{levelledOf, numbersShown, readingValues, columnPlaces, readingsValues};
+ghost use Rattle.vrt49.specs.Readings.{levelledOf, numbersShown, readingValues, readingsValues};
 
 // A reading as numbers. A frequency has its parts and its whole hertz; a level and a temperature have `first`; a gain has its two stages, `first` and `second`. The
 // numbers that a kind of reading has not are zero.
@@ -51,7 +53,8 @@ fn numbers_of(dial: panel::FieldReading) -> Values
     }
 }
 
-// The numbers of all readings of a stream, a column for each: entry i is that of bit 30 - i.
+// The numbers of all readings of a stream, a column for each: entry i is that of bit 30 - i. The definitions speak of them (`columnPlaces`); the code stores
+// them in the caller's arrays.
 pub struct Columns {
     pub kinds: [u32; 21],
     pub parts: [u32; 21],
@@ -60,23 +63,29 @@ pub struct Columns {
     pub second: [f32; 21],
 }
 
-// The columns of a stream's record. Each field is read and its numbers are stored, since an array of all readings would be copied twice on its way. The
-// place among the slots runs along.
-fn columns_of(table: &[u32], stream: usize) -> Columns
-    requires { ⌜ (stream < 32) × Has stream (now table) ⌝ }
-    ensures { λ r. ⌜ columnPlaces r ≡ readingsValues (recordReadings (recordAt stream (now (table .entry)))) ⌝ }
+// Seven rows of the columns, those from entry 7 * part on, where the rows before them are there and the others are those of absent fields. Each field is read and
+// its numbers are stored where the caller wants them, since arrays would be copied on their way. The place among the slots runs along; gives that of the next part.
+fn rows_of(
+    table: &[u32],
+    stream: usize,
+    part: usize,
+    slot: usize,
+    kinds: &mut [u32; 21],
+    parts: &mut [u32; 21],
+    hertz: &mut [i64; 21],
+    first: &mut [f32; 21],
+    second: &mut [f32; 21],
+) -> usize
+    requires { ⌜ (stream < 32) × Has stream (now table) × (part < 3) × (slot ≡ slotAt (30 - 7 * part)) × ((now kinds, now parts, now hertz, now first, now second) ≡ readingsValues (take (7 * part) (recordReadings (recordAt stream (now table))) ++ replicate (21 - 7 * part) absent)) ⌝ }
+    ensures { λ r. ⌜ (r ≡ slotAt (30 - 7 * (part + 1))) × ((now (kinds .exit), now (parts .exit), now (hertz .exit), now (first .exit), now (second .exit)) ≡ readingsValues (take (7 * (part + 1)) (recordReadings (recordAt stream (now (table .entry)))) ++ replicate (21 - 7 * (part + 1)) absent)) ⌝ }
 {
-    let mut kinds = [0; 21];
-    let mut parts = [0; 21];
-    let mut hertz = [0; 21];
-    let mut first = [0.0; 21];
-    let mut second = [0.0; 21];
-    let mut slot = 0;
-    let mut i = 0;
-    while i < 21 {
+    let past = 7 * part + 7;
+    let mut next = slot;
+    let mut i = 7 * part;
+    while i < past {
         let bit = 30 - i as u32;
-        let v = numbers_of(panel::inner::show_at(table, stream, bit, slot));
-        slot += fields::inner::field_size(bit);
+        let v = numbers_of(panel::inner::show_at(table, stream, bit, next));
+        next += fields::inner::field_size(bit);
         kinds[i] = v.kind;
         parts[i] = v.parts;
         let whole = v.hertz;
@@ -85,12 +94,43 @@ fn columns_of(table: &[u32], stream: usize) -> Columns
         second[i] = v.second;
         i += 1;
     }
-    Columns {
-        kinds,
-        parts,
-        hertz,
-        first,
-        second,
+    next
+}
+
+// The columns of a stream's record, three times seven rows: the compiler unrolls loops of so few turns, and then knows the kind, the size and the place of each
+// field. It does so where `rows_of` is called in one place only, since it is then put in line. The columns are first those of absent fields.
+fn columns_of(
+    table: &[u32],
+    stream: usize,
+    kinds: &mut [u32; 21],
+    parts: &mut [u32; 21],
+    hertz: &mut [i64; 21],
+    first: &mut [f32; 21],
+    second: &mut [f32; 21],
+)
+    requires { ⌜ (stream < 32) × Has stream (now table) ⌝ }
+    ensures { λ _. ⌜ (now (kinds .exit), now (parts .exit), now (hertz .exit), now (first .exit), now (second .exit)) ≡ readingsValues (recordReadings (recordAt stream (now (table .entry)))) ⌝ }
+{
+    *kinds = [6; 21];
+    *parts = [0; 21];
+    *hertz = [0; 21];
+    *first = [0.0; 21];
+    *second = [0.0; 21];
+    let mut slot = 0;
+    let mut part = 0;
+    while part < 3 {
+        slot = rows_of(
+            table,
+            stream,
+            part,
+            slot,
+            kinds,
+            parts,
+            hertz,
+            first,
+            second,
+        );
+        part += 1;
     }
 }
 
@@ -136,17 +176,7 @@ pub extern "C" fn vrt49_readings(
     match table::inner::check_stream(table, stream) {
         words::Check::Refused(n) => n,
         words::Check::Fine => {
-            let c = columns_of(table, stream);
-            let kinds_all = c.kinds;
-            let parts_all = c.parts;
-            let hertz_all = c.hertz;
-            let first_all = c.first;
-            let second_all = c.second;
-            *kinds = kinds_all;
-            *parts = parts_all;
-            *hertz = hertz_all;
-            *first = first_all;
-            *second = second_all;
+            columns_of(table, stream, kinds, parts, hertz, first, second);
             0
         }
     }

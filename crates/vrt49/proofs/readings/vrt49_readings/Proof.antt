@@ -9,7 +9,7 @@ returns-2 : tie.Need-returns-2
 returns-2 c =
     let found : tie.After-check-stream = search in
     let made : tie.After-columns-of = search in
-    readings-told _ _ (found .check-stream .result) (found .check-stream .ensures) _ (made .columns-of .result) (search) (made .columns-of .ensures)
+    readings-told _ _ (found .check-stream .result) (found .check-stream .ensures) _ _ (search) (made .columns-of .ensures)
 
 pub vrt49-readings-spec : {M : Type 1} → statement M
 vrt49-readings-spec =
