@@ -53,8 +53,8 @@ fn numbers_of(dial: panel::FieldReading) -> Values
     }
 }
 
-// The numbers of all readings of a stream, a column for each: entry i is that of bit 30 - i. The definitions speak of them (`columnPlaces`); the code stores
-// them in the caller's arrays.
+// The numbers of all readings of a stream, a column for each: entry i is that of bit 30 - i. It names the columns and their order, which `columnPlaces` gives
+// and `tools/check_header` holds the header to; the code stores them in the caller's arrays.
 pub struct Columns {
     pub kinds: [u32; 21],
     pub parts: [u32; 21],
