@@ -20,6 +20,11 @@ export LIBRARY=target/staticlib/libvrt49.a
 echo
 echo 'bench/play/measure.sh, of the whole library'
 bench/play/measure.sh
+for part in calls small play; do
+    echo
+    echo "bench/$part/measure.sh, of the whole library, against C with its loops over fields unrolled"
+    BY_HAND=by_hand_tighter.c "bench/$part/measure.sh"
+done
 echo
 echo 'bench/uhd/measure.sh'
 bench/uhd/measure.sh

@@ -13,7 +13,7 @@ use Rattle.words.specs.Outcome.{accepted}
 use Rattle.words.specs.Part.{part}
 use Rattle.words.proofs.Cases.{true-or-false, both-left, both-right, both-assoc}
 use Rattle.words.proofs.RefusalLaws.{first-passed}
-use Rattle.words.proofs.SetBitLaws.{bits-zero, bits-yes, bits-no, bits-mod, bits-trim, bits-parts, bits-split}
+use Rattle.words.proofs.SetBitLaws.{bits-zero, bits-yes, bits-no, bits-mod, bits-parts, bits-split}
 use Rattle.words.proofs.PartLaws.{part-is}
 use Rattle.fields.specs.Sizes.{fieldSize, sizesOf, asciiWords, listWords, wordsOf}
 use Rattle.fields.specs.Rules.{ruleOf}
@@ -146,10 +146,6 @@ module _ (k b n at : ℕ) (body : List ℕ) (h : b < k) (g : 9 ≤ b) (t : Bool)
   pub parts-kept : (p : ℕ) → not t ≡ false → (t ≡ true → p ≡ at + sizesOf (above b (bitsOf k n)))
       → obeyed (bitsOf (suc b) n) (drop p body) ≡ obeyed (bitsOf k n) (drop at body)
   parts-kept p o f = rw (f (not-false t o)) (sym (rw (not-false t o) at parts-rules))
-
--- where there are none above bit 17
-pub low-alone : (n : ℕ) (body : List ℕ) (r : Bool) → n < 2 ^ 18 → r ≡ obeyed (bitsOf 18 n) (drop 1 body) → r ≡ obeyed (bitsOf 31 n) (drop 1 body)
-low-alone n body r h e = e ∙ ap (λ (l : List ℕ). obeyed l (drop 1 body)) (sym (bits-trim 18 31 n (omega arith) h))
 
 -- as a program walks them in parts: h is whether those above bit 21 obey and p the place past them, m and q the same of those above 17
 module _ (n : ℕ) (body : List ℕ) (h : Bool) (p : ℕ) (eh : h ≡ obeyed (above 21 (bitsOf 31 n)) (drop 1 body)) where

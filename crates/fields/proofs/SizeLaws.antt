@@ -6,7 +6,7 @@ use Rattle.words.proofs.Kit.{_<_, arith, le-ltb, ne-eqb, eqb-true, not-true, eq
 use native.Mathlib.Nat.{mul-le-mul-left, zero-add, add-zero, mod-lt, mod-eq-of-lt, lt-of-le-of-lt}
 use borrow.Author.Tests.{leb-true}
 use lib.Bits.{bitAnd, and-le-r}
-use lib.Count.{ones, ones-cat}
+use lib.Count.{ones, ones-cat, ones-le}
 use lib.Pow as Pow
 use lib.Pow.{pow-pos}
 use Rattle.words.specs.Tests.{pick, when, both}
@@ -232,13 +232,17 @@ two-above : Above15 twoWords
 unfolding none-below all
 two-above b h = not-true (has twoWords b) (all-at (none-below twoWords) 15 b h refl)
 
--- as a program counts the fields from bit 15 up
+-- as a program counts the fields from bit 15 up: the number that is counted fits its word, and so does the count, whatever the groups
+module _ (n g h : ℕ) (a : g < 2 ^ 31) (b : h < 2 ^ 31) where
+  pub high-fits : bitAnd n g + bitAnd n h / 2 ^ 15 < 2 ^ 32
+  high-fits = omega (arith, and-le-r n g, and-le-r n h)
+
+  pub count-fits : ones (bitAnd n g + bitAnd n h / 2 ^ 15) < 2 ^ 64
+  count-fits = omega (arith, ones-le 32 (bitAnd n g + bitAnd n h / 2 ^ 15) high-fits)
+
 module _ (n : ℕ) where
   again-small : bitAnd n twoWords / 2 ^ 15 < 2 ^ 15
   again-small = omega (arith, and-le-r n twoWords)
-
-  pub high-fits : bitAnd n fromFifteen + bitAnd n twoWords / 2 ^ 15 < 2 ^ 32
-  high-fits = omega (arith, and-le-r n fromFifteen, again-small)
 
   pub high-ones : ones (bitAnd n fromFifteen + bitAnd n twoWords / 2 ^ 15)
       ≡ length (bitsOf 31 (bitAnd n fromFifteen)) + length (bitsOf 31 (bitAnd n twoWords))

@@ -1,7 +1,7 @@
 -- The walks over the fields of a body. The idea: at a loop's head the rules of all fields are those of the bits that are left, from the place reached on, since
 -- those passed obey. A walk between two bits goes from bit to bit (`Striding`); one over the low bits takes the first that is left (`Walking`), and bits that
 -- have no rule decide nothing (`unruled-obeyed`).
-use Rattle.words.proofs.Kit.{_≡_, refl, sym, ap, _∙_, Bool, true, false, not, ⊎-elim, List, [], _∷_, ℕ, zero, suc, _+_, _-_, _*_, _%_, _^_, _≤_, _<_, arith}
+use Rattle.words.proofs.Kit.{_≡_, refl, sym, ap, _∙_, Bool, true, false, not, ⊎-elim, List, [], _∷_, ℕ, zero, suc, _+_, _-_, _*_, _^_, _≤_, _<_, arith}
 use Rattle.words.proofs.Kit.{not-true, not-false, length, drop}
 use native.Mathlib.Nat.{zero-add, add-zero, le-refl}
 use lib.Bits.{bitAnd, and-le-l}
@@ -12,7 +12,7 @@ use Rattle.words.specs.Word.{has}
 use Rattle.words.specs.SetBits.{bitsOf, above}
 use Rattle.words.proofs.Cases.{true-or-false, le-or-lt}
 use Rattle.words.proofs.BitLaws.{has-and}
-use Rattle.words.proofs.SetBitLaws.{bits-trim, bits-few, bits-zero, bits-yes, bits-no, bits-mod, bits-head, has-above, above-none, above-kept}
+use Rattle.words.proofs.SetBitLaws.{bits-trim, bits-few, bits-zero, bits-yes, bits-no, bits-head, has-above, above-none, above-kept}
 use Rattle.fields.specs.Sizes.{fieldSize, sizesOf, wordsOf}
 use Rattle.fields.specs.Rules.{ruleOf}
 use Rattle.fields.specs.Layout.{spanOf, obeyed, carried, indicatorOf, bodyWords}
@@ -177,10 +177,10 @@ none-left (b ∷ l) h = absurd (omega arith)
 
 -- ---- the walk over all fields of a body, whose indicator is w
 
-pub walked-words : (w end : ℕ) (body : List ℕ) → w ≡ indicatorOf body → end ≡ 1 + spanOf (bitsOf 31 (w % 2 ^ 31)) (drop 1 body) → bodyWords body ≡ end
+pub walked-words : (w end : ℕ) (body : List ℕ) → w ≡ indicatorOf body → end ≡ 1 + spanOf (bitsOf 31 w) (drop 1 body) → bodyWords body ≡ end
 unfolding bodyWords
-walked-words w end body e h = rw (h, bits-mod 31 w, e)
+walked-words w end body e h = rw (h, e)
 
-pub walked-rules : (w : ℕ) (kept : Bool) (body : List ℕ) → w ≡ indicatorOf body → kept ≡ obeyed (bitsOf 31 (w % 2 ^ 31)) (drop 1 body)
+pub walked-rules : (w : ℕ) (kept : Bool) (body : List ℕ) → w ≡ indicatorOf body → kept ≡ obeyed (bitsOf 31 w) (drop 1 body)
     → obeyed (carried (indicatorOf body)) (drop 1 body) ≡ kept
-walked-rules w kept body e h = rw (h, bits-mod 31 w, e)
+walked-rules w kept body e h = rw (h, e)

@@ -23,11 +23,10 @@ pub fn check_body(body: &[u32]) -> words::Check
     if indicator % 256 != 0 {
         return words::Check::Refused(words::INDICATOR);
     }
-    let bits = indicator % 0x8000_0000;
-    if crate::inner::end_of(bits, body) != body.len() {
+    if crate::inner::end_of(indicator, body) != body.len() {
         return words::Check::Refused(words::LAYOUT);
     }
-    if crate::inner::rules_kept(bits, body) {
+    if crate::inner::rules_kept(indicator, body) {
         return words::Check::Fine;
     }
     words::Check::Refused(words::FIELD)

@@ -209,9 +209,6 @@ module _ (b : List ℕ) (l : length b ≡ pageBodyWords (heldOf b)) where
       unfolding headGood
       body-within = held-within (heldOf b) (head-within b _ (sym e ∙ not-false head i))
 
-      pub body-held : heldOf b < 2 ^ 31
-      body-held = within-small (heldOf b) body-within
-
       -- the walk begins one word before the held words; `state` is the answer to the state word
       pub body-rules : (kept state r : Bool) → kept ≡ obeyed (bitsOf 31 (heldOf b)) (drop 1 (take (length b - (headWords - 1)) (drop (headWords - 1) b)))
           → state ≡ stateGoodIn b → r ≡ both kept state → r ≡ recordGood (recordOf b)

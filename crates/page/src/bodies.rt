@@ -37,8 +37,8 @@ pub fn page_words(table: &[u32]) -> usize
     length
 }
 
-// The held words of the slots of the bits from `first` down to the one above `past`, in field order, into a page from a place on. Gives the place past them. The
-// slots' own place runs along.
+// The held words of the slots of the bits from `first` down to the one above `past`, in field order, into a page from a place on. Gives the place past them.
+// The slots' own place runs along.
 fn squeeze_between(
     page: &mut [u32],
     at: usize,
@@ -65,8 +65,8 @@ fn squeeze_between(
     to
 }
 
-// The held words of a record's slots, in field order, into a page from a place on. Gives the place past them. They are laid in three parts, as the compiler unrolls
-// (docs/SPEED.md).
+// The held words of a record's slots, in field order, into a page from a place on. Gives the place past them. They are laid in three parts, which the
+// compiler unrolls (docs/SPEED.md).
 fn squeeze(page: &mut [u32], at: usize, held: u32, slots: &[u32]) -> usize
     requires { ⌜ (length (now slots) ≡ slotWords) × (bitAnd held slotMask ≡ held) × (at + sizesOf (bitsOf 31 held) ≤ length (now page)) ⌝ }
     ensures { λ r. ⌜ Laid (now (page .entry)) at (heldWords held (now (slots .entry))) r (now (page .exit)) ⌝ }

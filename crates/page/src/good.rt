@@ -93,8 +93,8 @@ fn state_good_in(body: &[u32]) -> bool
 }
 
 // Whether the record of a body is good: the body's first words are, the held fields obey their rules, and the state word can be held. The slots of the other
-// fields would be zero. `rules_kept` skips the first word that it is given, where the body of a packet has its indicator; so it is given the held words with the
-// one word before them.
+// fields would be zero. `rules_kept` skips the first word that it is given, where the body of a packet has its indicator; so it is given the held words with
+// the one word before them.
 fn body_good(body: &[u32]) -> bool
     requires { ⌜ length (now body) ≡ pageBodyWords (heldOf (now body)) ⌝ }
     ensures { λ r. ⌜ r ≡ recordGood (recordOf (now (body .entry))) ⌝ }

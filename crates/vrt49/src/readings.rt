@@ -63,8 +63,9 @@ pub struct Columns {
     pub second: [f32; 21],
 }
 
-// Seven rows of the columns, those from entry 7 * part on, where the rows before them are there and the others are those of absent fields. Each field is read and
-// its numbers are stored where the caller wants them, since arrays would be copied on their way. The place among the slots runs along; gives that of the next part.
+// Seven rows of the columns, those from entry 7 * part on, where the rows before them are there and the others are those of absent fields. Each field is read
+// and its numbers are stored where the caller wants them, since arrays would be copied on their way. The place among the slots runs along; gives that of the
+// next part.
 fn rows_of(
     table: &[u32],
     stream: usize,

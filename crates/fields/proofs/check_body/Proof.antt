@@ -13,12 +13,12 @@ module _ (body : List ℕ) (w : ℕ) (i : w ≡ indicatorOf body) where
   unfolding contextOf lowBitsSet
   low-bits d = rw (← i, ne-eqb (w % 256) 0 d)
 
-  module _ (zero : w % 256 ≡ 0) (end : ℕ) (e : end ≡ 1 + spanOf (bitsOf 31 (w % 2 ^ 31)) (drop 1 body)) where
+  module _ (zero : w % 256 ≡ 0) (end : ℕ) (e : end ≡ 1 + spanOf (bitsOf 31 w) (drop 1 body)) where
     other-length : (end ≡ length body → ⊥) → refused LAYOUT ≡ contextOf body
     unfolding contextOf lowBitsSet otherLength
     other-length d = rw (walked-words w end body i e, ← i, eq-eqb (w % 256) 0 zero, ne-eqb end (length body) d)
 
-    module _ (whole : end ≡ length body) (kept : Bool) (k : kept ≡ obeyed (bitsOf 31 (w % 2 ^ 31)) (drop 1 body)) where
+    module _ (whole : end ≡ length body) (kept : Bool) (k : kept ≡ obeyed (bitsOf 31 w) (drop 1 body)) where
       fine : kept ≡ true → accepted tt ≡ contextOf body
       unfolding contextOf lowBitsSet otherLength ruleBroken
       fine t =

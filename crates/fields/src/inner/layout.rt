@@ -126,15 +126,10 @@ fn low_kept(bits: u32, body: &[u32], from: usize) -> bool
 }
 
 // Whether the fields of some bits of an indicator, which stand in a body from word 1 on, obey their rules. Those above bit 17 are walked in two parts: a loop of
-// at most ten turns between known bits is unrolled by the compiler, which then knows each size and each limit (docs/SPEED.md). The low ones are called for in two
-// places, so that the compiler leaves them out of line, and the walks need few registers.
+// at most ten turns between known bits is unrolled by the compiler, which then knows each size and each limit (docs/SPEED.md).
 pub fn rules_kept(bits: u32, body: &[u32]) -> bool
-    requires { ⌜ bits < 2 ^ 31 ⌝ }
     ensures { λ r. ⌜ r ≡ obeyed (bitsOf 31 bits) (drop 1 (now (body .entry))) ⌝ }
 {
-    if bits < 0x4_0000 {
-        return low_kept(bits, body, 1);
-    }
     let high = walk(bits, body, 1, 30, 21);
     if !high.kept {
         return false;

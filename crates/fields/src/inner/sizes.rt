@@ -34,7 +34,8 @@ fn in_group(bits: u32, group: u32) -> usize
     u32::count_ones(bits & group) as usize
 }
 
-// The words that the fields of fixed size of some bits take together: of each group, how many there are, times its words. Few packets have one of the last five.
+// The words that the fields of fixed size of some bits take together: of each group, how many there are, times its words. Few packets have one of the last
+// five.
 pub fn fixed_words(bits: u32) -> usize
     ensures { λ r. ⌜ (r ≡ sizesOf (bitsOf 31 bits)) × (r ≤ 74) ⌝ }
 {

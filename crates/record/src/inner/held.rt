@@ -37,8 +37,8 @@ pub fn slot_at(bit: u32) -> usize
     fields::inner::fixed_words((SLOTTED >> (bit + 1)) << (bit + 1))
 }
 
-// The fields of the bits from `first` down to the one above `past`, each into its slot, whole. They stand in the source one after the other, from a place on, and
-// the slots stand in field order: both places run along. Gives the place past them.
+// The fields of the bits from `first` down to the one above `past`, each into its slot, whole. They stand in the source one after the other, from a place on,
+// and the slots stand in field order: both places run along. Gives the place past them.
 fn fill(slots: &mut [u32], bits: u32, source: &[u32], at: usize, first: u32, past: u32) -> usize
     requires { ⌜ (length (now slots) ≡ slotWords) × (9 ≤ past) × (past ≤ first) × (first ≤ 30) × InsideBetween first past bits at (now source) ⌝ }
     ensures { λ r. ⌜ Filled first past bits at (now (source .entry)) (now (slots .entry)) (now (slots .exit)) × (r ≡ at + sizesOf (above past (bitsOf (suc first) bits))) ⌝ }
@@ -58,8 +58,8 @@ fn fill(slots: &mut [u32], bits: u32, source: &[u32], at: usize, first: u32, pas
     from
 }
 
-// Each field of these bits into its slot, whole. The fields stand in the source one after the other, from a place on. They are filled in three parts: a loop of at
-// most ten turns between known bits is unrolled by the compiler, which then knows each size and each place (docs/SPEED.md).
+// Each field of these bits into its slot, whole. The fields stand in the source one after the other, from a place on. They are filled in three parts: a loop of
+// at most ten turns between known bits is unrolled by the compiler, which then knows each size and each place (docs/SPEED.md).
 pub fn refill(slots: &mut [u32], bits: u32, source: &[u32], at: usize)
     requires { ⌜ (length (now slots) ≡ slotWords) × (bitAnd bits slotMask ≡ bits) × Inside bits at (now source) ⌝ }
     ensures { λ _. ⌜ now (slots .exit) ≡ refilled bits at (now (source .entry)) (now (slots .entry)) ⌝ }

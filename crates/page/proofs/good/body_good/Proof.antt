@@ -2,7 +2,7 @@
 use Rattle.words.proofs.Kit.{_≤_, arith, length, needs}
 use Rattle.record.specs.Layout.{headWords}
 use Rattle.page.proofs.BodyLaws.{body-some}
-use Rattle.page.proofs.GoodLaws.{body-ill, body-held, body-rules}
+use Rattle.page.proofs.GoodLaws.{body-ill, body-rules}
 use Rattle.page.proofs.good.body_good.Statement.{statement}
 use Rattle.page.proofs.good.body_good.Tie as tie
 
@@ -15,5 +15,5 @@ body-good-spec =
     tie.close
     (tie.spec
     (λ c κs. search body-some) (λ c. search body-ill) (λ c. omega (arith, first-words (search))) (λ c. search needs) (λ c. search needs)
-    (λ c. omega (arith, first-words (search))) (λ c. omega (arith, first-words (search))) (λ c. search needs) (λ c κs. search body-held)
+    (λ c. omega (arith, first-words (search))) (λ c. omega (arith, first-words (search))) (λ c. search needs) (λ c κs. search needs)
     (λ c κs. search needs) (λ c κs. search needs) (λ c. search body-rules))
