@@ -29,7 +29,7 @@ use Rattle.record.specs.Layout.{headWords, heldOf, countAt, countWords, lastOf,
 use Rattle.record.specs.Good.{countGoodAt, heldGood, choiceGood, recordGood}
 use Rattle.record.specs.inner.Head.{headGood}
 use Rattle.record.proofs.SlotLaws.{placed, placed-split, slotted-low, slotted-high, slotted-all}
-use Rattle.record.proofs.HoldLaws.{within-small, within-slotted, held-within}
+use Rattle.record.proofs.HoldLaws.{within-slotted, held-within}
 use Rattle.record.proofs.GoodLaws.{slotRuled, slots-ruled, counts-at, last-at, zeros-good, good-head-ill, good-slots}
 use Rattle.table.specs.Identifiers.{spaced, listGood}
 use Rattle.table.proofs.ListLaws.{list-same}

@@ -18,7 +18,7 @@ use Rattle.record.specs.After.{refilled, Inside}
 use Rattle.record.specs.inner.Filled.{InsideBetween, Filled}
 use Rattle.record.proofs.CopyLaws.{size-slotted}
 use Rattle.record.proofs.SlotLaws.{placed, placed-first, placed-between, placed-past, placed-over, placed-inside, placed-apart, in-order-same}
-use Rattle.record.proofs.SlotLaws.{in-order-parts, slots-small, slotted-low, slotted-high, slotted-all, slots-whole, slot-next, held-small, held-slotted}
+use Rattle.record.proofs.SlotLaws.{in-order-parts, slotted-low, slotted-high, slotted-all, slots-whole, slot-next, held-small, held-slotted}
 
 -- ---- bits of a mask alone, and of fields that have a slot
 
@@ -37,9 +37,6 @@ held-within held w =
     within-mask slotMask held (rw w at (lt-of-le-of-lt (and-le-r held heldMask) held-small)) (λ b e. held-slotted b (within-bits heldMask held w b e))
 
 module _ (bits : ℕ) (within : bitAnd bits slotMask ≡ bits) where
-  pub within-small : bits < 2 ^ 31
-  within-small = rw within at (lt-of-le-of-lt (and-le-r bits slotMask) slots-small)
-
   pub within-slotted : (b : ℕ) → has bits b ≡ true → slotted b ≡ true
   unfolding slotted
   within-slotted = within-bits slotMask bits within
