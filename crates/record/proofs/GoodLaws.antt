@@ -2,7 +2,7 @@
 -- packet keep each of these facts, so a good record stays good.
 use Rattle.words.proofs.Kit.{_≡_, refl, sym, ap, _∙_, Bool, true, false, not, ⊎-elim, List, [], _∷_, ℕ, zero, suc, _+_, _-_, _*_, _/_, _%_, _^_, _≤_, _<_}
 use Rattle.words.proofs.Kit.{arith, eq-eqb, ne-eqb, le-leb, lt-leb, eqb-true, not-true, not-false, eqb, length, take, drop, getD}
-use native.Mathlib.Nat.{le-refl, add-zero, add-suc, add-assoc, zero-div, lt-of-le-of-lt}
+use native.Mathlib.Nat.{add-zero, add-suc, add-assoc, zero-div, lt-of-le-of-lt}
 use borrow.Author.Tests.{leb-true}
 use lib.Bits.{bitAnd, and-le-r, or-lt}
 use lib.ListN.{replicate, length-replicate}
@@ -32,7 +32,7 @@ use Rattle.record.specs.After.{slotAfter, heldAfter, holdRecord}
 use Rattle.record.specs.Good.{zeros, countGood, countGoodAt, heldGood, heldRule, slotGood, choiceGood, recordGood, GoodCount, Good}
 use Rattle.record.specs.inner.Head.{headGood}
 use Rattle.record.specs.inner.Between.{goodBetween}
-use Rattle.record.proofs.SlotLaws.{slotted-not, slotted-low, slotted-high, slotted-all, slot-next, held-small}
+use Rattle.record.proofs.SlotLaws.{slotted-not, slotted-low, slotted-high, slotted-all, held-small}
 use Rattle.record.proofs.StateLaws.{state-ruled, state-none, state-stays-good}
 use Rattle.record.proofs.CopyLaws.{size-slotted, size-eleven}
 use Rattle.record.proofs.HoldLaws.{slot-inside, within-bits, within-mask, Along, along-start, along-slotted, along-fits, along-next}

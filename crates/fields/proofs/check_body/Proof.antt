@@ -1,5 +1,5 @@
 -- `check_body` meets its promise: each return is a line of the chain of refusals, its tests being the end of the fields and what the walk found.
-use Rattle.words.proofs.Kit.{ℕ, _+_, _%_, _^_, _≡_, Bool, true, false, List, drop, length, eq-eqb, ne-eqb, needs}
+use Rattle.words.proofs.Kit.{ℕ, _+_, _%_, _≡_, Bool, true, false, List, drop, length, eq-eqb, ne-eqb, needs}
 use Rattle.words.specs.Numbers.{INDICATOR, LAYOUT, FIELD}
 use Rattle.words.specs.Outcome.{refused, accepted}
 use Rattle.words.specs.SetBits.{bitsOf}
