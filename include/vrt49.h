@@ -16,15 +16,15 @@
 
    Calls are reentrant: nothing is kept between them, nothing is shared, and nothing is allocated;
    threads may call at once, where none writes what another has handed over.
-   The stack that a call takes is fixed: 1240 bytes for vrt49_readings, and less than 600 for every
+   The stack that a call takes is fixed: 536 bytes for vrt49_put_back, and less than 400 for every
    other (`make stack`). memcpy, memmove and memset are all that is asked of the C library.
 
    What a call costs in S, the number of streams: vrt49_play, vrt49_well_made, vrt49_page_length,
    vrt49_save, vrt49_put_back, vrt49_reading, vrt49_readings, vrt49_held_words, vrt49_identity,
-   vrt49_counts and vrt49_own_table test a whole table each time, 490 to 700 instructions for each
+   vrt49_counts and vrt49_own_table test a whole table each time, 270 to 530 instructions for each
    stream that holds six fields, and vrt49_changed tests two; of a stream's fields vrt49_readings
    gives all for one test. vrt49_play_run is the fast one: it tests the table once, and then takes
-   114 instructions for a sample packet, 210 for one of 49A, and 6 for each stream before its own
+   117 instructions for a sample packet, 216 for one of 49A, and 6 for each stream before its own
    (docs/SPEED.md).
 
    What a caller owes: every pointer is valid, and aligned as its type asks; a buffer has as many

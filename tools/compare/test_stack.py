@@ -8,11 +8,11 @@ ROOT = Path(__file__).resolve().parent.parent.parent
 
 # what stands in the header, and what is put in its place
 SPOILT = [
-    ('1240 bytes for vrt49_readings', '1232 bytes for vrt49_readings'),
-    ('1240 bytes for vrt49_readings', '1248 bytes for vrt49_readings'),
-    ('1240 bytes for vrt49_readings', '1240 bytes for vrt49_reading'),
-    ('and less than 600 for every', 'and less than 100 for every'),
-    ('and less than 600 for every', 'and little for every'),
+    ('536 bytes for vrt49_put_back', '528 bytes for vrt49_put_back'),
+    ('536 bytes for vrt49_put_back', '544 bytes for vrt49_put_back'),
+    ('536 bytes for vrt49_put_back', '536 bytes for vrt49_play'),
+    ('and less than 400 for every', 'and less than 100 for every'),
+    ('and less than 400 for every', 'and little for every'),
 ]
 
 
