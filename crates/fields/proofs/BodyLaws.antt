@@ -43,7 +43,7 @@ context-fits body e =
 
 -- ---- fields before and after each other
 
-span-append : (fs bs ws : List ℕ) → spanOf (fs ++ bs) ws ≡ spanOf fs ws + spanOf bs (drop (spanOf fs ws) ws)
+pub span-append : (fs bs ws : List ℕ) → spanOf (fs ++ bs) ws ≡ spanOf fs ws + spanOf bs (drop (spanOf fs ws) ws)
 unfolding spanOf
 span-append [] bs ws = sym (zero-add (spanOf bs ws))
 span-append (f ∷ fs) bs ws = rw (span-append fs bs (drop (wordsOf f ws) ws), drop-drop, add-assoc)
@@ -54,7 +54,7 @@ obeyed-append [] bs ws = refl
 obeyed-append (f ∷ fs) bs ws = rw (obeyed-append fs bs (drop (wordsOf f ws) ws), drop-drop, both-assoc)
 
 -- the words from a field on, counted past the indicator
-place-drop : (b : ℕ) (body : List ℕ) → drop (placeOf b body) body ≡ drop (spanOf (above b (carried (indicatorOf body))) (drop 1 body)) (drop 1 body)
+pub place-drop : (b : ℕ) (body : List ℕ) → drop (placeOf b body) body ≡ drop (spanOf (above b (carried (indicatorOf body))) (drop 1 body)) (drop 1 body)
 unfolding placeOf
 place-drop b body = sym (drop-drop (spanOf (above b (carried (indicatorOf body))) (drop 1 body)) 1 body)
 

@@ -10,5 +10,7 @@ pub mod RuleLaws
 pub mod WalkLaws
 -- a type 4 body that is accepted: each field lies inside it and obeys its rule
 pub mod BodyLaws
+-- the highest field of a body that breaks its rule
+pub mod BrokenLaws
 -- two answers that meet a public call's promise are equal
 pub mod Uniqueness

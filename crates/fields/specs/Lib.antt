@@ -8,6 +8,8 @@ pub mod Format
 pub mod Rules
 -- where the fields of a body stand, and the refusals INDICATOR, LAYOUT and FIELD
 pub mod Layout
+-- the highest field of a body that breaks its rule
+pub mod Broken
 -- what the calls answer
 pub mod Answers
 -- what only the contracts inside cite

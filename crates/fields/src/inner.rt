@@ -1,6 +1,7 @@
-// What the crates above use of the fields: the next field, sizes, rules and the layout of a body.
+// What the crates above use of the fields: the next field, sizes, rules, the layout of a body, and its highest broken field.
 mod carried;
 mod format;
+mod highest;
 mod layout;
 mod rules;
 mod sizes;
@@ -13,6 +14,7 @@ pub use format::format_ok;
 pub use format::item_size;
 pub use format::packing_size;
 pub use format::real_complex;
+pub use highest::broken;
 pub use layout::behind;
 pub use layout::end_of;
 pub use layout::rules_kept;

@@ -6,7 +6,7 @@ use Prim.Native.Nat.{zero-le, suc-le-suc}
 use native.Mathlib.Nat.{le-refl}
 use borrow.Author.Tests.{eqb-false}
 use Rattle.words.specs.Tests.{pick, when, both, sameWords}
-use Rattle.words.specs.Outcome.{Outcome, refused, accepted, onward}
+use Rattle.words.specs.Outcome.{Outcome, Reply, refused, accepted, onward}
 
 -- for `search`: `search cases` closes most returns of a function that goes by tests on numbers
 pub ruleset cases = (needs, eq-eqb, ne-eqb, lt-ltb, le-ltb, le-leb, lt-leb)
@@ -105,13 +105,18 @@ when-most true n = le-refl n
 when-most false n = zero-le
 
 -- ---- answers
-module _ {A : Type 0} where
+
+-- an accepted answer of a call that is refused with a number
+abbrev pub given : {A : Type 0} → A → Outcome A
+given a = accepted a
+
+module _ {R A : Type 0} where
   -- the answer before an accepted rest was accepted
-  pub onward-passed : {B : Type 0} (o : Outcome B) (rest : B → Outcome A) (a : A) → onward o rest ≡ accepted a
+  pub onward-passed : {B : Type 0} (o : Reply R B) (rest : B → Reply R A) (a : A) → onward o rest ≡ accepted a
       → (b : B) × (o ≡ accepted b) × (rest b ≡ accepted a)
   onward-passed (refused n) rest a e = let z : _≡_ {A = ℕ} 0 1 = cc in absurd (omega arith)
   onward-passed (accepted b) rest a e = (b, refl, e)
 
   -- an accepted answer has one value
-  pub accepted-same : {a b : A} → accepted a ≡ accepted b → a ≡ b
+  pub accepted-same : {a b : A} → _≡_ {A = Reply R A} (accepted a) (accepted b) → a ≡ b
   accepted-same e = cc

@@ -6,6 +6,8 @@ pub mod Kit
 pub mod Cases
 -- lists of refusals
 pub mod RefusalLaws
+-- answers that are told where
+pub mod ToldLaws
 -- the promise of a call that is lent words: how it is met, and what it tells
 pub mod MeetLaws
 -- two answers that meet one promise are equal

@@ -4,15 +4,15 @@ use Rattle.words.specs.declared.Check.{Check}
 use Rattle.words.specs.declared.Check.the-variants.{Fine, Refused}
 use Rattle.words.specs.declared.Length.{Length}
 use Rattle.words.specs.declared.Length.the-variants as lengths
-use Rattle.words.specs.Outcome.{Outcome, refused, accepted, checked, measured, Done, Meets}
+use Rattle.words.specs.Outcome.{Outcome, Reply, refused, accepted, checked, measured, Done, Meets}
 
 pub once {ℓ ℓ′} : {A : Type ℓ} {B : Type ℓ′} (paper : A → B) (back : B → A) → ((a : A) → back (paper a) ≡ a)
     → {want : B} {a b : A} → paper a ≡ want → paper b ≡ want → a ≡ b
 once paper back left {want} {a} {b} p q = sym (left a) ∙ ap back (p ∙ sym q) ∙ left b
 
 -- and the buffer that the call was lent
-pub meets-once : {A B L : Type 0} (paper : A → Outcome B) (back : Outcome B → A) → ((a : A) → back (paper a) ≡ a)
-    → {want : Outcome (Done B L)} {before after after′ : L} {r s : A} → Meets paper want before r after → Meets paper want before s after′
+pub meets-once : {R A B L : Type 0} (paper : A → Reply R B) (back : Reply R B → A) → ((a : A) → back (paper a) ≡ a)
+    → {want : Reply R (Done B L)} {before after after′ : L} {r s : A} → Meets paper want before r after → Meets paper want before s after′
     → (r ≡ s) × (after ≡ after′)
 meets-once paper back left p q = (once paper back left (p .answer) (q .answer), p .buffer ∙ sym (q .buffer))
 

@@ -90,3 +90,23 @@ module _ {A B : Type 0} where
   -- where a list refuses nothing, what follows it is the answer
   pub first-fine : (rs : Refusals) (b c : B) (rest : Outcome A) → firstGiven rs (accepted b) ≡ accepted c → firstGiven rs rest ≡ rest
   first-fine rs b c rest e = none-given rs rest (first-passed rs (accepted b) c e .0)
+
+-- ---- which of a list is given
+
+-- what each number of a list is, where its own test holds and none before it did
+abbrev pub Rows : (ℕ → Type 0) → Refusals → Type 0
+Rows P [] = Unit
+Rows P (r ∷ rs) = (r .1 ≡ true → P (r .0)) × (r .1 ≡ false → Rows P rs)
+
+infixr 4 _else_
+abbrev pub _else_ : {A B : Type 0} → A → B → A × B
+a else b = (a, b)
+
+module _ {A : Type 0} (P : ℕ → Type 0) where
+  row-pick : (t : Bool) (n m : ℕ) (o : Outcome A) → (t ≡ true → P m) → (t ≡ false → o ≡ refused n → P n) → pick t (refused m) o ≡ refused n → P n
+  row-pick true n m o h l e = let i : m ≡ n = cc in rw i at (h refl)
+  row-pick false n m o h l e = l refl e
+
+  pub row-given : (rs : Refusals) (a : A) (n : ℕ) → Rows P rs → firstGiven rs (accepted a) ≡ refused n → P n
+  row-given [] a n h e = let z : _≡_ {A = ℕ} 0 1 = cc in absurd (omega arith)
+  row-given (r ∷ rs) a n h e = row-pick (r .1) n (r .0) (firstGiven rs (accepted a)) (h .0) (λ f g. row-given rs a n (h .1 f) g) e

@@ -6,10 +6,12 @@ pub mod Kit
 pub mod Numbers
 -- tests, and the value that a test picks
 pub mod Tests
--- an answer: refused with a number, or accepted with its values; what a call leaves in a lent buffer
+-- an answer: refused or accepted with its values; what a call leaves in a lent buffer
 pub mod Outcome
 -- a call's refusals in their order: the first that applies is given
 pub mod Refusals
+-- a refusal's place
+pub mod Told
 -- a word's bits, and a word as fields by their widths
 pub mod Word
 -- two's complement

@@ -5,10 +5,14 @@ use Rattle.words.specs.declared.Check.the-variants.{Fine, Refused}
 use Rattle.words.specs.declared.Length.{Length}
 use Rattle.words.specs.declared.Length.the-variants as lengths
 
--- an answer: refused with a number of the list, or accepted with its values
-pub data Outcome (A : Type 0) : Type 0 where
-  refused : ℕ → Outcome A
-  accepted : A → Outcome A
+-- an answer: refused, with what a refusal says, or accepted with its values
+pub data Reply (R A : Type 0) : Type 0 where
+  refused : R → Reply R A
+  accepted : A → Reply R A
+
+-- one that is refused with a number of the list
+abbrev pub Outcome : Type 0 → Type 0
+Outcome A = Reply ℕ A
 
 -- some checks, and then the rest: the first refusal that applies is given
 abbrev pub after : {A B : Type 0} → Outcome A → Outcome B → Outcome B
@@ -16,7 +20,7 @@ after (refused n) rest = refused n
 after (accepted a) rest = rest
 
 -- an answer, and then the rest over its values
-abbrev pub onward : {A B : Type 0} → Outcome A → (A → Outcome B) → Outcome B
+abbrev pub onward : {R A B : Type 0} → Reply R A → (A → Reply R B) → Reply R B
 onward (refused n) rest = refused n
 onward (accepted a) rest = rest a
 
@@ -40,17 +44,17 @@ pub record Done (A L : Type 0) : Type 0 where
   pub says : A
   pub leaves : L
 
-module _ {A L : Type 0} where
-  abbrev pub saidOf : Outcome (Done A L) → Outcome A
+module _ {R A L : Type 0} where
+  abbrev pub saidOf : Reply R (Done A L) → Reply R A
   saidOf (refused n) = refused n
   saidOf (accepted d) = accepted (d .says)
 
   -- the buffer afterwards: a refusal leaves it as it was
-  abbrev pub leftOf : Outcome (Done A L) → L → L
+  abbrev pub leftOf : Reply R (Done A L) → L → L
   leftOf (refused n) before = before
   leftOf (accepted d) before = d .leaves
 
--- the answer r of a call that found the buffer as `before` and left it as `after` is what `want` says; `paper` gives r's number and values
-pub record Meets {A B L : Type 0} (paper : A → Outcome B) (want : Outcome (Done B L)) (before : L) (r : A) (after : L) : Type 0 where
+-- the answer r of a call that found the buffer as `before` and left it as `after` is what `want` says; `paper` gives what r says on paper
+pub record Meets {R A B L : Type 0} (paper : A → Reply R B) (want : Reply R (Done B L)) (before : L) (r : A) (after : L) : Type 0 where
   pub answer : paper r ≡ saidOf want
   pub buffer : after ≡ leftOf want before

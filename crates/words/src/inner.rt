@@ -1,5 +1,6 @@
-// What the crates above use: reads and copies of words, tests, and powers of two.
+// What the crates above use: reads and copies of words, places as numbers, tests, and powers of two.
 mod copies;
+mod places;
 mod powers;
 mod reads;
 mod tests;
@@ -8,6 +9,8 @@ pub use copies::copy_eleven;
 pub use copies::copy_one;
 pub use copies::copy_part;
 pub use copies::copy_two;
+pub use places::bit_of;
+pub use places::word_of;
 pub use powers::low;
 pub use powers::ones;
 pub use powers::power;

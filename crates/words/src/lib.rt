@@ -23,6 +23,20 @@ pub use numbers::TIME;
 pub use numbers::TYPE;
 pub use numbers::VALUE;
 
+// Where the word stands that a packet is refused for, in words from the packet's start: nowhere, at a word, or at the first word of a field, with the field's
+// bit.
+pub enum Where {
+    Nowhere,
+    Word(usize),
+    Field(usize, u32),
+}
+
+// What a reading that is refused says: the number of the refusal, and where.
+pub struct Refusal {
+    pub number: u32,
+    pub place: Where,
+}
+
 // What checks find: nothing to refuse, or the number of the refusal.
 pub enum Check {
     Fine,
