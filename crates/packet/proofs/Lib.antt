@@ -8,5 +8,9 @@ pub mod ReadLaws
 pub mod FrontLaws
 -- words beyond the size are ignored
 pub mod BeyondLaws
+-- where a packet is refused
+pub mod ToldLaws
+-- and that the place lies inside the packet
+pub mod InsideLaws
 -- two answers that meet a promise are equal
 pub mod Uniqueness

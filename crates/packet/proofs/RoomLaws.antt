@@ -1,7 +1,7 @@
 -- Where the parts of a packet lie. The idea: each part ends where the next begins, and the last ends at the size; so all lie inside n words as
 -- soon as the required parts fit the size and the size fits n.
 use Rattle.words.proofs.Kit.{_≡_, refl, sym, Bool, true, false, not, List, [], _∷_, ℕ, _+_, _-_, _/_, _%_, _^_, _≤_, _<_, arith, ne-eqb, eqb, ltb}
-use Rattle.words.proofs.Kit.{getD}
+use Rattle.words.proofs.Kit.{length, getD}
 use Rattle.words.specs.Tests.{pick, when, among}
 use Rattle.words.specs.Word.{has, highFirst}
 use Rattle.words.specs.All.{all}
@@ -38,6 +38,10 @@ room w n h g = record {
   trailer = omega (arith, when-most (trailed w) 1);
   around = omega arith;
 }
+
+-- the body ends inside
+pub body-ends : (w : ℕ) (ws : List ℕ) → requiredOf w ≤ sizeOf w → sizeOf w ≤ length ws → (end : ℕ) → end ≡ bodyAt w + bodyLength w → end ≤ length ws
+body-ends w ws h g end e = omega (arith, room w (length ws) h g .body)
 
 -- a body has fewer than 2^16 words
 pub length-small : (w : ℕ) → bodyLength w < 2 ^ 16

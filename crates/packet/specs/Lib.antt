@@ -8,5 +8,7 @@ pub mod Parts
 pub mod Read
 -- what a reading that follows 49A gives
 pub mod Survey
+-- where a refusal stands, and what reading answers with it
+pub mod Told
 -- what only the contracts inside cite
 pub mod inner

@@ -6,6 +6,7 @@ use Rattle.words.specs.Tests.{both}
 use Rattle.words.specs.Word.{bits}
 use Rattle.words.specs.Outcome.{Outcome, refused, accepted}
 use Rattle.words.specs.Refusals.{Refusals, firstGiven, onlyWhere}
+use Rattle.words.specs.Told.{Told}
 use Rattle.fields.specs.Layout.{contextList}
 use Rattle.packet_survey.specs.Payload.{padBad}
 use Rattle.packet.specs.Header.{typeOf, classed, trailed, reservedOf, tsfOf, sizeOf}
@@ -71,7 +72,7 @@ readList w ws = frontList false w ws ++ bodyList (typeOf w) (bodyOf w ws)
 abbrev pub readOf : List ℕ → Outcome Packet
 readOf ws = readBy false ws
 
--- the number and values of an answer
-abbrev pub parsedPaper : Parsed → Outcome Packet
+-- the refusal and values of an answer
+abbrev pub parsedPaper : Parsed → Told Packet
 parsedPaper (Refused n) = refused n
 parsedPaper (Accepted p) = accepted p

@@ -4,6 +4,7 @@ use Rattle.words.specs.Kit.{ℕ, true, List, eqb, getD}
 use Rattle.words.specs.Tests.{when}
 use Rattle.words.specs.Outcome.{Outcome, refused, accepted}
 use Rattle.words.specs.Refusals.{firstGiven}
+use Rattle.words.specs.Told.{Told}
 use Rattle.packet_survey.specs.Class.{padOf}
 use Rattle.packet_survey.specs.Payload.{itemsIn, formatFirst, formatSecond}
 use Rattle.packet.specs.Header.{typeOf}
@@ -27,7 +28,7 @@ surveyOf w ws =
 unfoldable pub readSurveyOf : List ℕ → Outcome Survey
 readSurveyOf ws = firstGiven (listBy true (getD ws 0 0) ws) (accepted (surveyOf (getD ws 0 0) ws))
 
--- the number and values of an answer
-abbrev pub surveyPaper : ParsedSurvey → Outcome Survey
+-- the refusal and values of an answer
+abbrev pub surveyPaper : ParsedSurvey → Told Survey
 surveyPaper (Refused n) = refused n
 surveyPaper (Accepted s) = accepted s

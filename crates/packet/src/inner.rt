@@ -12,5 +12,6 @@ pub use crate::header::has_seconds;
 pub use crate::header::has_stream;
 pub use crate::header::size_of;
 pub use crate::header::type_of;
+pub use crate::places::where_of;
 pub use crate::prologue::body_end;
 pub use crate::prologue::identifier_of;

@@ -2,12 +2,14 @@
 mod checks;
 mod header;
 pub mod inner;
+mod places;
 mod prologue;
 mod surveys;
 
 ghost use mathlib.Core.Path.{_≡_};
-ghost use Rattle.packet.specs.Read.{parsedPaper, readOf};
-ghost use Rattle.packet.specs.Survey.{surveyPaper, readSurveyOf};
+ghost use Rattle.packet.specs.Read.{parsedPaper};
+ghost use Rattle.packet.specs.Survey.{surveyPaper};
+ghost use Rattle.packet.specs.Told.{readTold, surveyTold};
 
 // The parts of a packet beside its body. A part that is absent is zero.
 pub struct Parts {
@@ -39,10 +41,10 @@ pub struct Packet {
     pub length: usize,
 }
 
-// What reading answers: the packet, or the number of the refusal.
+// What reading answers: the packet, or the refusal.
 pub enum Parsed {
     Accepted(Packet),
-    Refused(u32),
+    Refused(words::Refusal),
 }
 
 // What a reading that follows 49A gives: the packet and, of type 1, its pad count, the two words of its payload's format, and n, the items of its payload. Of
@@ -55,28 +57,29 @@ pub struct Survey {
     pub items: u32,
 }
 
-// What such a reading answers, or the number of the refusal.
+// What such a reading answers, or the refusal.
 pub enum ParsedSurvey {
     Accepted(Survey),
-    Refused(u32),
+    Refused(words::Refusal),
 }
 
-// The packet that stands at the front of the words, as plain 49.0, or the first of the refusals 1 to 10 that applies. Words beyond its size are ignored.
+// The packet that stands at the front of the words, as plain 49.0, or the first of the refusals 1 to 10 that applies, and where. Words
+// beyond its size are ignored.
 pub fn read(ws: &[u32]) -> Parsed
-    ensures { λ r. ⌜ parsedPaper r ≡ readOf (now (ws .entry)) ⌝ }
+    ensures { λ r. ⌜ parsedPaper r ≡ readTold (now (ws .entry)) ⌝ }
 {
     let sized = checks::check_sized(ws);
     if let words::Check::Refused(n) = sized {
-        return Parsed::Refused(n);
+        return Parsed::Refused(places::refusal_of(n, ws));
     }
     let w = ws[0];
     let front = checks::check_prologue(false, w, ws);
     if let words::Check::Refused(n) = front {
-        return Parsed::Refused(n);
+        return Parsed::Refused(places::refusal_of(n, ws));
     }
     let body = checks::check_body(w, ws);
     if let words::Check::Refused(n) = body {
-        return Parsed::Refused(n);
+        return Parsed::Refused(places::refusal_of(n, ws));
     }
     let high = prologue::class_high(w, ws);
     let low = prologue::class_low(w, ws);
@@ -86,7 +89,7 @@ pub fn read(ws: &[u32]) -> Parsed
 // The packet that stands at the front of the words, as 49A, which governs type 1: there CLASS is not given, and PAD comes after the other refusals. Words beyond
 // its size are ignored.
 pub fn read_survey(ws: &[u32]) -> ParsedSurvey
-    ensures { λ r. ⌜ surveyPaper r ≡ readSurveyOf (now (ws .entry)) ⌝ }
+    ensures { λ r. ⌜ surveyPaper r ≡ surveyTold (now (ws .entry)) ⌝ }
 {
     if surveys::is_governed(ws) {
         return surveys::read_governed(ws);

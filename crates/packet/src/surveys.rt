@@ -3,7 +3,8 @@ ghost use Rattle.words.specs.Kit.{_≡_, _^_, _≤_, _<_, eqb, length, getD};
 ghost use Rattle.words.specs.Outcome.{accepted};
 ghost use Rattle.packet.specs.Header.{typeOf, reservedOf, sizeOf};
 ghost use Rattle.packet.specs.Parts.{requiredOf, bodyLength, classHigh, classLow};
-ghost use Rattle.packet.specs.Survey.{surveyOf, surveyPaper, readSurveyOf};
+ghost use Rattle.packet.specs.Survey.{surveyOf, surveyPaper};
+ghost use Rattle.packet.specs.Told.{surveyTold};
 ghost use Rattle.packet.specs.inner.Steps.{payloadChecks};
 
 // Whether the words begin with a header of type 1.
@@ -56,23 +57,23 @@ fn other_of(w: u32, ws: &[u32]) -> crate::Survey
 // Reads words that begin with a header of type 1. Its checks are asked here, so that the compiler puts them in line.
 pub fn read_governed(ws: &[u32]) -> crate::ParsedSurvey
     requires { ⌜ typeOf (getD (now ws) 0 0) ≡ 1 ⌝ }
-    ensures { λ r. ⌜ surveyPaper r ≡ readSurveyOf (now (ws .entry)) ⌝ }
+    ensures { λ r. ⌜ surveyPaper r ≡ surveyTold (now (ws .entry)) ⌝ }
 {
     let sized = crate::checks::check_sized(ws);
     if let words::Check::Refused(n) = sized {
-        return crate::ParsedSurvey::Refused(n);
+        return crate::ParsedSurvey::Refused(crate::places::refusal_of(n, ws));
     }
     let w = ws[0];
     let prologue = crate::checks::check_prologue(true, w, ws);
     if let words::Check::Refused(n) = prologue {
-        return crate::ParsedSurvey::Refused(n);
+        return crate::ParsedSurvey::Refused(crate::places::refusal_of(n, ws));
     }
     let high = crate::prologue::class_high(w, ws);
     let low = crate::prologue::class_low(w, ws);
     let payload = crate::prologue::body_length(w);
     let found = crate::checks::check_payload(w, high, low, payload);
     if let words::Check::Refused(n) = found {
-        return crate::ParsedSurvey::Refused(n);
+        return crate::ParsedSurvey::Refused(crate::places::refusal_of(n, ws));
     }
     crate::ParsedSurvey::Accepted(survey_of(w, high, low, payload, ws))
 }
@@ -80,16 +81,16 @@ pub fn read_governed(ws: &[u32]) -> crate::ParsedSurvey
 // Reads other words.
 pub fn read_other(ws: &[u32]) -> crate::ParsedSurvey
     requires { ⌜ (typeOf (getD (now ws) 0 0) ≡ 1 → ⊥) ⌝ }
-    ensures { λ r. ⌜ surveyPaper r ≡ readSurveyOf (now (ws .entry)) ⌝ }
+    ensures { λ r. ⌜ surveyPaper r ≡ surveyTold (now (ws .entry)) ⌝ }
 {
     let sized = crate::checks::check_sized(ws);
     if let words::Check::Refused(n) = sized {
-        return crate::ParsedSurvey::Refused(n);
+        return crate::ParsedSurvey::Refused(crate::places::refusal_of(n, ws));
     }
     let w = ws[0];
     let rest = crate::checks::check_survey(w, ws);
     if let words::Check::Refused(n) = rest {
-        return crate::ParsedSurvey::Refused(n);
+        return crate::ParsedSurvey::Refused(crate::places::refusal_of(n, ws));
     }
     crate::ParsedSurvey::Accepted(other_of(w, ws))
 }

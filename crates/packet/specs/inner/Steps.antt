@@ -1,12 +1,23 @@
 -- What each step of reading finds. That the steps, one after the other, find what reading answers says `proofs/FrontLaws.antt`.
-use Rattle.words.specs.Kit.{ℕ, Bool, true, List, [], _∷_, _++_, getD}
-use Rattle.words.specs.Numbers.{PAD}
+use Rattle.words.specs.Kit.{_≡_, ℕ, _^_, _≤_, _<_, Bool, true, List, [], _∷_, _++_, length, getD}
+use Rattle.words.specs.Numbers.{FIELD, PAD}
 use Rattle.words.specs.Outcome.{Outcome, accepted}
 use Rattle.words.specs.Refusals.{Refusals, firstGiven, onlyWhere}
+use Rattle.words.specs.Told.{wordOf}
 use Rattle.packet_survey.specs.Payload.{padBad}
-use Rattle.packet.specs.Header.{typeOf, classed, trailed}
-use Rattle.packet.specs.Parts.{bodyLength, bodyOf}
+use Rattle.packet.specs.Header.{typeOf, classed, trailed, sizeOf}
+use Rattle.packet.specs.Parts.{requiredOf, bodyLength, bodyOf}
 use Rattle.packet.specs.Read.{headerList, sizeList, prologueList, bodyList, sizedList, governed, padList}
+use Rattle.packet.specs.Told.{whereOf}
+
+-- of words that are refused with a number, where it is FIELD: the required parts fit the size, and the size the words
+abbrev pub FieldFits : ℕ → List ℕ → Type 0
+FieldFits n ws = n ≡ FIELD → let w = getD ws 0 0 in (requiredOf w ≤ sizeOf w) × (sizeOf w ≤ length ws)
+
+-- and the place of any number fits a word
+pub record Placeable (n : ℕ) (ws : List ℕ) : Type 0 where
+  pub field : FieldFits n ws
+  pub small : wordOf (whereOf ws n) < 2 ^ 32
 
 -- of a header, a size, a prologue and a body
 unfoldable pub headerChecks : ℕ → Outcome Unit

@@ -1,13 +1,13 @@
 -- `check_body` meets its promise: the body of a type 4 packet lies inside (`room`), and is what is lent.
-use Rattle.words.proofs.Kit.{_≡_, List, ℕ, _+_, _-_, _≤_, arith, eq-eqb, ne-eqb, length, take, drop, needs}
+use Rattle.words.proofs.Kit.{_≡_, List, ℕ, _+_, _-_, arith, eq-eqb, ne-eqb, take, drop, needs}
 use Rattle.words.specs.declared.Check.{Check}
 use Rattle.words.specs.Outcome.{accepted, checked}
 use Rattle.words.proofs.PartLaws.{seen}
-use Rattle.packet.specs.Header.{typeOf, sizeOf}
-use Rattle.packet.specs.Parts.{bodyAt, bodyLength, requiredOf, bodyOf}
+use Rattle.packet.specs.Header.{typeOf}
+use Rattle.packet.specs.Parts.{bodyAt, bodyLength, bodyOf}
 use Rattle.fields.specs.Layout.{contextOf}
 use Rattle.packet.specs.inner.Steps.{bodyChecks}
-use Rattle.packet.proofs.RoomLaws.{room}
+use Rattle.packet.proofs.RoomLaws.{body-ends}
 use Rattle.packet.proofs.checks.check_body.Statement.{statement}
 use Rattle.packet.proofs.checks.check_body.Tie as tie
 
@@ -22,12 +22,9 @@ module _ (w : ℕ) (ws : List ℕ) where
     unfolding bodyChecks bodyOf contextOf
     body-asked f at end a e r c = rw (← k, eq-eqb kind 4 f, ← a, ← seen at end (bodyLength w) ws (omega arith)) c
 
-  body-inside : requiredOf w ≤ sizeOf w → sizeOf w ≤ length ws → (end : ℕ) → end ≡ bodyAt w + bodyLength w → end ≤ length ws
-  body-inside h g end e = omega (arith, room w (length ws) h g .body)
-
 pub check-body-spec : {M : Type 1} → statement M
 check-body-spec =
     tie.close
     (tie.spec
     (λ c κs. search needs) (λ c. search other-type) (λ c κs. search needs) (λ c κs. search needs) (λ c. search needs) (λ c. search needs)
-    (λ c. search needs) (λ c. search body-inside) (λ c κs. search needs) (λ c. search body-asked))
+    (λ c. search needs) (λ c. search body-ends) (λ c κs. search needs) (λ c. search body-asked))
