@@ -4,10 +4,12 @@ use Rattle.words.proofs.Kit.{_≡_, refl, sym, ap, _∙_, true, ⊎-elim, List,
 use Rattle.words.specs.Part.{part}
 use Rattle.words.specs.Outcome.{Outcome, refused, accepted, Done, leftOf}
 use Rattle.words.proofs.Cases.{true-or-false, same-or-not, onward-passed, accepted-same}
+use Rattle.words.proofs.ToldLaws.{told-accepted, told-left}
 use Rattle.words.proofs.RefusalLaws.{first-passed}
 use Rattle.fields.specs.Layout.{contextOf}
 use Rattle.packet.specs.declared.Packet.{Packet}
 use Rattle.packet.specs.Read.{readBy}
+use Rattle.packet.specs.Told.{whereOf}
 use Rattle.packet.proofs.ReadLaws.{count-small, body-context}
 use Rattle.record.specs.Layout.{recordWords, identifierOf, choiceOf}
 use Rattle.record.specs.After.{recordAfter}
@@ -18,7 +20,7 @@ use Rattle.table.specs.Well.{wellMade}
 use Rattle.table.proofs.RecordLaws.{record-length, record-identifier, record-with, record-with-other, with-length, streams-with, past-with}
 use Rattle.table.proofs.WellLaws.{well-whole, well-record, layout-has, list-with, well-with}
 use Rattle.play.specs.declared.Heard.{Heard}
-use Rattle.play.specs.Play.{heardOf, tableAfter, tableList, chosen, stepOf, playOf}
+use Rattle.play.specs.Play.{heardOf, tableAfter, tableList, chosen, stepOf, playOf, playTold}
 use Rattle.play.specs.inner.Steps.{soughtOf}
 use Rattle.play.proofs.StreamLaws.{sought-below}
 use Rattle.play.proofs.PlayLaws.{step-read, play-step, play-refuses}
@@ -142,13 +144,18 @@ pub step-keeps : (t ws : List ℕ) → wellMade t ≡ true → Kept t (leftOf (s
 step-keeps t ws w = kept-by (stepOf t ws) t ws w refl
 
 -- a table stays well made, with its length, its list and the words past its layout
-pub play-keeps : (t ws : List ℕ) → Kept t (leftOf (playOf t ws) t)
-play-keeps t ws =
+play-kept : (t ws : List ℕ) → Kept t (leftOf (playOf t ws) t)
+play-kept t ws =
     ⊎-elim (λ w. rw (play-step t ws w) (step-keeps t ws w)) (λ w. rw (play-refuses t ws w) (nothing-changed t)) (true-or-false (wellMade t))
 
+pub play-keeps : (t ws : List ℕ) → Kept t (leftOf (playTold t ws) t)
+unfolding playTold
+play-keeps t ws = rw (told-left (whereOf ws) (playOf t ws) t) (play-kept t ws)
+
 -- an accepted packet was read and has a stream, and the table was well made
-pub play-taken : (t ws : List ℕ) (d : Done Heard (List ℕ)) → playOf t ws ≡ accepted d → (wellMade t ≡ true) × Taken t ws d
-unfolding playOf
-play-taken t ws d e =
+pub play-taken : (t ws : List ℕ) (d : Done Heard (List ℕ)) → playTold t ws ≡ accepted d → (wellMade t ≡ true) × Taken t ws d
+unfolding playTold playOf
+play-taken t ws d told =
+    let e = told-accepted (whereOf ws) (playOf t ws) d told in
     let w = not-false (wellMade t) (first-passed (tableList t) _ d e .0 .0) in
     (w, step-taken t ws d (sym (play-step t ws w) ∙ e))

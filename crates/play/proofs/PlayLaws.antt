@@ -1,14 +1,17 @@
 -- Playing a packet. The idea: the record of the packet's stream is lent, so the table afterwards is `withRecord` of the record afterwards (`lent-leaves`), and
 -- that is what hearing the packet leaves (`heard-data`, `heard-context`).
-use Rattle.words.proofs.Kit.{_≡_, refl, sym, ap, _∙_, true, false, List, [], _++_, ℕ, _+_, _-_, _≤_, _<_, arith, not-false, length, take, drop, getD}
+use Rattle.words.proofs.Kit.{_≡_, refl, sym, ap, _∙_, true, false, ⊎-elim, List, [], _++_, ℕ, _+_, _-_, _≤_, _<_, arith, not-false, length, take, drop, getD}
 use native.Mathlib.Nat.{le-trans}
 use Rattle.words.specs.Part.{part}
-use Rattle.words.specs.Numbers.{TABLE}
-use Rattle.words.specs.Outcome.{refused, accepted, onward}
+use mathlib.Core.Logic.{_⊎_, inl, inr}
+use Rattle.words.specs.Numbers.{STREAM, TABLE}
+use Rattle.words.specs.Outcome.{Outcome, refused, accepted, onward}
 use Rattle.words.specs.Refusals.{firstGiven}
+use Rattle.words.proofs.Cases.{true-or-false}
 use Rattle.words.proofs.RefusalLaws.{first-passed, onward-first}
 use Rattle.words.proofs.PartLaws.{seen, lent-to, part-length}
 use Rattle.fields.specs.Layout.{contextOf}
+use Rattle.packet.specs.declared.Packet.{Packet}
 use Rattle.packet.specs.Header.{typeOf, countOf}
 use Rattle.packet.specs.Parts.{bodyAt, bodyLength, partsOf, packetOf}
 use Rattle.packet.specs.Read.{listBy, readBy}
@@ -24,6 +27,7 @@ use Rattle.table.proofs.WellLaws.{well-whole, well-record, layout-has}
 use Rattle.play.specs.Play.{tableAfter, heardDone, tableList, streamList, chosen, stepOf, playOf}
 use Rattle.play.specs.inner.Steps.{soughtOf, madeOf}
 use Rattle.play.specs.inner.Entered.{Headed, HeardAs}
+use Rattle.play.proofs.StreamLaws.{sought-number}
 
 -- ---- the record of a stream, as it is lent
 
@@ -119,3 +123,27 @@ module _ (t ws : List ℕ) where
   pub play-step : wellMade t ≡ true → playOf t ws ≡ stepOf t ws
   unfolding playOf stepOf
   play-step w = rw w
+
+  -- on a well-made table a packet is refused by reading, or, where it was read, with STREAM
+  abbrev pub Unheard : ℕ → Type 0
+  Unheard n = (readBy (chosen t ws) ws ≡ refused n) ⊎ ((n ≡ STREAM) × ((p : Packet) × (readBy (chosen t ws) ws ≡ accepted p)))
+
+  unsought : (p : Packet) → readBy (chosen t ws) ws ≡ accepted p → (o : Outcome ℕ) (n : ℕ) → soughtOf (p .parts .kind) (p .parts .identifier) t ≡ o
+      → onward o (λ s. accepted (heardDone p s t ws)) ≡ refused n → Unheard n
+  unsought p e (refused m) n f g = inr (cc (sought-number (p .parts .kind) (p .parts .identifier) t m f), (p, e))
+  unsought p e (accepted s) n f g = let z : _≡_ {A = ℕ} 0 1 = cc in absurd (omega arith)
+
+  unstepped : (o : Outcome Packet) (n : ℕ) → readBy (chosen t ws) ws ≡ o
+      → onward o (λ p. onward (soughtOf (p .parts .kind) (p .parts .identifier) t) (λ s. accepted (heardDone p s t ws))) ≡ refused n → Unheard n
+  unstepped (refused m) n e f = let i : m ≡ n = cc in inl (rw (← i) e)
+  unstepped (accepted p) n e f = unsought p e (soughtOf (p .parts .kind) (p .parts .identifier) t) n refl f
+
+  pub step-unheard : (n : ℕ) → wellMade t ≡ true → playOf t ws ≡ refused n → Unheard n
+  step-unheard n w e = unstepped (readBy (chosen t ws) ws) n refl (sym (play-step w ∙ step-read t ws) ∙ e)
+
+  -- and else with TABLE
+  pub play-unheard : (n : ℕ) → playOf t ws ≡ refused n → (n ≡ TABLE) ⊎ Unheard n
+  play-unheard n e =
+      ⊎-elim (λ (w : wellMade t ≡ true). inr (step-unheard n w e))
+      (λ (w : wellMade t ≡ false). let r = sym (play-refuses w) ∙ e in inl (cc))
+      (true-or-false (wellMade t))

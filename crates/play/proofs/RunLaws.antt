@@ -11,7 +11,8 @@ use Rattle.words.specs.declared.Check.the-variants as Check
 use Rattle.words.specs.Numbers.{EMPTY}
 use Rattle.words.specs.Tests.{pick}
 use Rattle.words.specs.Part.{put}
-use Rattle.words.specs.Outcome.{Outcome, refused, accepted, numberOf, checked, Meets}
+use Rattle.words.specs.Outcome.{refused, accepted, numberOf, checked, Meets}
+use Rattle.words.specs.Told.{Told}
 use Rattle.words.specs.Refusals.{firstGiven}
 use Rattle.words.proofs.Cases.{le-or-lt}
 use Rattle.words.proofs.RefusalLaws.{first-refused}
@@ -20,6 +21,7 @@ use Rattle.words.proofs.PartLaws.{lent, put-at, put-length}
 use Rattle.fields.proofs.WalkLaws.{none-left}
 use Rattle.packet.specs.Header.{sizeOf}
 use Rattle.packet.specs.Read.{readBy}
+use Rattle.packet.specs.Told.{whereOf}
 use Rattle.table.specs.Layout.{base}
 use Rattle.table.specs.Well.{wellMade}
 use Rattle.play.specs.declared.Heard.{Heard}
@@ -30,16 +32,17 @@ use Rattle.play.specs.Play.{tableList}
 use Rattle.play.specs.inner.Steps.{madeOf}
 use Rattle.play.specs.Run.{goesOn, saidAt, leftAt, nextOf, entryWords, entryOf, entryAt, wordsOfEntry}
 use Rattle.play.specs.Run.{Walk, ended, before, walkOf, wholeWalk, reachedOf, answersOf, WalkDone, runOf, runPaper}
-use Rattle.play.specs.inner.Entered.{Entered}
+use Rattle.packet.specs.inner.Steps.{Placeable}
+use Rattle.play.specs.inner.Entered.{Entered, Noted, unreadEntry}
 use Rattle.play.proofs.PlayLaws.{made-well}
 use Rattle.play.proofs.KeepLaws.{Kept, nothing-changed, play-keeps}
-use Rattle.play.proofs.EntryLaws.{unread, entered-rest, entered-lent, size-next, size-on}
+use Rattle.play.proofs.EntryLaws.{unread, noted-on, noted-placeable, noted-stopped, entered-rest, entered-lent, size-next, size-on}
 
 -- ---- an entry
 
-entry-length : (o : Outcome Heard) (size : ℕ) → length (entryOf o size) ≡ entryWords
+entry-length : (o : Told Heard) (size : ℕ) → length (entryOf o size) ≡ entryWords
 unfolding entryOf
-entry-length (refused n) size = refl
+entry-length (refused r) size = refl
 entry-length (accepted h) size = refl
 
 at-length : (t ws : List ℕ) (at : ℕ) → length (entryAt t ws at) ≡ entryWords
@@ -134,57 +137,79 @@ running-end {most} {from} {at} {n} {ws} {t₀} {buffer₀} {t} {buffer} p room =
 
 -- ---- a turn of the run, from what its calls ensure
 
-module _ (most from at n : ℕ) (ws t₀ buffer₀ t buffer : List ℕ) (p : Running most ws from t₀ buffer₀ t buffer n (walkOf (most - n) ws at t))
-    (less : n < most) (room : most ≡ length buffer₀ / entryWords) (there : at < length ws) (x : Entry) (left written : List ℕ)
-    (y : Entered t (take (length ws - at) (drop at ws)) 0 x left) (w : written ≡ put (entryWords * n) entryWords (wordsOfEntry x) buffer) where
-  entered : Entered t ws at x left
-  entered = entered-lent y
+module _ (most from at n : ℕ) (ws t₀ buffer₀ t buffer : List ℕ) (p : Running most ws from t₀ buffer₀ t buffer n (walkOf (most - n) ws at t)) where
+  -- the answers stay as long
+  pub written-long : n < most → most ≡ length buffer₀ / entryWords → (x : Entry) (written : List ℕ)
+      → written ≡ put (entryWords * n) entryWords (wordsOfEntry x) buffer → length written ≡ length buffer₀
+  written-long less room x written w =
+      ap length w ∙ put-length (entryWords * n) entryWords (wordsOfEntry x) buffer (omega (arith, p .long)) refl ∙ p .long
 
-  kept : Kept t left
-  unfolding leftAt
-  kept = rw (entered .table) (play-keeps t (drop at ws))
+  module _ (less : n < most) (room : most ≡ length buffer₀ / entryWords) (there : at < length ws) (x : Entry) (left written : List ℕ)
+      (entered : Entered t ws at x left) (w : written ≡ put (entryWords * n) entryWords (wordsOfEntry x) buffer) where
+    kept : Kept t left
+    unfolding leftAt
+    kept = rw (entered .table) (play-keeps t (drop at ws))
 
-  abbrev more : Walk
-  more = pick (goesOn (saidAt t ws at)) (walkOf (most - (n + 1)) ws (nextOf t ws at) (leftAt t ws at)) (ended (nextOf t ws at) (leftAt t ws at))
+    abbrev more : Walk
+    more = pick (goesOn (saidAt t ws at)) (walkOf (most - (n + 1)) ws (nextOf t ws at) (leftAt t ws at)) (ended (nextOf t ws at) (leftAt t ws at))
 
-  turn : Running most ws from t₀ buffer₀ left written (n + 1) more
-  turn =
-      let many : entryWords * n + entryWords ≡ entryWords * (n + 1) = omega arith in
-      let k : most - n ≡ suc (most - (n + 1)) = omega arith in
-      record {
-        few = omega arith;
-        well = kept .well (p .well);
-        same = kept .whole ∙ p .same;
-        long = ap length w ∙ put-length (entryWords * n) entryWords (wordsOfEntry x) buffer (omega (arith, p .long)) refl ∙ p .long;
-        entries = p .entries ++ wordsOfEntry x;
-        size = length-append (p .entries) (wordsOfEntry x) ∙ omega (arith, p .size);
-        wrote =
-            w ∙ ap (put (entryWords * n) entryWords (wordsOfEntry x)) (p .wrote)
-            ∙ put-at (entryWords * n) entryWords (p .entries) (drop (entryWords * n) buffer₀) (wordsOfEntry x) (p .size)
-            ∙ ap (λ (l : List ℕ). p .entries ++ (wordsOfEntry x ++ l)) (drop-drop entryWords (entryWords * n) buffer₀ ∙ ap (λ (m : ℕ). drop m buffer₀) many)
-            ∙ sym (append-assoc (p .entries) (wordsOfEntry x) (drop (entryWords * (n + 1)) buffer₀));
-        is =
-            p .is ∙ ap (onto n (p .entries)) (walk-more (most - n) (most - (n + 1)) ws at t k there)
-            ∙ onto-before n (p .entries) (entryAt t ws at) more
-            ∙ ap (λ (l : List ℕ). onto (n + 1) (p .entries ++ l) more) (sym (entered .entry));
-      }
+    turn : Running most ws from t₀ buffer₀ left written (n + 1) more
+    turn =
+        let many : entryWords * n + entryWords ≡ entryWords * (n + 1) = omega arith in
+        let k : most - n ≡ suc (most - (n + 1)) = omega arith in
+        record {
+          few = omega arith;
+          well = kept .well (p .well);
+          same = kept .whole ∙ p .same;
+          long = written-long less room x written w;
+          entries = p .entries ++ wordsOfEntry x;
+          size = length-append (p .entries) (wordsOfEntry x) ∙ omega (arith, p .size);
+          wrote =
+              w ∙ ap (put (entryWords * n) entryWords (wordsOfEntry x)) (p .wrote)
+              ∙ put-at (entryWords * n) entryWords (p .entries) (drop (entryWords * n) buffer₀) (wordsOfEntry x) (p .size)
+              ∙ ap (λ (l : List ℕ). p .entries ++ (wordsOfEntry x ++ l)) (drop-drop entryWords (entryWords * n) buffer₀ ∙ ap (λ (m : ℕ). drop m buffer₀) many)
+              ∙ sym (append-assoc (p .entries) (wordsOfEntry x) (drop (entryWords * (n + 1)) buffer₀));
+          is =
+              p .is ∙ ap (onto n (p .entries)) (walk-more (most - n) (most - (n + 1)) ws at t k there)
+              ∙ onto-before n (p .entries) (entryAt t ws at) more
+              ∙ ap (λ (l : List ℕ). onto (n + 1) (p .entries ++ l) more) (sym (entered .entry));
+        }
 
-  -- the walk goes on, or stops behind the packet
-  pub turned : (x .size ≡ 0 → ⊥) → Running most ws from t₀ buffer₀ left written (n + 1) (walkOf (most - (n + 1)) ws (at + x .size) left)
-  turned z =
-      let g : goesOn (saidAt t ws at) ≡ true = sym (size-on (p .well) entered) ∙ rw (ne-eqb (x .size) 0 z) in
-      rw (size-next (p .well) entered, entered .table) (rw (entered .table, g) at turn)
+    -- the walk goes on, or stops behind the packet
+    turn-on : (x .size ≡ 0 → ⊥) → Running most ws from t₀ buffer₀ left written (n + 1) (walkOf (most - (n + 1)) ws (at + x .size) left)
+    turn-on z =
+        let g : goesOn (saidAt t ws at) ≡ true = sym (size-on (p .well) entered) ∙ rw (ne-eqb (x .size) 0 z) in
+        rw (size-next (p .well) entered, entered .table) (rw (entered .table, g) at turn)
 
-  pub stopped : x .size ≡ 0 → Running most ws from t₀ buffer₀ left written (n + 1) (ended (at + x .size) left)
-  stopped z =
-      let g : goesOn (saidAt t ws at) ≡ false = sym (size-on (p .well) entered) ∙ rw z in
-      rw (size-next (p .well) entered, entered .table) (rw (entered .table, g) at turn)
+    turn-stops : x .size ≡ 0 → Running most ws from t₀ buffer₀ left written (n + 1) (ended at left)
+    turn-stops z =
+        let g : goesOn (saidAt t ws at) ≡ false = sym (size-on (p .well) entered) ∙ rw z in
+        let here : nextOf t ws at ≡ at = sym (size-next (p .well) entered) ∙ ap (λ (m : ℕ). at + m) z ∙ add-zero at in
+        rw (entered .table) (rw (entered .table, g, here) at turn)
 
-  pub stopped-same : x .size ≡ 0 → length left ≡ length t₀
-  stopped-same z = stopped z .same
+  -- by what is noted of the packet, which is its entry where the walk goes on; where it stops, the entry has the place too
+  module _ (x : Entry) (left : List ℕ) (y : Noted t (take (length ws - at) (drop at ws)) x left) where
+    abbrev lent-words : List ℕ
+    lent-words = take (length ws - at) (drop at ws)
 
-  pub stopped-long : x .size ≡ 0 → length written ≡ length buffer₀
-  stopped-long z = stopped z .long
+    pub stopped-placeable : x .size ≡ 0 → Placeable (x .number) (take (length ws - at) (drop at ws))
+    stopped-placeable z = noted-placeable t lent-words left x (p .well) y z
+
+    module _ (less : n < most) (room : most ≡ length buffer₀ / entryWords) (there : at < length ws) (written : List ℕ) where
+      pub turned : (x .size ≡ 0 → ⊥) → written ≡ put (entryWords * n) entryWords (wordsOfEntry x) buffer
+          → Running most ws from t₀ buffer₀ left written (n + 1) (walkOf (most - (n + 1)) ws (at + x .size) left)
+      turned z w = turn-on less room there x left written (entered-lent (noted-on t lent-words left x (p .well) y z)) w z
+
+      module _ (z : x .size ≡ 0) (r : Entry) (e : r ≡ unreadEntry (x .number) (take (length ws - at) (drop at ws)))
+          (w : written ≡ put (entryWords * n) entryWords (wordsOfEntry r) buffer) where
+        stopped : Running most ws from t₀ buffer₀ left written (n + 1) (ended at left)
+        stopped = turn-stops less room there r left written (entered-lent (noted-stopped t lent-words left x (p .well) y z r e)) w (rw e)
+
+        pub stopped-same : length left ≡ length t₀
+        stopped-same = stopped .same
+
+        pub stopped-done : WalkDone (wholeWalk t₀ ws from buffer₀) buffer₀ (record { packets = n + 1; next = at }) left written
+        stopped-done = running-end stopped room
 
 -- ---- a run with room for one entry
 
@@ -202,11 +227,12 @@ module _ (t ws : List ℕ) (at : ℕ) where
 
   module _ (x : Entry) (r : Reached) (left : List ℕ) (w : wellMade t ≡ true) where
     one-over : length ws ≤ at → WalkDone (wholeWalk t ws at blank) blank r left (wordsOfEntry x) → Entered t ws at x left
-    unfolding wholeWalk readBy
+    unfolding wholeWalk readBy whereOf
     one-over h d =
         let o = walk-over 1 ws at t h in
         let e : drop at ws ≡ [] = none-left (drop at ws) (omega (arith, length-drop at ws)) in
-        let y : Entered t ws at (record { number = EMPTY; size = 0; kind = 0; stream = 0; missing = 0 }) t = entered-rest (rw e (unread t [] w EMPTY refl)) in
+        let y : Entered t ws at (record { number = EMPTY; size = 0; what = 0; which = 0; missing = 0 }) t =
+        entered-rest (rw e (unread t [] w EMPTY refl)) in
         record { entry = d .answers ∙ rw o (y .entry); table = d .table ∙ rw o (y .table) }
 
     one-more : at < length ws → WalkDone (wholeWalk t ws at blank) blank r left (wordsOfEntry x) → Entered t ws at x left

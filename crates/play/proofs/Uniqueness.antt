@@ -1,8 +1,9 @@
 -- Two answers that meet the promise of a public call are equal, with the table that they leave: `playedPaper` has a left inverse.
 use Rattle.words.proofs.Kit.{_≡_, refl, List, ℕ}
 use Rattle.words.specs.Outcome.{Outcome, refused, accepted, Meets}
+use Rattle.words.specs.Told.{Told}
 use Rattle.words.proofs.Once.{meets-once}
-use Rattle.play.specs.Play.{playOf, playedPaper}
+use Rattle.play.specs.Play.{playTold, playedPaper}
 use Rattle.play.specs.Run.{runOf, runPaper}
 use Rattle.play.specs.declared.Heard.{Heard}
 use Rattle.play.specs.declared.Played.{Played}
@@ -11,7 +12,7 @@ use Rattle.play.specs.declared.run.Reached.{Reached}
 use Rattle.play.specs.declared.run.Ran.{Ran}
 use Rattle.play.specs.declared.run.Ran.the-variants as Run
 
-playedBack : Outcome Heard → Played
+playedBack : Told Heard → Played
 playedBack (refused n) = Refused n
 playedBack (accepted h) = Accepted h
 
@@ -20,8 +21,8 @@ unfolding playedBack
 played-back (Refused n) = refl
 played-back (Accepted h) = refl
 
-pub play-once : (t ws : List ℕ) {r s : Played} {after after′ : List ℕ} → Meets playedPaper (playOf t ws) t r after → Meets playedPaper (playOf t ws) t s after′
-    → (r ≡ s) × (after ≡ after′)
+pub play-once : (t ws : List ℕ) {r s : Played} {after after′ : List ℕ} → Meets playedPaper (playTold t ws) t r after
+    → Meets playedPaper (playTold t ws) t s after′ → (r ≡ s) × (after ≡ after′)
 play-once t ws = meets-once playedPaper playedBack played-back
 
 ranBack : Outcome Reached → Ran

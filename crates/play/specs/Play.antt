@@ -1,14 +1,16 @@
 -- Document 01: "Play: TABLE, read order, STREAM". "Play answers size, type, stream number (place in the list, from 0) and missing added." Document 02, C-13:
--- each packet is read by its stream's choice; "packets of no declared stream .. stay plain".
+-- each packet is read by its stream's choice; "packets of no declared stream .. stay plain". C-15: "Play passes it on", the place of a refusal.
 use Rattle.words.specs.Kit.{ℕ, Bool, not, List, [], _∷_, _++_, leb, getD}
 use Rattle.words.specs.Numbers.{STREAM, TABLE}
 use Rattle.words.specs.Tests.{among, either}
 use Rattle.words.specs.Part.{part}
 use Rattle.words.specs.Outcome.{Outcome, refused, accepted, Done}
 use Rattle.words.specs.Refusals.{Refusals, firstGiven}
+use Rattle.words.specs.Told.{Told, told}
 use Rattle.packet.specs.declared.Packet.{Packet}
 use Rattle.packet.specs.Parts.{packetOf}
 use Rattle.packet.specs.Read.{listBy}
+use Rattle.packet.specs.Told.{whereOf}
 use Rattle.record.specs.After.{recordAfter, addedBy}
 use Rattle.table.specs.Layout.{streamsOf, recordAt, withRecord}
 use Rattle.table.specs.Identifiers.{streamOf, surveyed}
@@ -62,8 +64,12 @@ stepOf t ws = let p = packetOf (getD ws 0 0) ws in firstGiven (stepList t ws) (a
 unfoldable pub playOf : List ℕ → List ℕ → Outcome (Done Heard (List ℕ))
 playOf t ws = let p = packetOf (getD ws 0 0) ws in firstGiven (playList t ws) (accepted (heardDone p (streamOf (p .parts .identifier) t) t ws))
 
--- ---- the numbers and values of answers
+-- with the place of each refusal
+unfoldable pub playTold : List ℕ → List ℕ → Told (Done Heard (List ℕ))
+playTold t ws = told (whereOf ws) (playOf t ws)
 
-abbrev pub playedPaper : Played → Outcome Heard
+-- ---- the refusals and values of answers
+
+abbrev pub playedPaper : Played → Told Heard
 playedPaper (Refused n) = refused n
 playedPaper (Accepted h) = accepted h

@@ -5,6 +5,7 @@ use Rattle.words.specs.Numbers.{STREAM}
 use Rattle.words.specs.Tests.{pick, when}
 use Rattle.words.specs.Outcome.{Outcome, refused, accepted, Done, saidOf, leftOf}
 use Rattle.words.specs.Refusals.{firstGiven}
+use Rattle.words.specs.Told.{Told, wordOf, bitOf}
 use Rattle.packet.specs.Header.{sizeOf}
 use Rattle.play.specs.declared.Heard.{Heard}
 use Rattle.play.specs.declared.step.Happened.{Happened}
@@ -12,21 +13,21 @@ use Rattle.play.specs.declared.run.Entry.{Entry}
 use Rattle.play.specs.declared.run.Reached.{Reached}
 use Rattle.play.specs.declared.run.Ran.{Ran}
 use Rattle.play.specs.declared.run.Ran.the-variants.{Accepted, Refused}
-use Rattle.play.specs.Play.{tableList, playOf, playedPaper}
+use Rattle.play.specs.Play.{tableList, playTold, playedPaper}
 
 -- ---- one step
 
 -- a walk goes on behind a packet that is heard, and behind one of no declared stream
-abbrev pub goesOn : Outcome Heard → Bool
-goesOn (refused n) = eqb n STREAM
+abbrev pub goesOn : Told Heard → Bool
+goesOn (refused r) = eqb (r .number) STREAM
 goesOn (accepted h) = true
 
 -- what play says of the packet at a place, and the table that it leaves
-unfoldable pub saidAt : List ℕ → List ℕ → ℕ → Outcome Heard
-saidAt t ws at = saidOf (playOf t (drop at ws))
+unfoldable pub saidAt : List ℕ → List ℕ → ℕ → Told Heard
+saidAt t ws at = saidOf (playTold t (drop at ws))
 
 unfoldable pub leftAt : List ℕ → List ℕ → ℕ → List ℕ
-leftAt t ws at = leftOf (playOf t (drop at ws)) t
+leftAt t ws at = leftOf (playTold t (drop at ws)) t
 
 -- the place of the next packet: past this one, or this one's own where the walk stops
 unfoldable pub nextOf : List ℕ → List ℕ → ℕ → ℕ
@@ -44,16 +45,16 @@ pub record Stepped (t ws : List ℕ) (at : ℕ) (r : Happened) (left : List ℕ)
 abbrev pub entryWords : ℕ
 entryWords = 5
 
--- the refusal's number or 0; the words that the walk goes on by; type, stream and missing, zero of a refusal
-unfoldable pub entryOf : Outcome Heard → ℕ → List ℕ
-entryOf (refused n) size = n ∷ when (eqb n STREAM) size ∷ 0 ∷ 0 ∷ 0 ∷ []
+-- the refusal's number or 0; the words that the walk goes on by; type, stream and missing, or of a refusal the word and the bit that are told, and 0
+unfoldable pub entryOf : Told Heard → ℕ → List ℕ
+entryOf (refused r) size = r .number ∷ when (eqb (r .number) STREAM) size ∷ wordOf (r .place) ∷ bitOf (r .place) ∷ 0 ∷ []
 entryOf (accepted h) size = 0 ∷ size ∷ h .kind ∷ h .stream ∷ h .missing ∷ []
 
 unfoldable pub entryAt : List ℕ → List ℕ → ℕ → List ℕ
 entryAt t ws at = entryOf (saidAt t ws at) (sizeOf (getD ws at 0))
 
 abbrev pub wordsOfEntry : Entry → List ℕ
-wordsOfEntry e = e .number ∷ e .size ∷ e .kind ∷ e .stream ∷ e .missing ∷ []
+wordsOfEntry e = e .number ∷ e .size ∷ e .what ∷ e .which ∷ e .missing ∷ []
 
 -- ---- many
 

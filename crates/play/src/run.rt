@@ -9,13 +9,17 @@ ghost use Rattle.play.specs.inner.Entered.{Entered};
 // The words that are written of each packet.
 pub const ENTRY_WORDS: usize = 5;
 
-// An entry: the refusal's number or 0; the words that the walk goes on by; type, stream and missing, zero of a refusal. An enum in its place would be kept in
-// memory and cost a third more.
+// An entry. An enum in its place would be kept in memory and cost a third more.
 pub struct Entry {
+    // the refusal's number, or 0
     pub number: u32,
+    // the words that the walk goes on by
     pub size: usize,
-    pub kind: u32,
-    pub stream: u32,
+    // the type; of a refusal, the word that is told
+    pub what: u32,
+    // the stream; of a refusal, the bit that is told, or 0
+    pub which: u32,
+    // the missing that the packet adds; 0 of a refusal
     pub missing: u32,
 }
 
@@ -38,8 +42,8 @@ fn store(place: &mut [u32], e: Entry)
 {
     place[0] = e.number;
     place[1] = e.size as u32;
-    place[2] = e.kind;
-    place[3] = e.stream;
+    place[2] = e.what;
+    place[3] = e.which;
     place[4] = e.missing;
 }
 
@@ -50,8 +54,8 @@ fn load(entry: [u32; ENTRY_WORDS]) -> Entry
     Entry {
         number: entry[0],
         size: entry[1] as usize,
-        kind: entry[2],
-        stream: entry[3],
+        what: entry[2],
+        which: entry[3],
         missing: entry[4],
     }
 }
@@ -81,15 +85,17 @@ pub fn run_on(table: &mut [u32], recording: &[u32], from: usize, answers: &mut [
             };
         }
         let e = crate::entries::enter(table, &recording[at..]);
-        write_entry(answers, ENTRY_WORDS * n, e);
-        n += 1;
-        at += e.size;
         if e.size == 0 {
+            let told = crate::entries::entry_unread(e.number, &recording[at..]);
+            write_entry(answers, ENTRY_WORDS * n, told);
             return Reached {
-                packets: n,
+                packets: n + 1,
                 next: at,
             };
         }
+        write_entry(answers, ENTRY_WORDS * n, e);
+        n += 1;
+        at += e.size;
     }
     Reached {
         packets: n,

@@ -1,10 +1,14 @@
 -- What the functions inside promise of one packet: its header, its stream, what hearing it leaves, and its entry, which is what play says of it as numbers.
-use Rattle.words.specs.Kit.{_≡_, ℕ, Bool, List, eqb, leb, getD}
-use Rattle.words.specs.Numbers.{STREAM}
-use Rattle.words.specs.Tests.{pick}
+use Rattle.words.specs.Kit.{_≡_, ℕ, Bool, List, [], _∷_, eqb, leb, getD}
+use Rattle.words.specs.declared.Where.the-variants.{Word, Field}
+use Rattle.words.specs.Numbers.{FIELD, STREAM}
+use Rattle.words.specs.Tests.{pick, when}
 use Rattle.words.specs.Outcome.{Outcome, refused, accepted}
-use Rattle.packet.specs.Parts.{packetOf}
+use Rattle.words.specs.Told.{Told, refusal, wordOf, bitOf}
+use Rattle.packet.specs.Header.{sizeOf}
+use Rattle.packet.specs.Parts.{streamed, packetOf}
 use Rattle.packet.specs.Read.{readBy}
+use Rattle.packet.specs.Told.{whereOf}
 use Rattle.packet.specs.inner.Steps.{sizedChecks}
 use Rattle.record.specs.Layout.{choiceOf}
 use Rattle.record.specs.After.{addedBy}
@@ -14,7 +18,7 @@ use Rattle.play.specs.declared.Heard.{Heard}
 use Rattle.play.specs.declared.run.Entry.{Entry}
 use Rattle.play.specs.Play.{tableAfter, chosen}
 use Rattle.play.specs.inner.Steps.{soughtOf}
-use Rattle.play.specs.Run.{leftAt, entryAt, wordsOfEntry}
+use Rattle.play.specs.Run.{saidAt, leftAt, entryAt, wordsOfEntry}
 
 -- the stream of an identifier; STREAM: "one not declared"
 abbrev pub declaredOf : ℕ → List ℕ → Outcome ℕ
@@ -48,6 +52,36 @@ pub record Entered (t ws : List ℕ) (at : ℕ) (r : Entry) (left : List ℕ) : 
   pub entry : wordsOfEntry r ≡ entryAt t ws at
   pub table : left ≡ leftAt t ws at
 
--- what an entry says of its packet: it is heard where the number is 0
-abbrev pub saidBy : Entry → Outcome Heard
-saidBy e = pick (eqb (e .number) 0) (accepted (record { size = e .size; kind = e .kind; stream = e .stream; missing = e .missing })) (refused (e .number))
+-- what an entry says of its packet: it is heard where the number is 0; else it is refused, at a field with FIELD, and at a word with another number
+abbrev pub saidBy : Entry → Told Heard
+saidBy e =
+    pick (eqb (e .number) 0) (accepted (record { size = e .size; kind = e .what; stream = e .which; missing = e .missing }))
+    (refused (refusal (e .number) (pick (eqb (e .number) FIELD) (Field (e .what) (e .which)) (Word (e .what)))))
+
+-- what is noted of a packet that is played on a table which is well made, before the place of what reading refuses is worked out, and the table afterwards
+abbrev pub notedOf : Told Heard → ℕ → List ℕ
+notedOf (refused r) size =
+    let goes = eqb (r .number) STREAM in
+    r .number ∷ when goes size ∷ when goes (wordOf (r .place)) ∷ 0 ∷ 0 ∷ []
+notedOf (accepted h) size = 0 ∷ size ∷ h .kind ∷ h .stream ∷ h .missing ∷ []
+
+pub record Noted (t ws : List ℕ) (r : Entry) (left : List ℕ) : Type 0 where
+  pub note : wordsOfEntry r ≡ notedOf (saidAt t ws 0) (sizeOf (getD ws 0 0))
+  pub table : left ≡ leftAt t ws 0
+
+-- that of words that reading refuses with a number, and their entry
+abbrev pub unreadNote : ℕ → Entry
+unreadNote number = record { number = number; size = 0; what = 0; which = 0; missing = 0 }
+
+abbrev pub unreadEntry : ℕ → List ℕ → Entry
+unreadEntry number ws = record {
+  number = number;
+  size = 0;
+  what = wordOf (whereOf ws number);
+  which = bitOf (whereOf ws number);
+  missing = 0;
+}
+
+-- the entry of a packet with the header w that is of no stream
+abbrev pub unsoughtEntry : ℕ → ℕ → Entry
+unsoughtEntry number w = record { number = number; size = sizeOf w; what = when (streamed w) 1; which = 0; missing = 0 }

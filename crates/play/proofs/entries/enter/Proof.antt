@@ -1,7 +1,7 @@
 -- `enter` meets its promise: a refusal of the header or the size is given, and else the packet is entered by its type.
 use Rattle.words.proofs.Kit.{_≡_, sym, _∙_, ℕ, needs}
 use Rattle.play.proofs.CheckedLaws.{unread-sized, has-header, is-sized}
-use Rattle.play.proofs.EntryLaws.{entered-unread}
+use Rattle.play.proofs.EntryLaws.{noted-unread}
 use Rattle.play.proofs.entries.enter.Statement.{statement}
 use Rattle.play.proofs.entries.enter.Tie as tie
 
@@ -18,5 +18,5 @@ enter-spec =
     tie.close
     (tie.spec
     (λ c κs. search needs) (λ c. search needs) (λ c. search needs) (λ c κs. search needs) (λ c κs. search needs)
-    (λ c. search (entered-unread, unread-sized)) (λ c. search has-header) (λ c κs. search needs) (λ c κs. search (is-sized, not-four))
+    (λ c. search (noted-unread, unread-sized)) (λ c. search has-header) (λ c κs. search needs) (λ c κs. search (is-sized, not-four))
     (λ c. search needs) (λ c. search needs) (λ c κs. search (is-sized, is-four)) (λ c. search needs) (λ c. search needs))
