@@ -7,8 +7,9 @@
 
    A call answers a number: VRT49_OK, which is 0, where it is accepted, and only there; else the
    number of the first refusal that applies (enum vrt49_refusal). vrt49_field_count and
-   vrt49_well_made refuse nothing and answer their value. A refusal changes nothing that was handed
-   over.
+   vrt49_well_made refuse nothing and answer their value. What vrt49_read, vrt49_read_survey and
+   vrt49_play answer says besides which word of the packet is refused: VRT49_NUMBER, VRT49_PLACE and
+   VRT49_BIT take it apart. A refusal changes nothing that was handed over.
 
    Words are numbers of 32 bits in the host's own order: a recording's bytes are put into that order
    before a call sees them (examples/c/tuning.c does it). A buffer is a pointer and its number of
@@ -16,7 +17,7 @@
 
    Calls are reentrant: nothing is kept between them, nothing is shared, and nothing is allocated;
    threads may call at once, where none writes what another has handed over.
-   The stack that a call takes is fixed: 536 bytes for vrt49_put_back, and less than 400 for every
+   The stack that a call takes is fixed: 536 bytes for vrt49_put_back, and less than 500 for every
    other (`make stack`). memcpy, memmove and memset are all that is asked of the C library.
 
    What a call costs in S, the number of streams: vrt49_play, vrt49_well_made, vrt49_page_length,
@@ -24,7 +25,7 @@
    vrt49_counts and vrt49_own_table test a whole table each time, 270 to 530 instructions for each
    stream that holds six fields, and vrt49_changed tests two; of a stream's fields vrt49_readings
    gives all for one test. vrt49_play_run is the fast one: it tests the table once, and then takes
-   117 instructions for a sample packet, 216 for one of 49A, and 6 for each stream before its own
+   109 instructions for a sample packet, 212 for one of 49A, and 6 for each stream before its own
    (docs/SPEED.md).
 
    What a caller owes: every pointer is valid, and aligned as its type asks; a buffer has as many
@@ -40,7 +41,7 @@
 #include <stdint.h>
 
 #define VRT49_VERSION_MAJOR 0
-#define VRT49_VERSION_MINOR 15
+#define VRT49_VERSION_MINOR 16
 #define VRT49_VERSION_PATCH 0
 
 #ifdef __cplusplus
@@ -49,7 +50,7 @@ extern "C" {
 
 /* ---- numbers */
 
-/* What a call answers: 0, or the number of a refusal. docs/MANUAL.md says what to do. */
+/* The numbers of refusals, and 0. docs/MANUAL.md says what to do. */
 enum vrt49_refusal {
     VRT49_OK = 0,
     VRT49_EMPTY = 1,     /* no words */
@@ -76,10 +77,34 @@ enum vrt49_refusal {
                             payload that is not whole sample vectors and its padding */
 };
 
-/* The name of a number that a call answered, "OK" of 0; "?" of one that no call answers. */
+/* A refusal as vrt49_read, vrt49_read_survey and vrt49_play give it: its number, in bits 7-0; of
+   FIELD the bit of the field, in bits 15-8, which are 0 of every other; and the place of the word
+   that is refused, in bits 31-16: from the packet's header on, whose place is 0. Each macro gives
+   one of them, and evaluates the refusal once. Of VRT49_OK all three are 0.
+
+       uint32_t refusal = vrt49_read(words, n, &packet);
+       if (VRT49_NUMBER(refusal) == VRT49_FIELD)
+           printf("field %u, at word %u\n", VRT49_BIT(refusal), VRT49_PLACE(refusal));
+
+   The places are:
+
+       EMPTY, TYPE, BITS, SHORT, CUT   0, the header
+       CLASS                           the class's first word
+       TIME                            the fraction's first word
+       INDICATOR, LAYOUT               the indicator word
+       FIELD                           the first word of the highest field that breaks its rule
+       PAD                             the class's first word, or 0 where there is no class
+       STREAM                          1, the identifier, or 0 where there is none
+       TABLE                           none: it is of no packet, and 18 alone is given */
+#define VRT49_NUMBER(refusal) ((uint32_t)(refusal) & 0xFFu)
+#define VRT49_BIT(refusal) ((uint32_t)(refusal) >> 8 & 0xFFu)
+#define VRT49_PLACE(refusal) ((uint32_t)(refusal) >> 16)
+
+/* The name of a number that a call answered, "OK" of 0; "?" of one that no call answers. It looks
+   at bits 7-0 alone, so it takes a refusal with its place too. */
 static inline const char *vrt49_name(uint32_t number)
 {
-    switch (number) {
+    switch (VRT49_NUMBER(number)) {
     case VRT49_OK: return "OK";
     case VRT49_EMPTY: return "EMPTY";
     case VRT49_TYPE: return "TYPE";
@@ -174,6 +199,37 @@ enum vrt49_bit {
     VRT49_BIT_GPS_ASCII = 9,                      /* says its own length; not held */
     VRT49_BIT_LISTS = 8                           /* says its own length; not held */
 };
+
+/* The name of a field by its bit; "?" of a bit that has none. */
+static inline const char *vrt49_field_name(uint32_t bit)
+{
+    switch (bit) {
+    case VRT49_BIT_REFERENCE_POINT: return "reference point";
+    case VRT49_BIT_BANDWIDTH: return "bandwidth";
+    case VRT49_BIT_IF_REFERENCE_FREQUENCY: return "IF reference frequency";
+    case VRT49_BIT_RF_REFERENCE_FREQUENCY: return "RF reference frequency";
+    case VRT49_BIT_RF_REFERENCE_FREQUENCY_OFFSET: return "RF reference frequency offset";
+    case VRT49_BIT_IF_BAND_OFFSET: return "IF band offset";
+    case VRT49_BIT_LEVEL: return "level";
+    case VRT49_BIT_GAIN: return "gain";
+    case VRT49_BIT_OVER_RANGE_COUNT: return "over-range count";
+    case VRT49_BIT_SAMPLE_RATE: return "sample rate";
+    case VRT49_BIT_TIMESTAMP_ADJUSTMENT: return "timestamp adjustment";
+    case VRT49_BIT_TIMESTAMP_CALIBRATION_TIME: return "timestamp calibration time";
+    case VRT49_BIT_TEMPERATURE: return "temperature";
+    case VRT49_BIT_DEVICE: return "device";
+    case VRT49_BIT_STATE: return "state";
+    case VRT49_BIT_FORMAT: return "format";
+    case VRT49_BIT_GPS_GEOLOCATION: return "GPS geolocation";
+    case VRT49_BIT_INS_GEOLOCATION: return "INS geolocation";
+    case VRT49_BIT_ECEF_EPHEMERIS: return "ECEF ephemeris";
+    case VRT49_BIT_RELATIVE_EPHEMERIS: return "relative ephemeris";
+    case VRT49_BIT_EPHEMERIS_REFERENCE: return "ephemeris reference";
+    case VRT49_BIT_GPS_ASCII: return "GPS ASCII";
+    case VRT49_BIT_LISTS: return "lists";
+    default: return "?";
+    }
+}
 
 /* The bits of a trailer's enables and of its indicators: one says something where both are set. */
 enum vrt49_trailer_bit {
@@ -333,13 +389,14 @@ typedef struct vrt49_heard {
     uint32_t missing; /* counts passed over before it, 0 to 15 */
 } vrt49_heard;
 
-/* What a run says of each packet. */
+/* What a run says of each packet. Where it is refused, the members type and stream have the place
+   and the bit of the refusal; vrt49_entry_refusal gives all three in one. */
 typedef struct vrt49_entry {
-    uint32_t number;  /* 0, or the number of a refusal; then the last three are 0 */
+    uint32_t number;  /* 0, or the number of a refusal alone */
     uint32_t size;    /* words that the run goes on by; 0 where a refusal ends it */
-    uint32_t type;    /* enum vrt49_type */
-    uint32_t stream;  /* place in the list of identifiers, from 0 */
-    uint32_t missing; /* counts passed over before it, 0 to 15 */
+    uint32_t type;    /* enum vrt49_type; of a refusal, the place of the refused word */
+    uint32_t stream;  /* place in the list of identifiers, from 0; of a refusal, the bit or 0 */
+    uint32_t missing; /* counts passed over before it, 0 to 15; of a refusal, 0 */
 } vrt49_entry;
 
 /* What a stream counted of a type. */
@@ -390,7 +447,8 @@ VRT49_ASSERT(vrt49_sizes_have_64_bits, sizeof(size_t) == 8);
 
 /* ---- packets, trailers and the fields of a body */
 
-/* Reads the packet at the front of the words: EMPTY to FIELD (1 to 10 as listed). */
+/* Reads the packet at the front of the words: EMPTY to FIELD (1 to 10 as listed). A refusal has its
+   place. */
 uint32_t vrt49_read(const uint32_t *words, size_t n, vrt49_packet *answer);
 
 /* Writes a packet into out from word `at` on; the other words of out stay: TYPE, VALUE (also for C,
@@ -401,7 +459,7 @@ uint32_t vrt49_write(const vrt49_parts *parts, const uint32_t *body, size_t body
 
 /* Reads the packet at the front of the words as 49A, as vrt49_play reads a packet of a stream that
    has VRT49_SURVEY: EMPTY to FIELD (as in vrt49_read, but CLASS not of type 1), PAD (of type 1
-   alone). Packets of other types are read as vrt49_read reads them. */
+   alone). A refusal has its place. Packets of other types are read as vrt49_read reads them. */
 uint32_t vrt49_read_survey(const uint32_t *words, size_t n, vrt49_survey *answer);
 
 /* Writes a packet as 49A into out from word `at` on, as vrt49_write does: TYPE, VALUE (also for a
@@ -421,7 +479,8 @@ uint32_t vrt49_trailer_word(uint32_t enables, uint32_t indicators, uint32_t e, u
    refused. */
 uint32_t vrt49_field_count(uint32_t indicator);
 
-/* Whether a type 4 body is as document 01 says: INDICATOR, LAYOUT, FIELD. */
+/* Whether a type 4 body is as document 01 says: INDICATOR, LAYOUT, FIELD. A refusal has no place:
+   it is the number alone. */
 uint32_t vrt49_check_body(const uint32_t *body, size_t n);
 
 /* Where the field of a bit stands in a type 4 body; nothing is refused. */
@@ -480,18 +539,18 @@ uint32_t vrt49_start(const uint32_t *ids, size_t ids_n, const uint32_t *choices,
 /* Whether a table is well made: 1 or 0. Nothing is refused. */
 uint32_t vrt49_well_made(const uint32_t *table, size_t table_n);
 
-/* Plays the packet at the front of the words: TABLE, EMPTY to FIELD (as in reading), PAD, STREAM. A
-   packet of type 1 whose stream has VRT49_SURVEY is read as vrt49_read_survey does; every other,
-   one of no declared stream too, as vrt49_read does. After STREAM go on by the packet's size, which
-   vrt49_read gives; vrt49_play_run does so itself. */
+/* Plays the packet at the front of the words: TABLE, EMPTY to FIELD (as in reading), PAD, STREAM.
+   A refusal has its place, but for TABLE. A packet of type 1 whose stream has VRT49_SURVEY is read
+   as vrt49_read_survey does; every other, one of no declared stream too, as vrt49_read does. After
+   STREAM go on by the packet's size, which vrt49_read gives; vrt49_play_run does so itself. */
 uint32_t vrt49_play(uint32_t *table, size_t table_n, const uint32_t *words, size_t words_n,
                     vrt49_heard *answer);
 
 /* Plays packets one after the other from word `from` on: TABLE. Each has an entry of five words, as
-   vrt49_entry names them; vrt49_play_entries takes them by name. The run ends where the words end,
-   the answers are full, or a packet is refused but for STREAM. packets: how many have an entry.
-   next: the place after the last of them; where a refusal ended the run, the place of the refused
-   packet. */
+   vrt49_entry names them, that of a refused packet with the place of its refusal;
+   vrt49_play_entries takes them by name. The run ends where the words end, the answers are full, or
+   a packet is refused but for STREAM. packets: how many have an entry. next: the place after the
+   last of them; where a refusal ended the run, the place of the refused packet. */
 uint32_t vrt49_play_run(uint32_t *table, size_t table_n, const uint32_t *words, size_t words_n,
                         size_t from, uint32_t *answers, size_t answers_n, size_t *packets,
                         size_t *next);
@@ -656,6 +715,15 @@ static inline uint32_t vrt49_play_entries(uint32_t *table, size_t table_n, const
 {
     return vrt49_play_run(table, table_n, words, words_n, from, (uint32_t *)entries,
                           VRT49_ENTRY_WORDS * entries_n, packets, next);
+}
+
+/* The refusal of an entry's packet, with its place and its bit, as vrt49_play gives it; VRT49_OK of
+   one that was accepted. Nothing is refused. */
+static inline uint32_t vrt49_entry_refusal(const vrt49_entry *entry)
+{
+    if (entry->number == VRT49_OK)
+        return VRT49_OK;
+    return entry->number | entry->stream << 8 | entry->type << 16;
 }
 
 /* vrt49_reading into a struct: TABLE, STREAM, VALUE. */

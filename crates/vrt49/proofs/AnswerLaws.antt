@@ -3,9 +3,11 @@
 -- inside has said what it leaves in them (`beside-..`).
 use Rattle.words.proofs.Kit.{_≡_, refl, sym, _∙_, ℕ}
 use Rattle.words.specs.declared.Length.{Length}
+use Rattle.words.specs.declared.Refusal.{Refusal}
 use Rattle.words.specs.Outcome.{Outcome, refused, accepted, numberOf, measured, Done, saidOf, leftOf, Meets}
+use Rattle.words.specs.Told.{Told}
 use Rattle.words.proofs.MeetLaws.{said-refused, meets-accepted}
-use Rattle.vrt49.specs.Answers.{Tells, plain, left, beside}
+use Rattle.vrt49.specs.Answers.{Tells, numberFor, inNumber, plain, left, beside}
 
 module _ {A L : Type 0} (values : A → L) (want : Outcome A) (before : L) where
   pub tells-refused : (k : ℕ) → want ≡ refused k → Tells values want before k before
@@ -13,6 +15,14 @@ module _ {A L : Type 0} (values : A → L) (want : Outcome A) (before : L) where
 
   pub tells-values : (a : A) (after : L) → want ≡ accepted a → after ≡ values a → Tells values want before 0 after
   tells-values a after e f = rw (e, f) (record { number = refl; places = refl })
+
+-- the refusal is told where, so that the number has more in it
+module _ {A L : Type 0} (values : A → L) (want : Told A) (before : L) where
+  pub where-refused : (r : Refusal) (k : ℕ) → want ≡ refused r → k ≡ numberFor r → Tells values (inNumber want) before k before
+  where-refused r k e f = rw (e, f) (record { number = refl; places = refl })
+
+  pub where-values : (a : A) (after : L) → want ≡ accepted a → after ≡ values a → Tells values (inNumber want) before 0 after
+  where-values a after e f = rw (e, f) (record { number = refl; places = refl })
 
 -- ---- a call that is lent buffers: r is what the call inside answered, and `after` what it left in them
 
@@ -39,6 +49,21 @@ module _ {A L W R : Type 0} (values : A → W) (paper : R → Outcome A) (want :
   beside-values a new e f =
       let t = meets-accepted m e in
       rw (m .buffer, f) (beside-told values want before old (t .done) a (t .wants) (t .says))
+
+-- and with a refusal that is told where
+beside-where : {A L W : Type 0} (values : A → W) (want : Told (Done A L)) (before : L) (old : W) (d : Done A L) (a : A) → want ≡ accepted d → d .says ≡ a
+    → Tells (beside values) (inNumber want) (before, old) 0 (leftOf want before, values a)
+beside-where values want before old d a e s = rw (e, ← s) (record { number = refl; places = refl })
+
+module _ {A L W R : Type 0} (values : A → W) (paper : R → Told A) (want : Told (Done A L)) (before after : L) (old : W) (r : R)
+    (m : Meets paper want before r after) where
+  pub beside-where-refused : (s : Refusal) (k : ℕ) → paper r ≡ refused s → k ≡ numberFor s → Tells (beside values) (inNumber want) (before, old) k (after, old)
+  beside-where-refused s k e f = rw (m .buffer, said-refused want s (sym (m .answer) ∙ e), f) (record { number = refl; places = refl })
+
+  pub beside-where-values : (a : A) (new : W) → paper r ≡ accepted a → new ≡ values a → Tells (beside values) (inNumber want) (before, old) 0 (after, new)
+  beside-where-values a new e f =
+      let t = meets-accepted m e in
+      rw (m .buffer, f) (beside-where values want before old (t .done) a (t .wants) (t .says))
 
 -- ---- a length that is given on
 

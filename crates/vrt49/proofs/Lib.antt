@@ -12,5 +12,7 @@ pub mod SmallLaws
 pub mod ReadingLaws
 -- what all readings of a stream tell
 pub mod ColumnLaws
+-- the number of a refusal that is told where
+pub mod NumberLaws
 -- what holds of every call
 pub mod CallLaws

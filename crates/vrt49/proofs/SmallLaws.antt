@@ -7,7 +7,7 @@ use Rattle.table.proofs.WellLaws.{well-few}
 use Rattle.play.specs.declared.Heard.{Heard}
 use Rattle.play.specs.declared.Played.{Played}
 use Rattle.play.specs.declared.Played.the-variants.{Accepted}
-use Rattle.play.specs.Play.{chosen, heardOf, playOf, playedPaper}
+use Rattle.play.specs.Play.{chosen, heardOf, playTold, playedPaper}
 use Rattle.play.proofs.StreamLaws.{sought-below}
 use Rattle.play.proofs.KeepLaws.{play-taken}
 
@@ -15,7 +15,7 @@ use Rattle.play.proofs.KeepLaws.{play-taken}
 abbrev SmallHeard : Heard → Type 0
 SmallHeard h = (h .size < 2 ^ 16) × (h .stream ≤ 31)
 
-heard-few : (t ws : List ℕ) (d : Done Heard (List ℕ)) → playOf t ws ≡ accepted d → SmallHeard (d .says)
+heard-few : (t ws : List ℕ) (d : Done Heard (List ℕ)) → playTold t ws ≡ accepted d → SmallHeard (d .says)
 unfolding heardOf
 heard-few t ws d e =
     let k = play-taken t ws d e in
@@ -23,7 +23,7 @@ heard-few t ws d e =
     rw (← p .says)
     (size-small (chosen t ws) ws (p .packet) (p .reads), omega (arith, sought-below _ _ t (p .stream) (p .seeks), well-few t (k .0)))
 
-pub heard-small : (t ws left : List ℕ) (r : Played) (h : Heard) → Meets playedPaper (playOf t ws) t r left → r ≡ Accepted h
+pub heard-small : (t ws left : List ℕ) (r : Played) (h : Heard) → Meets playedPaper (playTold t ws) t r left → r ≡ Accepted h
     → (h .size < 2 ^ 16) × (h .stream ≤ 31)
 heard-small t ws left r h m e =
     let d = meets-accepted m (ap playedPaper e) in

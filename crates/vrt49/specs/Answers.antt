@@ -1,8 +1,11 @@
 -- What a call for C gives: one number, 0 where it is accepted and else that of the refusal, and its values in the places that it was lent: single numbers,
 -- arrays of a fixed length, and buffers. Document 01: "A refusal returns its number alone and writes nothing"; "Only words needed by an accepted answer
 -- change."
-use Rattle.words.specs.Kit.{_≡_, ℕ}
+use Rattle.words.specs.Kit.{_≡_, ℕ, List, [], _∷_}
+use Rattle.words.specs.declared.Refusal.{Refusal}
+use Rattle.words.specs.Word.{join}
 use Rattle.words.specs.Outcome.{Outcome, refused, accepted, numberOf, Done}
+use Rattle.words.specs.Told.{Told, wordOf, bitOf}
 
 -- the lent places afterwards: those of an accepted answer hold its values, a refusal leaves them as they were
 abbrev pub placesOf : {A L : Type 0} → (A → L) → Outcome A → L → L
@@ -13,6 +16,23 @@ placesOf values (accepted a) before = values a
 pub record Tells {A L : Type 0} (values : A → L) (want : Outcome A) (before : L) (r : ℕ) (after : L) : Type 0 where
   pub number : r ≡ numberOf want
   pub places : after ≡ placesOf values want before
+
+-- ---- a refusal that is told where (document 02, C-15). It writes nothing, so the field's bit and the word come in the number that the call gives
+
+-- its number, the bit and the word, from the right, and their widths
+abbrev pub numbersOf : Refusal → List ℕ
+numbersOf r = r .number ∷ bitOf (r .place) ∷ wordOf (r .place) ∷ []
+
+abbrev pub numberWidths : List ℕ
+numberWidths = 8 ∷ 8 ∷ 16 ∷ []
+
+-- all three in one
+unfoldable pub numberFor : Refusal → ℕ
+numberFor r = join numberWidths (numbersOf r)
+
+abbrev pub inNumber : {A : Type 0} → Told A → Outcome A
+inNumber (refused r) = refused (numberFor r)
+inNumber (accepted a) = accepted a
 
 -- ---- the values of an answer
 

@@ -1,17 +1,25 @@
 -- Every call for C, with its promise and its refusals. No call has a `requires`: it may be handed any numbers and words. The promise of a call that refuses
 -- nothing and answers its value is `r ≡ want h`; that of every other call is `Tells values (want h) (lent h) r after`, of what it is handed, h, the number r
--- that it answers, and the lent places afterwards. These are the `ensures` of the calls, word for word; `want` is the definition of the call inside.
+-- that it answers, and the lent places afterwards; and where a refusal is told where, `Tells values (inNumber (want h)) (lent h) r after`. These are the
+-- `ensures` of the calls, word for word; `want` is the definition of the call inside.
 use Rattle.words.specs.Kit.{_≡_, ℕ, _<_, true, List, [], _∷_, _++_, length, getD}
 use lib.IntN.{ℤ}
 use lib.Ieee.{Float}
 use Rattle.words.specs.Numbers.{EMPTY, TYPE, BITS, SHORT, CUT, CLASS, TIME, INDICATOR, LAYOUT, FIELD}
 use Rattle.words.specs.Numbers.{STREAM, LIST, ROOM, VALUE, SIZE, FORMAT, COUNT, TABLE, PAGE, PAD}
+use Rattle.words.specs.declared.Where.the-variants.{Nowhere, Word}
+use Rattle.words.specs.declared.Refusal.{Refusal}
 use Rattle.words.specs.Tests.{when}
-use Rattle.words.specs.Outcome.{Outcome, accepted, numberOf}
-use Rattle.words.specs.Refusals.{Refusals, firstGiven, numbersIn}
+use Rattle.words.specs.Word.{bits}
+use Rattle.words.specs.Outcome.{Outcome, refused, accepted, numberOf}
+use Rattle.words.specs.Refusals.{RefusalsOf, Refusals, firstGiven, givenIn}
+use Rattle.words.specs.Told.{Told, refusal, toldList, wordOf, bitOf, behind}
 use Rattle.fields.specs.Layout.{fieldCount, foundOf, contextList, contextOf}
-use Rattle.packet.specs.Read.{listBy, readList, readOf}
-use Rattle.packet.specs.Survey.{readSurveyOf}
+use Rattle.fields.specs.Broken.{brokenOf}
+use Rattle.packet.specs.Header.{classed}
+use Rattle.packet.specs.Parts.{streamed, classAt, fractionAt, bodyAt, bodyOf}
+use Rattle.packet.specs.Read.{listBy, readList}
+use Rattle.packet.specs.Told.{whereOf, readTold, surveyTold}
 use Rattle.packet_trailer.specs.Trailer.{trailerOf, trailerList, trailerWordOf}
 use Rattle.payload_format.specs.Count.{neededList, neededOf}
 use Rattle.payload_format.specs.Signs.{signedList, signedOf}
@@ -21,7 +29,7 @@ use Rattle.payload_unpack.specs.Unpack.{Buffers, unpackList, unpackOf}
 use Rattle.table.specs.Start.{startList, startOf}
 use Rattle.table.specs.Well.{wellMade}
 use Rattle.table.specs.Stream.{streamNumberList}
-use Rattle.play.specs.Play.{tableList, playList, playOf}
+use Rattle.play.specs.Play.{tableList, playList, playTold}
 use Rattle.play.specs.Run.{runOf}
 use Rattle.page.specs.Save.{lengthList, saveList, lengthOf, saveOf}
 use Rattle.page.specs.PutBack.{putBackList, putBackOf}
@@ -32,7 +40,7 @@ use Rattle.panel_streams.specs.Identity.{identityOf}
 use Rattle.panel_streams.specs.TypeCounts.{typeCountsList, typeCountsOf}
 use Rattle.panel_streams.specs.OwnTable.{ownTableList, ownTableOf}
 use Rattle.panel_streams.specs.Changed.{changedList, changedOf}
-use Rattle.vrt49.specs.Answers.{Tells, plain, left, beside}
+use Rattle.vrt49.specs.Answers.{Tells, inNumber, plain, left, beside}
 use Rattle.vrt49.specs.Packets.{packetValues, surveyValues, trailerValues, foundValues}
 use Rattle.vrt49.specs.Packets.{writeWordsList, writeWordsOf, writeSurveyWordsList, writeSurveyWordsOf}
 use Rattle.vrt49.specs.Payloads.{coordinatesValues, coordinatesIn}
@@ -41,62 +49,93 @@ use Rattle.vrt49.specs.Readings.{readingValues, readingsValues}
 use Rattle.vrt49.specs.Streams.{identityValues, countValues}
 
 -- a call that answers its value; and one that answers a number, by what is wanted of it, the values of an accepted answer, the lent places, the list of its
--- refusals, and their numbers in document 01's order
+-- refusals, and their numbers in document 01's order; and one whose refusals are told where, each with its place
 pub data CallForC : Type 1 where
   answers : {H : Type 0} → (H → ℕ) → CallForC
   tells : {H A L : Type 0} → (H → Outcome A) → (A → L) → (H → L) → (H → Refusals) → List ℕ → CallForC
+  tellsWhere : {H A L : Type 0} → (H → Told A) → (A → L) → (H → L) → (H → RefusalsOf Refusal) → (H → List Refusal) → CallForC
 
 -- "Prove that two outcomes meeting it are equal": the numbers, and the lent places afterwards
 abbrev pub OnceForC : CallForC → Type 0
 OnceForC (answers {H} want) = (h : H) (r s : ℕ) → r ≡ want h → s ≡ want h → r ≡ s
 OnceForC (tells {H} {A} {L} want values lent list numbers) =
     (h : H) (r s : ℕ) (after after′ : L) → Tells values (want h) (lent h) r after → Tells values (want h) (lent h) s after′ → (r ≡ s) × (after ≡ after′)
+OnceForC (tellsWhere {H} {A} {L} want values lent list given) =
+    (h : H) (r s : ℕ) (after after′ : L) → Tells values (inNumber (want h)) (lent h) r after → Tells values (inNumber (want h)) (lent h) s after′
+    → (r ≡ s) × (after ≡ after′)
 
 -- it "gets an answer": whatever it is handed, some outcome meets the promise
 abbrev pub SomeForC : CallForC → Type 0
 SomeForC (answers {H} want) = (h : H) → (r : ℕ) × (r ≡ want h)
 SomeForC (tells {H} {A} {L} want values lent list numbers) = (h : H) → (r : ℕ) × (after : L) × Tells values (want h) (lent h) r after
+SomeForC (tellsWhere {H} {A} {L} want values lent list given) = (h : H) → (r : ℕ) × (after : L) × Tells values (inNumber (want h)) (lent h) r after
 
 -- "A refusal changes no word of any buffer it was lent": no lent place
 abbrev pub LeavesForC : CallForC → Type 0
 LeavesForC (answers want) = Unit
 LeavesForC (tells {H} {A} {L} want values lent list numbers) =
     (h : H) (r : ℕ) (after : L) → Tells values (want h) (lent h) r after → 0 < r → after ≡ lent h
+LeavesForC (tellsWhere {H} {A} {L} want values lent list given) =
+    (h : H) (r : ℕ) (after : L) → Tells values (inNumber (want h)) (lent h) r after → 0 < r → after ≡ lent h
 
 -- "The first that applies is given, in these orders": the number is the first of its list that applies, and 0 where none does
 abbrev pub OrderForC : CallForC → Type 0
 OrderForC (answers want) = Unit
 OrderForC (tells {H} {A} {L} want values lent list numbers) =
     (h : H) (r : ℕ) (after : L) → Tells values (want h) (lent h) r after
-    → (numbersIn (list h) ≡ numbers) × (r ≡ numberOf (firstGiven {A = Unit} (list h) (accepted tt)))
+    → (givenIn (list h) ≡ numbers) × (r ≡ numberOf (firstGiven {A = Unit} (list h) (accepted tt)))
+OrderForC (tellsWhere {H} {A} {L} want values lent list given) =
+    (h : H) (r : ℕ) (after : L) → Tells values (inNumber (want h)) (lent h) r after
+    → (givenIn (list h) ≡ given h) × (r ≡ numberOf (inNumber (firstGiven {A = Unit} (list h) (accepted tt))))
+
+-- the refusal's number, the field's bit and the word are parts of the number that the call gives
+abbrev pub PartsForC : CallForC → Type 0
+PartsForC (answers want) = Unit
+PartsForC (tells want values lent list numbers) = Unit
+PartsForC (tellsWhere {H} {A} {L} want values lent list given) =
+    (h : H) (r : ℕ) (after : L) (says : Refusal) → Tells values (inNumber (want h)) (lent h) r after → want h ≡ refused says
+    → (bits 7 0 r ≡ says .number) × (bits 15 8 r ≡ bitOf (says .place)) × (bits 31 16 r ≡ wordOf (says .place))
 
 -- 0 is the number of an accepted answer alone, and then the lent places hold its values
 abbrev pub ZeroForC : CallForC → Type 0
 ZeroForC (answers want) = Unit
 ZeroForC (tells {H} {A} {L} want values lent list numbers) =
     (h : H) (after : L) → Tells values (want h) (lent h) 0 after → (a : A) × (want h ≡ accepted a) × (after ≡ values a)
+ZeroForC (tellsWhere {H} {A} {L} want values lent list given) =
+    (h : H) (after : L) → Tells values (inNumber (want h)) (lent h) 0 after → (a : A) × (want h ≡ accepted a) × (after ≡ values a)
 
 -- something of each call of a list
 abbrev pub EachForC : (CallForC → Type 0) → List {1} CallForC → Type 0
 EachForC P [] = Unit
 EachForC P (c ∷ cs) = P c × EachForC P cs
 
--- "Read: 1 to 10 as listed"
-abbrev pub readNumbers : List ℕ
-readNumbers = EMPTY ∷ TYPE ∷ BITS ∷ SHORT ∷ CUT ∷ CLASS ∷ TIME ∷ INDICATOR ∷ LAYOUT ∷ FIELD ∷ []
+-- "Read: 1 to 10 as listed", each with its place, of words ws with the header w
+abbrev pub readGiven : ℕ → List ℕ → List Refusal
+readGiven w ws =
+    refusal EMPTY (Word 0) ∷ refusal TYPE (Word 0) ∷ refusal BITS (Word 0) ∷ refusal SHORT (Word 0) ∷ refusal CUT (Word 0)
+    ∷ refusal CLASS (Word (classAt w)) ∷ refusal TIME (Word (fractionAt w)) ∷ refusal INDICATOR (Word (bodyAt w)) ∷ refusal LAYOUT (Word (bodyAt w))
+    ∷ refusal FIELD (behind (bodyAt w) (brokenOf (bodyOf w ws))) ∷ []
+
+-- of 49A, PAD is last
+abbrev pub surveyGiven : ℕ → List ℕ → List Refusal
+surveyGiven w ws = readGiven w ws ++ (refusal PAD (Word (when (classed w) (classAt w))) ∷ [])
+
+-- "Play: TABLE, read order, STREAM"
+abbrev pub playGiven : ℕ → List ℕ → List Refusal
+playGiven w ws = (refusal TABLE Nowhere ∷ []) ++ surveyGiven w ws ++ (refusal STREAM (Word (when (streamed w) 1)) ∷ [])
 
 -- ---- packets, trailers and the fields of a body
 
 abbrev pub forRead : CallForC
 forRead =
-    tells (λ (h : List ℕ × List ℕ). readOf (h .0)) packetValues (λ h. h .1)
-    (λ h. readList (getD (h .0) 0 0) (h .0)) readNumbers
+    tellsWhere (λ (h : List ℕ × List ℕ). readTold (h .0)) packetValues (λ h. h .1)
+    (λ h. toldList (whereOf (h .0)) (readList (getD (h .0) 0 0) (h .0))) (λ h. readGiven (getD (h .0) 0 0) (h .0))
 
 -- 49A: "CLASS is not given for 49A; 20 PAD, after FIELD"; CLASS is given for types that 49A does not govern
 abbrev pub forReadSurvey : CallForC
 forReadSurvey =
-    tells (λ (h : List ℕ × List ℕ). readSurveyOf (h .0)) surveyValues (λ h. h .1)
-    (λ h. listBy true (getD (h .0) 0 0) (h .0)) (readNumbers ++ (PAD ∷ []))
+    tellsWhere (λ (h : List ℕ × List ℕ). surveyTold (h .0)) surveyValues (λ h. h .1)
+    (λ h. toldList (whereOf (h .0)) (listBy true (getD (h .0) 0 0) (h .0))) (λ h. surveyGiven (getD (h .0) 0 0) (h .0))
 
 -- "Write: TYPE, VALUE, SHORT, SIZE, TIME, INDICATOR, LAYOUT, FIELD, ROOM."
 abbrev pub forWrite : CallForC
@@ -171,8 +210,8 @@ forWellMade = answers (λ (t : List ℕ). when (wellMade t) 1)
 
 abbrev pub forPlay : CallForC
 forPlay =
-    tells (λ (h : List ℕ × List ℕ × List ℕ). playOf (h .0) (h .1)) (beside heardValues) (λ h. (h .0, h .2))
-    (λ h. playList (h .0) (h .1)) ((TABLE ∷ []) ++ readNumbers ++ (PAD ∷ STREAM ∷ []))
+    tellsWhere (λ (h : List ℕ × List ℕ × List ℕ). playTold (h .0) (h .1)) (beside heardValues) (λ h. (h .0, h .2))
+    (λ h. toldList (whereOf (h .1)) (playList (h .0) (h .1))) (λ h. playGiven (getD (h .1) 0 0) (h .1))
 
 abbrev pub forPlayRun : CallForC
 forPlayRun =

@@ -1,14 +1,25 @@
-// Values in lent places.
+// Values in lent places, and the number of a refusal.
 ghost use Rattle.words.specs.Kit.{_≡_};
 ghost use Rattle.words.specs.Tests.{when};
+ghost use Rattle.words.specs.Word.{Within};
 ghost use Rattle.words.specs.Outcome.{measured};
-ghost use Rattle.vrt49.specs.Answers.{Tells, plain};
+ghost use Rattle.vrt49.specs.Answers.{Tells, numbersOf, numberWidths, numberFor, plain};
 
 // A flag as a word.
 pub fn flag(set: bool) -> u32
     ensures { λ r. ⌜ r ≡ when set 1 ⌝ }
 {
     if set { 1 } else { 0 }
+}
+
+// The number that is given of a refusal that is told where: its own in bits 7-0, the field's bit in 15-8, the word in 31-16.
+pub fn number_for(r: words::Refusal) -> u32
+    requires { ⌜ Within numberWidths (numbersOf r) ⌝ }
+    ensures { λ k. ⌜ k ≡ numberFor r ⌝ }
+{
+    let place = r.place;
+    let word = words::inner::word_of(place) as u32;
+    r.number + 0x100 * (words::inner::bit_of(place) + 0x100 * word)
 }
 
 // Tells a length, and gives 0; or gives the number of the refusal.

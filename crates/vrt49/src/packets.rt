@@ -2,10 +2,9 @@
 ghost use Rattle.words.specs.Kit.{_≡_, _+_, _^_, _≤_, _<_, length};
 ghost use Rattle.words.specs.Outcome.{accepted, checked, measured, Meets};
 ghost use Rattle.fields.specs.Layout.{fieldCount, foundOf, contextOf};
-ghost use Rattle.packet.specs.Read.{readOf};
-ghost use Rattle.packet.specs.Survey.{readSurveyOf};
+ghost use Rattle.packet.specs.Told.{readTold, surveyTold};
 ghost use Rattle.packet_trailer.specs.Trailer.{trailerOf, trailerWordOf};
-ghost use Rattle.vrt49.specs.Answers.{Tells, plain, beside};
+ghost use Rattle.vrt49.specs.Answers.{Tells, inNumber, plain, beside};
 ghost use Rattle.vrt49.specs.Packets.{packetValues, surveyValues, trailerValues, foundValues, wordsChecks, writeWordsOf, writeSurveyWordsOf};
 
 // What reading says of a packet, as words.
@@ -36,13 +35,14 @@ fn packet_words(p: packet::Packet) -> [u32; 18]
     ]
 }
 
-// Reads the packet at the front of the words; answers what reading refuses, 1 to 10. Eighteen values.
+// Reads the packet at the front of the words; answers what reading refuses, 1 to 10, with the field's bit and the word in the number. Eighteen
+// values.
 #[no_mangle]
 pub extern "C" fn vrt49_read(words: &[u32], answer: &mut [u32; 18]) -> u32
-    ensures { λ r. ⌜ Tells packetValues (readOf (now (words .entry))) (now (answer .entry)) r (now (answer .exit)) ⌝ }
+    ensures { λ r. ⌜ Tells packetValues (inNumber (readTold (now (words .entry)))) (now (answer .entry)) r (now (answer .exit)) ⌝ }
 {
     match packet::read(words) {
-        packet::Parsed::Refused(n) => n,
+        packet::Parsed::Refused(r) => crate::answers::number_for(r),
         packet::Parsed::Accepted(p) => {
             *answer = packet_words(p);
             0
@@ -64,14 +64,14 @@ fn survey_words(s: packet::Survey) -> [u32; 22]
     values
 }
 
-// Reads the packet at the front of the words as 49A; answers what reading refuses, 1 to 10, and PAD. Twenty-two values: those of `vrt49_read`, the pad count,
-// the two words of the payload's format, and its items; these four are zero of a type other than 1.
+// Reads the packet at the front of the words as 49A; answers what reading refuses, 1 to 10, and PAD, with the bit and the word in the number. Twenty-two values:
+// those of `vrt49_read`, the pad count, the two words of the payload's format, and its items; these four are zero of a type other than 1.
 #[no_mangle]
 pub extern "C" fn vrt49_read_survey(words: &[u32], answer: &mut [u32; 22]) -> u32
-    ensures { λ r. ⌜ Tells surveyValues (readSurveyOf (now (words .entry))) (now (answer .entry)) r (now (answer .exit)) ⌝ }
+    ensures { λ r. ⌜ Tells surveyValues (inNumber (surveyTold (now (words .entry)))) (now (answer .entry)) r (now (answer .exit)) ⌝ }
 {
     match packet::read_survey(words) {
-        packet::ParsedSurvey::Refused(n) => n,
+        packet::ParsedSurvey::Refused(r) => crate::answers::number_for(r),
         packet::ParsedSurvey::Accepted(s) => {
             *answer = survey_words(s);
             0

@@ -3,9 +3,9 @@ ghost use Rattle.words.specs.Kit.{_≡_, _^_, _≤_, _<_};
 ghost use Rattle.words.specs.Tests.{when};
 ghost use Rattle.table.specs.Start.{startOf};
 ghost use Rattle.table.specs.Well.{wellMade};
-ghost use Rattle.play.specs.Play.{playOf};
+ghost use Rattle.play.specs.Play.{playTold};
 ghost use Rattle.play.specs.Run.{runOf};
-ghost use Rattle.vrt49.specs.Answers.{Tells, plain, beside};
+ghost use Rattle.vrt49.specs.Answers.{Tells, inNumber, plain, beside};
 ghost use Rattle.vrt49.specs.Tables.{heardValues, reachedValues};
 
 // Starts a table for identifiers and their choices; answers LIST or ROOM. `length` takes the layout's words.
@@ -37,13 +37,14 @@ fn heard_words(h: play::Heard) -> [u32; 4]
     [h.size as u32, h.kind, h.stream as u32, h.missing]
 }
 
-// Plays the packet at the front of the words; answers TABLE, what reading refuses, or STREAM. Four values: size, type, stream, missing.
+// Plays the packet at the front of the words; answers TABLE, what reading refuses, or STREAM, with the field's bit and the word in the number. Four values: size,
+// type, stream, missing.
 #[no_mangle]
 pub extern "C" fn vrt49_play(table: &mut [u32], words: &[u32], answer: &mut [u32; 4]) -> u32
-    ensures { λ r. ⌜ Tells (beside heardValues) (playOf (now (table .entry)) (now (words .entry))) (now (table .entry), now (answer .entry)) r (now (table .exit), now (answer .exit)) ⌝ }
+    ensures { λ r. ⌜ Tells (beside heardValues) (inNumber (playTold (now (table .entry)) (now (words .entry)))) (now (table .entry), now (answer .entry)) r (now (table .exit), now (answer .exit)) ⌝ }
 {
     match play::play(table, words) {
-        play::Played::Refused(n) => n,
+        play::Played::Refused(r) => crate::answers::number_for(r),
         play::Played::Accepted(h) => {
             *answer = heard_words(h);
             0
