@@ -27,8 +27,9 @@ use Rattle.packet.specs.declared.Survey.{Survey}
 use Rattle.packet.specs.Header.{typeOf, classed, trailed, tsmOf, reservedOf, tsiOf, tsfOf, countOf, sizeOf}
 use Rattle.packet.specs.Parts.{streamed, hasSeconds, hasFraction, classAt, secondsAt, fractionAt, bodyAt, requiredOf, bodyLength, wordIf, classHigh, classLow}
 use Rattle.packet.specs.Parts.{fractionOf, partsOf, bodyOf, packetOf}
-use Rattle.packet.specs.Read.{headerList, prologueList, timeOver, classBad, governed, padList, readBy, readOf}
-use Rattle.packet.specs.Survey.{surveyOf, readSurveyOf}
+use Rattle.packet.specs.Read.{headerList, prologueList, timeOver, classBad, governed, padList, readBy}
+use Rattle.packet.specs.Survey.{surveyOf}
+use Rattle.packet.specs.Told.{readTold, surveyTold}
 use Rattle.packet.specs.inner.Steps.{headerChecks, prologueChecks, bodyChecks, padChecks}
 use Rattle.packet_write.specs.Write.{flagBit, headerWidths, headerWord, sizeFor, given, classFirst, classWord, leadingWords, classWords, timeWords}
 use Rattle.packet_write.specs.Write.{prologueWords, trailerWords, packetWords, codesFit, flagsFit, classFits, partsFit, governs, padFor, padFits}
@@ -37,6 +38,7 @@ use Rattle.packet_write.specs.inner.Steps as written
 use Rattle.packet_write.specs.inner.Steps.{partsChecks, measureChecks, roomChecks, writeChecks}
 use Rattle.packet.proofs.RoomLaws.{Room, room}
 use Rattle.packet.proofs.ReadLaws.{Passed, sized, read-accepts}
+use Rattle.packet.proofs.ToldLaws.{told-packet, told-given}
 use Rattle.packet_write.proofs.FitLaws.{parts-fit, nothing-refused}
 use Rattle.packet_write.proofs.HeaderLaws.{two-bits, size-for-is, required-is}
 use Rattle.demands.specs.Program.{ours, AreWords, readsBy, writesBy}
@@ -335,13 +337,14 @@ pub written-again : (survey : Bool) (ws : List ℕ) → AreWords ws → (p : Pac
     ≡ accepted (record { says = p .size; leaves = take at out ++ take (p .size) ws ++ drop (at + p .size) out })
 unfolding surveyOf
 written-again false ws small p pad e =
-    let k = onward-passed (readOf ws) _ (p, pad) e in
+    let k = onward-passed (readTold ws) _ (p, pad) e in
     let same : k .0 ≡ p = ap (λ (x : Packet × ℕ). x .0) (accepted-same (k .2)) in
-    again-by false ws small p (k .1 ∙ ap accepted same)
+    again-by false ws small p (told-packet ws (k .0) (k .1) ∙ ap accepted same)
 written-again true ws small p pad e =
-    let k = onward-passed (readSurveyOf ws) _ (p, pad) e in
-    let is : surveyOf (getD ws 0 0) ws ≡ k .0 = survey-is ws (k .0) (k .1) in
+    let k = onward-passed (surveyTold ws) _ (p, pad) e in
+    let given = told-given ws (k .0) (k .1) in
+    let is : surveyOf (getD ws 0 0) ws ≡ k .0 = survey-is ws (k .0) given in
     let same : packetOf (getD ws 0 0) ws ≡ p = ap (λ (s : Survey). s .packet) is ∙ ap (λ (x : Packet × ℕ). x .0) (accepted-same (k .2)) in
     let count : when (eqb (typeOf (getD ws 0 0)) 1) (padOf (classHigh (getD ws 0 0) ws)) ≡ pad =
     ap (λ (s : Survey). s .pad) is ∙ ap (λ (x : Packet × ℕ). x .1) (accepted-same (k .2)) in
-    rw (← count) (again-by true ws small p (survey-none ws (k .0) (k .1) ∙ ap accepted same))
+    rw (← count) (again-by true ws small p (survey-none ws (k .0) given ∙ ap accepted same))

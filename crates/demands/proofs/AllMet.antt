@@ -2,7 +2,7 @@
 use Rattle.words.proofs.Kit.{refl, _∙_, []}
 use Rattle.packet_trailer.proofs.TrailerLaws.{trailer-again, trailer-back}
 use Rattle.table.proofs.StartLaws.{start-well-made}
-use Rattle.vrt49.proofs.CallLaws.{every-once, every-some, every-leaves, every-order, every-zero}
+use Rattle.vrt49.proofs.CallLaws.{every-once, every-some, every-leaves, every-order, every-zero, every-parts}
 use Rattle.demands.specs.Calls.{calls}
 use Rattle.demands.specs.Program.{ours}
 use Rattle.demands.specs.Demands.{Demand1, Demand2, Demand3}
@@ -12,6 +12,7 @@ use Rattle.demands.proofs.Answered.{some-outcome}
 use Rattle.demands.proofs.Once.{one-outcome, each-refusal}
 use Rattle.demands.proofs.InOrder.{in-order}
 use Rattle.demands.proofs.WellMade.{judged}
+use Rattle.demands.proofs.PlacesTold.{places-told}
 use Rattle.demands.proofs.FieldFound.{fields-found}
 use Rattle.demands.proofs.Again.{written-again}
 use Rattle.demands.proofs.Back.{written-back}
@@ -43,6 +44,7 @@ demand-1 = record {
     once = every-once;
     numbers = every-order;
     values = every-zero;
+    places = every-parts;
     refusals = every-leaves;
   };
 }
@@ -51,6 +53,7 @@ pub demand-2 : Demand2 ours
 demand-2 = record {
   reads = λ ws. refl;
   reads-survey = λ ws. refl;
+  places = places-told;
   finds = λ b body. refl;
   writes = λ p body out at. refl;
   writes-survey = λ pad p body out at. refl;

@@ -7,7 +7,8 @@ use Rattle.words.specs.declared.Check.the-variants as check
 use Rattle.words.specs.declared.Length.the-variants as lengths
 use Rattle.words.specs.Tests.{pick}
 use Rattle.words.specs.Word.{has}
-use Rattle.words.specs.Outcome.{Outcome, refused, accepted, checked, measured, Done, saidOf, leftOf}
+use Rattle.words.specs.Outcome.{Outcome, Reply, refused, accepted, checked, measured, Done, saidOf, leftOf}
+use Rattle.words.specs.Told.{Told}
 use Rattle.fields.specs.declared.places.Found.the-variants as found
 use Rattle.fields.specs.Sizes.{wordsOf}
 use Rattle.fields.specs.Answers.{foundPaper}
@@ -57,11 +58,11 @@ says-measured : (o : Outcome ℕ) → Says measured o
 says-measured (refused n) = (lengths.Refused n, refl)
 says-measured (accepted n) = (lengths.Accepted n, refl)
 
-says-parsed : (o : Outcome Packet) → Says parsedPaper o
+says-parsed : (o : Told Packet) → Says parsedPaper o
 says-parsed (refused n) = (parsed.Refused n, refl)
 says-parsed (accepted p) = (parsed.Accepted p, refl)
 
-says-survey : (o : Outcome Survey) → Says surveyPaper o
+says-survey : (o : Told Survey) → Says surveyPaper o
 says-survey (refused n) = (surveyed.Refused n, refl)
 says-survey (accepted s) = (surveyed.Accepted s, refl)
 
@@ -77,7 +78,7 @@ says-shown : (o : Outcome ℤ) → Says shownPaper o
 says-shown (refused n) = (shown.Refused n, refl)
 says-shown (accepted z) = (shown.Value z, refl)
 
-says-played : (o : Outcome Heard) → Says playedPaper o
+says-played : (o : Told Heard) → Says playedPaper o
 says-played (refused n) = (played.Refused n, refl)
 says-played (accepted h) = (played.Accepted h, refl)
 
@@ -130,7 +131,7 @@ says-found b body =
 
 -- ---- each call
 
-lent-says : {H A B L : Type 0} (paper : A → Outcome B) (want : H → Outcome (Done B L)) (lent : H → L) → ((o : Outcome B) → Says paper o)
+lent-says : {H R A B L : Type 0} (paper : A → Reply R B) (want : H → Reply R (Done B L)) (lent : H → L) → ((o : Reply R B) → Says paper o)
     → SomeOutcome (lends paper want lent)
 lent-says paper want lent says = λ h. let r = says (saidOf (want h)) in (r .0, leftOf (want h) (lent h), record { answer = r .1; buffer = refl })
 

@@ -22,6 +22,7 @@ use Rattle.packet.specs.Parts.{streamed, hasSeconds, hasFraction, classAt, seco
 use Rattle.packet.specs.Parts.{fractionOf, partsOf, bodyOf, packetOf}
 use Rattle.packet.specs.Read.{timeOver, classBad, governed, readBy}
 use Rattle.packet.specs.Survey.{surveyOf}
+use Rattle.packet.specs.Told.{readTold, surveyTold}
 use Rattle.packet.specs.inner.Steps.{headerChecks, sizeChecks, prologueChecks, padChecks}
 use Rattle.packet_write.specs.Write.{headerWord, sizeFor, given, classFirst, classWord, leadingWords}
 use Rattle.packet_write.specs.Write.{classWords, timeWords, prologueWords, trailerWords, packetWords, plainParts}
@@ -326,7 +327,7 @@ pub written-back : (survey : Bool) (pad : ℕ) (p : Parts) (body out : List ℕ)
     (readsBy ours survey (drop at (d .leaves))
     ≡ accepted (record { parts = plainParts w p; size = d .says; place = bodyAt w; length = length body }, padFor survey pad p))
     × (part (bodyAt w) (length body) (drop at (d .leaves)) ≡ body)
-unfolding surveyOf
+unfolding surveyOf readTold surveyTold
 written-back false pad p body out at d e =
     let k = back-by false 0 p body out at d e in
     (rw (k .0), k .3)

@@ -11,8 +11,9 @@ use Rattle.fields.specs.Sizes.{wordsOf}
 use Rattle.fields.specs.Layout.{indicatorOf, placeOf, fieldOf, foundOf}
 use Rattle.fields.proofs.BodyLaws.{Sound, context-fits, fromField, field-inside, field-found, field-length}
 use Rattle.packet.specs.declared.Packet.{Packet}
-use Rattle.packet.specs.Read.{readOf}
+use Rattle.packet.specs.Told.{readTold}
 use Rattle.packet.proofs.ReadLaws.{body-context}
+use Rattle.packet.proofs.ToldLaws.{told-packet}
 use Rattle.demands.specs.Program.{ours}
 use Rattle.demands.specs.FieldFound.{carriesField, FieldFound}
 
@@ -52,10 +53,10 @@ module _ (b : ℕ) (body : List ℕ) (fine : Sound body) (c : carriesField b bod
   unfolding part fieldOf
   carried-words = rw sized
 
-pub fields-found : (ws : List ℕ) (p : Packet) → readOf ws ≡ accepted p → p .parts .kind ≡ 4 → (b : ℕ) → FieldFound ours b (part (p .place) (p .length) ws)
+pub fields-found : (ws : List ℕ) (p : Packet) → readTold ws ≡ accepted p → p .parts .kind ≡ 4 → (b : ℕ) → FieldFound ours b (part (p .place) (p .length) ws)
 fields-found ws p e k b =
     let body : List ℕ = part (p .place) (p .length) ws in
-    let fine : Sound body = context-fits body (body-context false ws p e k) in
+    let fine : Sound body = context-fits body (body-context false ws p (told-packet ws p e) k) in
     record {
       carried = carried-found b body fine;
       inside = carried-inside b body fine;

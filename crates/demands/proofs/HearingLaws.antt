@@ -5,15 +5,18 @@ use Rattle.words.proofs.Kit.{_≡_, refl, sym, ap, _∙_, Bool, true, false, �
 use Rattle.words.proofs.Kit.{eqb, leb, length, getD}
 use borrow.Author.Tests.{leb-false}
 use Rattle.words.specs.Tests.{among}
-use Rattle.words.specs.Outcome.{Outcome, refused, accepted, onward, Done, leftOf}
+use Rattle.words.specs.Outcome.{Outcome, Reply, refused, accepted, onward, Done, leftOf}
+use Rattle.words.specs.Told.{told}
 use Rattle.words.proofs.Cases.{le-or-lt, onward-passed, accepted-same}
 use Rattle.words.proofs.RefusalLaws.{first-passed, either-passed, onward-first}
+use Rattle.words.proofs.ToldLaws.{told-accepted, told-onward}
 use Rattle.words.proofs.AllLaws.{first-one}
 use Rattle.fields.specs.Layout.{contextOf}
 use Rattle.packet.specs.declared.Packet.{Packet}
 use Rattle.packet.specs.Header.{typeOf}
 use Rattle.packet.specs.Parts.{partsOf, packetOf}
 use Rattle.packet.specs.Read.{headerList, readBy}
+use Rattle.packet.specs.Told.{whereOf}
 use Rattle.packet.specs.inner.Steps.{headerChecks}
 use Rattle.packet.proofs.ReadLaws.{read-accepts, count-small, body-context}
 use Rattle.record.specs.Layout.{recordWords, choiceOf, countedTypes}
@@ -27,12 +30,12 @@ use Rattle.table.proofs.ListLaws.{stream-is}
 use Rattle.table.proofs.WellLaws.{well-whole, layout-has}
 use Rattle.play.specs.declared.Heard.{Heard}
 use Rattle.play.specs.Play as Play
-use Rattle.play.specs.Play.{tableAfter, stepOf, playOf}
+use Rattle.play.specs.Play.{tableAfter, stepOf, playOf, playTold}
 use Rattle.play.specs.inner.Steps.{soughtOf}
 use Rattle.play.proofs.PlayLaws.{step-read, play-step}
 use Rattle.play.proofs.KeepLaws.{play-keeps}
 use Rattle.demands.specs.Listing.{Listing, streamsIn, choiceIn, placeIn, chosenIn}
-use Rattle.demands.specs.Trace.{Arrival, arrivalList, arrivalOf, heardBy}
+use Rattle.demands.specs.Trace.{Arrival, arrivalList, arrivalOf, arrivalBy, heardBy}
 
 -- ---- what a heard packet is
 
@@ -59,10 +62,10 @@ read-type survey ws p e =
     rw (← k .says) (ltb-false 5 (typeOf (getD ws 0 0)) (first-passed (headerList (getD ws 0 0)) _ tt (k .passes .header) .0 .0))
 
 pub heard-fine : (list : Listing) (ws : List ℕ) (a : Arrival) → heardBy list ws ≡ accepted a → Heeded list a
-unfolding heardBy arrivalOf
+unfolding heardBy arrivalBy arrivalOf
 heard-fine list ws a e =
     let choice = chosenIn list (packetOf (getD ws 0 0) ws .parts .identifier) in
-    let k = onward-passed (readBy choice ws) (arrivalOf list ws) a e in
+    let k = onward-passed (readBy choice ws) (arrivalOf list ws) a (told-accepted (whereOf ws) (arrivalBy list ws) a e) in
     let p = k .0 in
     let x = first-passed (arrivalList list p) _ a (k .2) in
     let y = either-passed (among (p .parts .kind) (0 ∷ 2 ∷ [])) (leb (streamsIn list) (placeIn list (p .parts .identifier))) (x .0 .0) in
@@ -89,7 +92,7 @@ heardOn t a = record { size = a .size; kind = a .kind; stream = a .stream; missi
 abbrev pub recordOn : List ℕ → Arrival → List ℕ
 recordOn t a = recordAfter (a .kind) (a .count) (a .body) (recordAt (a .stream) t)
 
-abbrev pub doneOn : List ℕ → Arrival → Outcome (Done Heard (List ℕ))
+abbrev pub doneOn : {R : Type 0} → List ℕ → Arrival → Reply R (Done Heard (List ℕ))
 doneOn t a = accepted (record { says = heardOn t a; leaves = withRecord (a .stream) (recordOn t a) t })
 
 module _ (list : Listing) (t : List ℕ) (l : Listed list t) where
@@ -120,15 +123,19 @@ module _ (list : Listing) (t : List ℕ) (l : Listed list t) where
       rw (step-read, e, place-same (p .parts .identifier), l .streams) (onward-first (arrivalList list p) _ _ ∙ sym (onward-first (arrivalList list p) _ _))
 
   -- play is reading and the list, and then one record replaced
-  pub play-is : (ws : List ℕ) → playOf t ws ≡ onward (heardBy list ws) (doneOn t)
-  unfolding heardBy
-  play-is ws =
+  play-by : (ws : List ℕ) → playOf t ws ≡ onward (arrivalBy list ws) (doneOn t)
+  unfolding arrivalBy
+  play-by ws =
       let identifier = packetOf (getD ws 0 0) ws .parts .identifier in
       play-step t ws (l .made)
       ∙ heard-read ws (readBy (chosenIn list identifier) ws) (ap (λ (survey : Bool). readBy survey ws) (chosen-same identifier))
 
+  pub play-is : (ws : List ℕ) → playTold t ws ≡ onward (heardBy list ws) (doneOn t)
+  unfolding heardBy playTold
+  play-is ws = ap (told (whereOf ws)) (play-by ws) ∙ told-onward (whereOf ws) (arrivalBy list ws) (doneOn t)
+
   -- the table stays one of the list
-  pub listed-on : (ws : List ℕ) → Listed list (leftOf (playOf t ws) t)
+  pub listed-on : (ws : List ℕ) → Listed list (leftOf (playTold t ws) t)
   listed-on ws =
       let k = play-keeps t ws in
       record {

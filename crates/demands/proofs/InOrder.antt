@@ -1,8 +1,11 @@
--- Each call gives the first refusal of its list that applies, by its definition; and the numbers of the list are the document's, since they are numbers.
-use mathlib.Core.Path.{refl}
+-- Each call gives the first refusal of its list that applies, by its definition; where its refusals are told where, so are those of the list (`told-first`).
+-- The numbers of the list are the document's, since they are numbers, and the places are the lines of `whereOf`.
+use Rattle.words.proofs.Kit.{refl, true, getD}
+use Rattle.words.proofs.ToldLaws.{told-first}
 use Rattle.fields.specs.Layout.{contextOf}
-use Rattle.packet.specs.Read.{readBy}
+use Rattle.packet.specs.Read.{readBy, readList, listBy}
 use Rattle.packet.specs.Survey.{readSurveyOf}
+use Rattle.packet.specs.Told.{whereOf, readTold, surveyTold}
 use Rattle.packet_trailer.specs.Trailer.{trailerWordOf}
 use Rattle.packet_write.specs.Write.{padFits, writeBy}
 use Rattle.payload_format.specs.Count.{neededOf}
@@ -11,7 +14,7 @@ use Rattle.payload_pack.specs.Pack.{packOf}
 use Rattle.payload_format.specs.Signs.{signedOf}
 use Rattle.payload_unpack.specs.Unpack.{unpackOf}
 use Rattle.table.specs.Start.{startOf}
-use Rattle.play.specs.Play.{playOf}
+use Rattle.play.specs.Play.{playList, playOf, playTold}
 use Rattle.play.specs.Run.{runOf}
 use Rattle.page.specs.Save.{lengthOf, saveOf}
 use Rattle.page.specs.PutBack.{putBackOf}
@@ -25,16 +28,16 @@ use Rattle.panel_streams.specs.Changed.{changedOf}
 use Rattle.demands.specs.Refusals.{InOrder}
 
 pub in-order : InOrder
-unfolding readBy readSurveyOf padFits writeBy startOf playOf saveOf putBackOf readingOf packOf unpackOf signedOf coordinatesOf
-    itemOf contextOf neededOf trailerWordOf runOf lengthOf
+unfolding readBy readSurveyOf readTold surveyTold playTold whereOf padFits writeBy startOf playOf saveOf putBackOf readingOf packOf unpackOf signedOf
+    coordinatesOf itemOf contextOf neededOf trailerWordOf runOf lengthOf
     readingsOf heldWordsOf identityOf typeCountsOf ownTableOf changedOf
 in-order = record {
-  read = λ ws. record { order = refl; first = refl };
+  read = λ ws. record { order = refl; first = told-first (whereOf ws) (readList (getD ws 0 0) ws) _ };
   write = λ p body out at. record { order = refl; first = refl };
-  readSurvey = λ ws. record { order = refl; first = refl };
+  readSurvey = λ ws. record { order = refl; first = told-first (whereOf ws) (listBy true (getD ws 0 0) ws) _ };
   writeSurvey = λ pad p body out at. record { order = refl; first = refl };
   start = λ ids choices t. record { order = refl; first = refl };
-  play = λ t ws. record { order = refl; first = refl };
+  play = λ t ws. record { order = refl; first = told-first (whereOf ws) (playList t ws) _ };
   save = λ t page. record { order = refl; first = refl };
   putBack = λ p t. record { order = refl; first = refl };
   reading = λ t stream bit. record { order = refl; first = refl };

@@ -9,6 +9,8 @@ pub mod Once
 pub mod InOrder
 -- which tables and pages are well made
 pub mod WellMade
+-- where a packet is refused
+pub mod PlacesTold
 -- the fields of a Context packet are found
 pub mod FieldFound
 -- an accepted packet written again gives the same words, and what was written reads back

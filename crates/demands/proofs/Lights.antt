@@ -16,7 +16,7 @@ use Rattle.fields.specs.Layout.{indicatorOf, fieldOf}
 use Rattle.record.specs.Layout.{heldOf}
 use Rattle.table.specs.Layout.{streamsOf, layoutWords, recordAt}
 use Rattle.table.specs.Well.{wellMade}
-use Rattle.play.specs.Play.{playOf}
+use Rattle.play.specs.Play.{playTold}
 use Rattle.demands.specs.Listing.{Listing, streamsIn}
 use Rattle.demands.specs.Things.{Thing, wholeField, stateIndicator, userBits, kept, replaced, persistent, passing, tellsOf}
 use Rattle.demands.specs.Trace.{Arrival, heardBy, traceOf, own, valueCarried, orElse, lastCarried, countsOf}
@@ -136,8 +136,8 @@ lights-out list packets t r ws vs p =
     layouts-alike list _ _ _ _ (right-more list packets t r ws) (right-more list packets t r vs) (last-same list ws vs p packets)
     (counts-same list ws vs p packets) in
     let past = past-on list (ws ∷ []) t (r .streams) ∙ sym (past-on list (vs ∷ []) t (r .streams)) in
-    sym (take-append-drop (layoutWords (streamsIn list)) (leftOf (playOf t ws) t)) ∙ ap₂ (λ (x y : List ℕ). x ++ y) layout past
-    ∙ take-append-drop (layoutWords (streamsIn list)) (leftOf (playOf t vs) t)
+    sym (take-append-drop (layoutWords (streamsIn list)) (leftOf (playTold t ws) t)) ∙ ap₂ (λ (x y : List ℕ). x ++ y) layout past
+    ∙ take-append-drop (layoutWords (streamsIn list)) (leftOf (playTold t vs) t)
 
 -- of a well-made table field 22 is not held, and a held state word has neither over-range nor sample loss, neither enable nor value
 pub never-lit : (t : List ℕ) → wellMade t ≡ true → (s : ℕ) → s < streamsOf t → let r = recordAt s t in

@@ -5,15 +5,18 @@ use Rattle.words.proofs.Kit.{_≡_, refl, sym, ap, ap₂, subst, _∙_, Bool, t
 use Rattle.words.proofs.Kit.{ne-eqb, eqb-true, le-ltb, lt-ltb, lt-leb, eqb, leb, length, getD, drop}
 use mathlib.Core.List.{map, map-append}
 use mathlib.Core.Option.{Option}
+use Rattle.words.specs.declared.Where.{Where}
 use Rattle.words.specs.Numbers.{STREAM}
 use Rattle.words.specs.Tests.{pick, either, among}
 use Rattle.words.specs.Outcome.{Outcome, refused, accepted, onward}
+use Rattle.words.specs.Told.{told}
 use Rattle.words.proofs.Cases.{same-or-not}
 use Rattle.words.proofs.RefusalLaws.{none-given}
 use Rattle.words.proofs.AllLaws.{first-is, first-one}
 use Rattle.packet.specs.declared.Packet.{Packet}
 use Rattle.packet.specs.Parts.{packetOf}
 use Rattle.packet.specs.Read.{readBy}
+use Rattle.packet.specs.Told.{whereOf}
 use Rattle.packet.proofs.ReadLaws.{read-accepts}
 use Rattle.record.specs.Layout.{recordWords, identifierOf, choiceOf, countedTypes, orderOf, countWords}
 use Rattle.table.specs.Layout.{streamsOf, base, recordAt}
@@ -24,7 +27,7 @@ use Rattle.panel_streams.specs.OwnTable.{ownLayout, ownDone, ownTableList, ownT
 use Rattle.panel_streams.proofs.OwnLaws.{own-streams, own-record, own-well}
 use Rattle.demands.specs.Listing.{Listing, streamsIn, choiceIn, placeIn, chosenIn}
 use Rattle.demands.specs.Things.{Thing}
-use Rattle.demands.specs.Trace.{Arrival, arrivalOf, heardBy, traceOf, own, valueCarried, orElse, lastCarried, countsOf, countRule}
+use Rattle.demands.specs.Trace.{Arrival, arrivalOf, arrivalBy, heardBy, traceOf, own, valueCarried, orElse, lastCarried, countsOf, countRule}
 use Rattle.demands.specs.Program.{ours}
 use Rattle.demands.specs.Right.{heldIn, Right}
 use Rattle.demands.specs.OwnRight.{aloneIn, OwnRight}
@@ -45,19 +48,23 @@ counts-moved kind [] = refl
 counts-moved kind (a ∷ later) = ap (λ (l : List ℕ). pick (eqb (a .kind) kind) (a .count ∷ l) l) (counts-moved kind later)
 
 -- a packet of both, one of no stream, and one of another: t says that it has no identifier, and u that it is not declared
-of-both : (s : ℕ) (t : Bool) (a : Arrival) → a .stream ≡ s
-    → own 0 (pick (either t false) (refused STREAM) (accepted (moved a)) ∷ []) ≡ map moved (own s (pick (either t false) (refused STREAM) (accepted a) ∷ []))
-of-both s true a e = refl
-of-both s false a e = rw (eq-eqb (a .stream) s e)
+module _ (place : ℕ → Where) where
+  abbrev ownOf : ℕ → Outcome Arrival → List Arrival
+  ownOf s o = own s (told place o ∷ [])
 
-of-none : (t : Bool) (a : Arrival) → own 0 (pick (either t true) (refused STREAM) (accepted a) ∷ []) ≡ []
-of-none true a = refl
-of-none false a = refl
+  of-both : (s : ℕ) (t : Bool) (a : Arrival) → a .stream ≡ s
+      → ownOf 0 (pick (either t false) (refused STREAM) (accepted (moved a))) ≡ map moved (ownOf s (pick (either t false) (refused STREAM) (accepted a)))
+  of-both s true a e = refl
+  of-both s false a e = rw (eq-eqb (a .stream) s e)
 
-of-others : (s : ℕ) (t u : Bool) (a : Arrival) → (a .stream ≡ s → ⊥) → own s (pick (either t u) (refused STREAM) (accepted a) ∷ []) ≡ []
-of-others s true u a n = refl
-of-others s false true a n = refl
-of-others s false false a n = rw (ne-eqb (a .stream) s n)
+  of-none : (t : Bool) (a : Arrival) → ownOf 0 (pick (either t true) (refused STREAM) (accepted a)) ≡ []
+  of-none true a = refl
+  of-none false a = refl
+
+  of-others : (s : ℕ) (t u : Bool) (a : Arrival) → (a .stream ≡ s → ⊥) → ownOf s (pick (either t u) (refused STREAM) (accepted a)) ≡ []
+  of-others s true u a n = refl
+  of-others s false true a n = refl
+  of-others s false false a n = rw (ne-eqb (a .stream) s n)
 
 -- what holds of stream 0 holds of every stream of one
 at-first : (C : ℕ → Type 0) → C 0 → (u : ℕ) → u < 1 → C u
@@ -109,31 +116,32 @@ module _ (list : Listing) (s : ℕ) (h : s < streamsIn list)
     unfolding chosenIn
     alone-chosen = rw (place-own i e, alone-own i e, lt-ltb s (streamsIn list) h)
 
-    own-packet : (ws : List ℕ) (p : Packet) → p .parts .identifier ≡ i → own 0 (arrivalOf alone ws p ∷ []) ≡ map moved (own s (arrivalOf list ws p ∷ []))
+    own-packet : (ws : List ℕ) (p : Packet) → p .parts .identifier ≡ i → ownOf (whereOf ws) 0 (arrivalOf alone ws p)
+        ≡ map moved (ownOf (whereOf ws) s (arrivalOf list ws p))
     unfolding arrivalOf
     own-packet ws p k =
-        rw (k, place-own i e, alone-own i e, lt-leb (streamsIn list) s h) (of-both s (among (p .parts .kind) (0 ∷ 2 ∷ [])) _ refl)
+        rw (k, place-own i e, alone-own i e, lt-leb (streamsIn list) s h) (of-both (whereOf ws) s (among (p .parts .kind) (0 ∷ 2 ∷ [])) _ refl)
 
     own-read : (ws : List ℕ) (o : Outcome Packet) → ((p : Packet) → o ≡ accepted p → p .parts .identifier ≡ i)
-        → own 0 (onward o (arrivalOf alone ws) ∷ []) ≡ map moved (own s (onward o (arrivalOf list ws) ∷ []))
+        → ownOf (whereOf ws) 0 (onward o (arrivalOf alone ws)) ≡ map moved (ownOf (whereOf ws) s (onward o (arrivalOf list ws)))
     own-read ws (refused k) borne = refl
     own-read ws (accepted p) borne = own-packet ws p (borne p refl)
 
   -- one that bears another is of neither
   module _ (i : ℕ) (n : listed (list .ids) s ≡ i → ⊥) (ws : List ℕ) where
-    apart-alone : (o : Outcome Packet) → ((p : Packet) → o ≡ accepted p → p .parts .identifier ≡ i) → own 0 (onward o (arrivalOf alone ws) ∷ []) ≡ []
+    apart-alone : (o : Outcome Packet) → ((p : Packet) → o ≡ accepted p → p .parts .identifier ≡ i) → ownOf (whereOf ws) 0 (onward o (arrivalOf alone ws)) ≡ []
     unfolding arrivalOf
     apart-alone (refused k) borne = refl
-    apart-alone (accepted p) borne = rw (borne p refl, alone-other i n) (of-none (among (p .parts .kind) (0 ∷ 2 ∷ [])) _)
+    apart-alone (accepted p) borne = rw (borne p refl, alone-other i n) (of-none (whereOf ws) (among (p .parts .kind) (0 ∷ 2 ∷ [])) _)
 
-    apart-list : (o : Outcome Packet) → ((p : Packet) → o ≡ accepted p → p .parts .identifier ≡ i) → own s (onward o (arrivalOf list ws) ∷ []) ≡ []
+    apart-list : (o : Outcome Packet) → ((p : Packet) → o ≡ accepted p → p .parts .identifier ≡ i) → ownOf (whereOf ws) s (onward o (arrivalOf list ws)) ≡ []
     unfolding arrivalOf
     apart-list (refused k) borne = refl
     apart-list (accepted p) borne =
-        rw (borne p refl) (of-others s (among (p .parts .kind) (0 ∷ 2 ∷ [])) (leb (streamsIn list) (placeIn list i)) _ (place-other i n))
+        rw (borne p refl) (of-others (whereOf ws) s (among (p .parts .kind) (0 ∷ 2 ∷ [])) (leb (streamsIn list) (placeIn list i)) _ (place-other i n))
 
   own-heard : (ws : List ℕ) → own 0 (heardBy alone ws ∷ []) ≡ map moved (own s (heardBy list ws ∷ []))
-  unfolding heardBy
+  unfolding heardBy arrivalBy
   own-heard ws =
       let i = packetOf (getD ws 0 0) ws .parts .identifier in
       let borne : (survey : Bool) (p : Packet) → readBy survey ws ≡ accepted p → p .parts .identifier ≡ i =

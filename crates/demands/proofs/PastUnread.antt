@@ -11,12 +11,15 @@ use Rattle.words.specs.Tests.{pick}
 use Rattle.words.specs.Part.{put}
 use Rattle.words.specs.Outcome.{Outcome, refused, accepted, onward, Done, saidOf, leftOf}
 use Rattle.words.specs.Refusals.{firstGiven}
+use Rattle.words.specs.Told.{told}
 use Rattle.words.proofs.Cases.{le-or-lt, true-or-false}
 use Rattle.words.proofs.RefusalLaws.{either-passed, first-same}
+use Rattle.words.proofs.ToldLaws.{told-said, told-left}
 use Rattle.words.proofs.AllLaws.{all-same, first-one}
 use Rattle.words.proofs.PartLaws.{part-within}
 use Rattle.packet.specs.declared.Packet.{Packet}
 use Rattle.packet.specs.Read.{readBy}
+use Rattle.packet.specs.Told.{whereOf}
 use Rattle.record.specs.Layout.{recordWords, choiceOf, heldWordsIn}
 use Rattle.record.specs.Good.{recordGood}
 use Rattle.table.specs.Layout.{streamsOf, base, layoutWords, recordAt, withRecord}
@@ -27,7 +30,7 @@ use Rattle.table.proofs.ListLaws.{list-same, stream-is}
 use Rattle.table.proofs.StreamLaws.{surveyed-same}
 use Rattle.play.specs.declared.Heard.{Heard}
 use Rattle.play.specs.declared.run.Reached.{Reached}
-use Rattle.play.specs.Play.{heardOf, tableAfter, heardDone, chosen, playOf}
+use Rattle.play.specs.Play.{heardOf, tableAfter, heardDone, chosen, playOf, playTold}
 use Rattle.play.specs.inner.Steps.{soughtOf}
 use Rattle.play.specs.Run.{goesOn, saidAt, leftAt, nextOf, entryWords, entryAt, Walk, ended, before, walkOf, wholeWalk, runOf}
 use Rattle.play.proofs.StreamLaws.{sought-below}
@@ -125,13 +128,23 @@ module _ (l x : List ℕ) (e : IsLayout l) where
       rw (streams-alone, stream-alone (p .parts .identifier)) in
       rw same (sought-alone p ws (soughtOf (p .parts .kind) (p .parts .identifier) l) refl)
 
-  play-alone : (ws : List ℕ) → (saidOf (playOf (l ++ x) ws) ≡ saidOf (playOf l ws)) × (leftOf (playOf (l ++ x) ws) (l ++ x) ≡ leftOf (playOf l ws) l ++ x)
-  play-alone ws =
+  played-alone : (ws : List ℕ) → Alike (playOf (l ++ x) ws) (playOf l ws)
+  played-alone ws =
       ⊎-elim
       (λ (w : wellMade l ≡ true). rw (play-step (l ++ x) ws (well-alone ∙ w), play-step l ws w, step-read (l ++ x), step-read l, chosen-alone ws)
       (read-alone ws (readBy (chosen l ws) ws)))
       (λ (w : wellMade l ≡ false). rw (play-refuses (l ++ x) ws (well-alone ∙ w), play-refuses l ws w) (refl, refl))
       (true-or-false (wellMade l))
+
+  play-alone : (ws : List ℕ)
+      → (saidOf (playTold (l ++ x) ws) ≡ saidOf (playTold l ws)) × (leftOf (playTold (l ++ x) ws) (l ++ x) ≡ leftOf (playTold l ws) l ++ x)
+  unfolding playTold
+  play-alone ws =
+      let k = played-alone ws in
+      let f = whereOf ws in (
+        told-said f (playOf (l ++ x) ws) ∙ ap (told f) (k .0) ∙ sym (told-said f (playOf l ws)),
+        told-left f (playOf (l ++ x) ws) (l ++ x) ∙ k .1 ∙ ap (λ (u : List ℕ). u ++ x) (sym (told-left f (playOf l ws) l)),
+      )
 
   -- ---- save
 

@@ -6,7 +6,8 @@ use mathlib.Core.List.{append-nil, append-assoc}
 use lib.ListN.{take-append-drop}
 use lib.Seq.{take-at, drop-at, length-take-le}
 use Rattle.words.specs.Numbers.{ROOM}
-use Rattle.words.specs.Outcome.{Outcome, refused, accepted, Done}
+use Rattle.words.specs.Outcome.{refused, accepted, Done}
+use Rattle.words.specs.Told.{Told}
 use Rattle.words.proofs.Cases.{le-or-lt, accepted-same}
 use Rattle.words.proofs.RefusalLaws.{first-passed}
 use Rattle.record.specs.Layout.{identifierOf, choiceOf, orderOf, countWords}
@@ -155,14 +156,14 @@ module _ (list : Listing) (first : List (List ℕ)) (t : List ℕ) (r : Right li
 -- ---- a day
 
 -- what holds of a day from where it has had the packets `before`; u is the morning's table
-record DayOn (list : Listing) (first : List (List ℕ)) (u : List ℕ) (before packets : List (List ℕ)) (answers : List (Outcome Heard)) (stops : List Stop)
+record DayOn (list : Listing) (first : List (List ℕ)) (u : List ℕ) (before packets : List (List ℕ)) (answers : List (Told Heard)) (stops : List Stop)
     (last : List ℕ) : Type 0 where
   right : Right list ((first ++ before) ++ packets) last
   ruled : answers ≡ answersAfter (traceOf list (first ++ before)) (traceOf list packets)
   pages : SamePages ours u stops
 
 module _ (list : Listing) (first : List (List ℕ)) (u : List ℕ) (morning : Right list first u) where
-  day-on : {before packets : List (List ℕ)} {t last : List ℕ} {answers : List (Outcome Heard)} {later : List Stop} → Right list (first ++ before) t
+  day-on : {before packets : List (List ℕ)} {t last : List ℕ} {answers : List (Told Heard)} {later : List Stop} → Right list (first ++ before) t
       → Day ours before t packets answers later last → DayOn list first u before packets answers later last
   day-on {before} r over = record { right = rw (append-nil (first ++ before)) r; ruled = refl; pages = tt }
   day-on {before} {t = t} r (plays {packets = packets} ws d) =
@@ -180,7 +181,7 @@ module _ (list : Listing) (first : List (List ℕ)) (u : List ℕ) (morning : Ri
       page-layout list (first ++ before) _ _ unbroken r ∙ sym (page-words t buffer (r .made) saved s) in
       record { right = k .right; ruled = k .ruled; pages = (rw same at (saves-as (playAll ours u before) (unbroken .made)), k .pages) }
 
-  pub days : (packets : List (List ℕ)) (last : List ℕ) (answers : List (Outcome Heard)) (later : List Stop) → Day ours [] u packets answers later last
+  pub days : (packets : List (List ℕ)) (last : List ℕ) (answers : List (Told Heard)) (later : List Stop) → Day ours [] u packets answers later last
       → DayRight ours list first u packets answers later last
   days packets last answers later d =
       let none : first ++ [] ≡ first = append-nil first in

@@ -5,7 +5,8 @@ use Rattle.words.proofs.Kit.{_≡_, refl, sym, ap, _∙_, Bool, true, false, �
 use Rattle.words.proofs.Kit.{length, getD}
 use mathlib.Core.List.{append-nil, append-assoc}
 use Rattle.words.specs.Tests.{pick, among}
-use Rattle.words.specs.Outcome.{Outcome, refused, accepted, onward, Done, saidOf, leftOf}
+use Rattle.words.specs.Outcome.{refused, accepted, onward, Done, saidOf, leftOf}
+use Rattle.words.specs.Told.{Told}
 use Rattle.words.proofs.Cases.{accepted-same, same-or-not}
 use Rattle.words.proofs.RefusalLaws.{first-passed}
 use Rattle.record.specs.Layout.{countedTypes, orderOf, countWords, lastOf}
@@ -16,7 +17,7 @@ use Rattle.table.specs.Start.{freshRecord, freshTable, startList, startOf}
 use Rattle.table.proofs.WellLaws.{well-record}
 use Rattle.table.proofs.StartLaws.{fresh-record, start-well-made}
 use Rattle.play.specs.declared.Heard.{Heard}
-use Rattle.play.specs.Play.{playOf}
+use Rattle.play.specs.Play.{playTold}
 use Rattle.play.proofs.KeepLaws.{play-keeps}
 use Rattle.demands.specs.Listing.{Listing, streamsIn, Valid, choiceIn}
 use Rattle.demands.specs.Things.{Thing}
@@ -103,7 +104,7 @@ module _ (list : Listing) (before : List (List ℕ)) (t : List ℕ) (r : Right l
             ∙ counted-more (eqb (a .kind) kind) (a .count) (countsOf kind old) ∙ ap countRule (sym (counts-append kind old (a ∷ [])));
       }
 
-  ruled-heard : (x : Outcome Arrival) → ((a : Arrival) → x ≡ accepted a → Heeded list a) → (s : ℕ) → s < streamsIn list
+  ruled-heard : (x : Told Arrival) → ((a : Arrival) → x ≡ accepted a → Heeded list a) → (s : ℕ) → s < streamsIn list
       → Ruled (own s (traceOf list before) ++ own s (x ∷ [])) (recordAt s (leftOf (onward x (doneOn t)) t))
   ruled-heard (refused n) f s h = ruled-same s [] h refl
   ruled-heard (accepted a) f s h =
@@ -114,11 +115,11 @@ module _ (list : Listing) (before : List (List ℕ)) (t : List ℕ) (r : Right l
       (same-or-not s (a .stream))
 
   -- a table that is right for some packets is right after one more
-  pub right-more : (ws : List ℕ) → Right list (before ++ (ws ∷ [])) (leftOf (playOf t ws) t)
+  pub right-more : (ws : List ℕ) → Right list (before ++ (ws ∷ [])) (leftOf (playTold t ws) t)
   right-more ws =
       let l = listed-on list t listing ws in
-      let same : leftOf (playOf t ws) t ≡ leftOf (onward (heardBy list ws) (doneOn t)) t =
-      ap (λ (o : Outcome (Done Heard (List ℕ))). leftOf o t) (play-is list t listing ws) in
+      let same : leftOf (playTold t ws) t ≡ leftOf (onward (heardBy list ws) (doneOn t)) t =
+      ap (λ (o : Told (Done Heard (List ℕ))). leftOf o t) (play-is list t listing ws) in
       let grown : (s : ℕ) → own s (traceOf list (before ++ (ws ∷ []))) ≡ own s (traceOf list before) ++ own s (heardBy list ws ∷ []) =
       λ s. ap (own s) (trace-append list before (ws ∷ [])) ∙ own-append s (traceOf list before) (heardBy list ws ∷ []) in
       record {
@@ -135,7 +136,7 @@ module _ (list : Listing) (before : List (List ℕ)) (t : List ℕ) (r : Right l
       }
 
   -- and what is said of it is what the rules say
-  answer-heard : (x : Outcome Arrival) → ((a : Arrival) → x ≡ accepted a → Heeded list a) → saidOf (onward x (doneOn t)) ≡ answerTo (traceOf list before) x
+  answer-heard : (x : Told Arrival) → ((a : Arrival) → x ≡ accepted a → Heeded list a) → saidOf (onward x (doneOn t)) ≡ answerTo (traceOf list before) x
   unfolding addedBy addedTo
   answer-heard (refused n) f = refl
   answer-heard (accepted a) f =
@@ -145,7 +146,7 @@ module _ (list : Listing) (before : List (List ℕ)) (t : List ℕ) (r : Right l
       ap (λ (ws : List ℕ). addedOf (lastOf ws) (a .count)) (r .counts (a .stream) (g .stream) (a .kind) (g .kind)) in
       rw (added, added-by-last (countsOf (a .kind) (own (a .stream) (traceOf list before))) (a .count))
 
-  pub right-answer : (ws : List ℕ) → saidOf (playOf t ws) ≡ answerTo (traceOf list before) (heardBy list ws)
+  pub right-answer : (ws : List ℕ) → saidOf (playTold t ws) ≡ answerTo (traceOf list before) (heardBy list ws)
   right-answer ws = ap saidOf (play-is list t listing ws) ∙ answer-heard (heardBy list ws) (heard-fine list ws)
 
 -- ---- many
@@ -153,13 +154,13 @@ module _ (list : Listing) (before : List (List ℕ)) (t : List ℕ) (r : Right l
 pub right-on : (list : Listing) (before packets : List (List ℕ)) (t : List ℕ) → Right list before t → Right list (before ++ packets) (playAll ours t packets)
 right-on list before [] t r = rw (append-nil before) r
 right-on list before (ws ∷ packets) t r =
-    rw (← append-assoc before (ws ∷ []) packets) (right-on list (before ++ (ws ∷ [])) packets (leftOf (playOf t ws) t) (right-more list before t r ws))
+    rw (← append-assoc before (ws ∷ []) packets) (right-on list (before ++ (ws ∷ [])) packets (leftOf (playTold t ws) t) (right-more list before t r ws))
 
 pub answers-on : (list : Listing) (before packets : List (List ℕ)) (t : List ℕ) → Right list before t
     → saidAll ours t packets ≡ answersAfter (traceOf list before) (traceOf list packets)
 answers-on list before [] t r = refl
 answers-on list before (ws ∷ packets) t r =
-    let rest = answers-on list (before ++ (ws ∷ [])) packets (leftOf (playOf t ws) t) (right-more list before t r ws) in
+    let rest = answers-on list (before ++ (ws ∷ [])) packets (leftOf (playTold t ws) t) (right-more list before t r ws) in
     rw (right-answer list before t r ws, rest, trace-append list before (ws ∷ []))
 
 -- the words past the layout stay
@@ -167,4 +168,4 @@ pub past-on : (list : Listing) (packets : List (List ℕ)) (t : List ℕ) → st
 past-on list [] t e = refl
 past-on list (ws ∷ packets) t e =
     let k = play-keeps t ws in
-    past-on list packets (leftOf (playOf t ws) t) (k .streams ∙ e) ∙ rw e at (k .past)
+    past-on list packets (leftOf (playTold t ws) t) (k .streams ∙ e) ∙ rw e at (k .past)

@@ -4,10 +4,11 @@ use Rattle.words.proofs.Kit.{_≡_, refl, sym, ap, _∙_, true, false, ⊎-elim
 use Rattle.words.proofs.Kit.{length, getD, drop}
 use native.Mathlib.Nat.{add-zero}
 use lib.Seq.{getD-drop}
-use Rattle.words.specs.Outcome.{Outcome, refused, accepted, saidOf, leftOf}
+use Rattle.words.specs.Told.{Told}
+use Rattle.words.specs.Outcome.{refused, accepted, saidOf, leftOf}
 use Rattle.words.proofs.Cases.{le-or-lt, true-or-false}
 use Rattle.packet.specs.Header.{sizeOf}
-use Rattle.play.specs.Play.{playOf}
+use Rattle.play.specs.Play.{playTold}
 use Rattle.play.specs.Run.{goesOn, saidAt, leftAt, nextOf, entryWords, entryOf, entryAt, Walk, walkOf, wholeWalk, reachedOf, answersOf, runOf}
 use Rattle.demands.specs.Listing.{Listing}
 use Rattle.demands.specs.Trace.{Arrival, Trace, heardBy, traceOf, answerTo}
@@ -16,12 +17,12 @@ use Rattle.demands.specs.Right.{Right, pastOf}
 use Rattle.demands.specs.Recording.{goesPast, packetsFrom, entriesOf, wordsPast, Runs}
 use Rattle.demands.proofs.RightLaws.{right-more, right-answer, right-on, answers-on, past-on}
 
-said-goes : (before : Trace) (x : Outcome Arrival) → goesOn (answerTo before x) ≡ goesPast x
+said-goes : (before : Trace) (x : Told Arrival) → goesOn (answerTo before x) ≡ goesPast x
 said-goes before (refused n) = refl
 said-goes before (accepted a) = refl
 
 on-same : (list : Listing) (before : List (List ℕ)) (t : List ℕ) → Right list before t → (ws : List ℕ)
-    → goesOn (saidOf (playOf t ws)) ≡ goesPast (heardBy list ws)
+    → goesOn (saidOf (playTold t ws)) ≡ goesPast (heardBy list ws)
 on-same list before t r ws = ap goesOn (right-answer list before t r ws) ∙ said-goes (traceOf list before) (heardBy list ws)
 
 -- a walk from a place on, and its packets played one by one
@@ -37,11 +38,11 @@ unfolding walkOf saidAt leftAt nextOf entryAt
 walked list zero ws at before t r = record { entered = refl; next = sym (add-zero at); table = refl; entries = refl }
 walked list (suc n) ws at before t r =
     let next : ℕ = at + sizeOf (getD ws at 0) in
-    let left : List ℕ = leftOf (playOf t (drop at ws)) t in
+    let left : List ℕ = leftOf (playTold t (drop at ws)) t in
     let first : sizeOf (getD ws at 0) ≡ sizeOf (getD (drop at ws) 0 0) =
     ap sizeOf (ap (λ (i : ℕ). getD ws i 0) (sym (add-zero at)) ∙ sym (getD-drop at ws 0 0)) in
-    let entry : entryOf (saidOf (playOf t (drop at ws))) (sizeOf (getD ws at 0)) ≡ entryOf (saidOf (playOf t (drop at ws))) (sizeOf (getD (drop at ws) 0 0)) =
-    ap (entryOf (saidOf (playOf t (drop at ws)))) first in
+    let says = saidOf (playTold t (drop at ws)) in
+    let entry : entryOf says (sizeOf (getD ws at 0)) ≡ entryOf says (sizeOf (getD (drop at ws) 0 0)) = ap (entryOf says) first in
     let same = on-same list before t r (drop at ws) in
     ⊎-elim (λ (h : length ws ≤ at). rw (le-leb (length ws) at h) (record { entered = refl; next = sym (add-zero at); table = refl; entries = refl }))
     (λ (h : at < length ws).
@@ -53,7 +54,7 @@ walked list (suc n) ws at before t r =
       entered = ap suc (ih .entered);
       next = rw e (omega (arith, ih .next, first));
       table = ih .table;
-      entries = rw entry (ap (λ (l : List ℕ). entryOf (saidOf (playOf t (drop at ws))) (sizeOf (getD (drop at ws) 0 0)) ++ l) (ih .entries));
+      entries = rw entry (ap (λ (l : List ℕ). entryOf (saidOf (playTold t (drop at ws))) (sizeOf (getD (drop at ws) 0 0)) ++ l) (ih .entries));
     }))
     (λ (e : goesPast (heardBy list (drop at ws)) ≡ false).
     rw (lt-leb (length ws) at h, same, e) (record { entered = refl; next = rw e; table = refl; entries = ap (λ (l : List ℕ). l ++ []) entry }))

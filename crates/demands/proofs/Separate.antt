@@ -3,7 +3,8 @@
 use Rattle.words.proofs.Kit.{_≡_, refl, sym, ap, _∙_, Bool, false, ⊎-elim, List, [], _∷_, _++_, ℕ, _<_, eqb-true, eqb}
 use mathlib.Core.List.{map, append-nil}
 use Rattle.words.specs.Tests.{pick}
-use Rattle.words.specs.Outcome.{Outcome, refused, accepted}
+use Rattle.words.specs.Told.{Told}
+use Rattle.words.specs.Outcome.{refused, accepted}
 use Rattle.words.proofs.Cases.{true-or-false}
 use Rattle.table.specs.Layout.{recordAt}
 use Rattle.play.specs.declared.Heard.{Heard}
@@ -19,11 +20,11 @@ use Rattle.demands.proofs.Determined.{records-same, layouts-same}
 
 -- ---- a stream's own packets
 
-own-not : (s : ℕ) (x : Outcome Arrival) (trace : Trace) → isOwn s x ≡ false → own s (x ∷ trace) ≡ own s trace
+own-not : (s : ℕ) (x : Told Arrival) (trace : Trace) → isOwn s x ≡ false → own s (x ∷ trace) ≡ own s trace
 own-not s (refused n) trace e = refl
 own-not s (accepted a) trace e = rw e
 
-own-same : (s : ℕ) (x : Outcome Arrival) (xs ys : Trace) → own s xs ≡ own s ys → own s (x ∷ xs) ≡ own s (x ∷ ys)
+own-same : (s : ℕ) (x : Told Arrival) (xs ys : Trace) → own s xs ≡ own s ys → own s (x ∷ xs) ≡ own s (x ∷ ys)
 own-same s (refused n) xs ys e = e
 own-same s (accepted a) xs ys e = rw e
 
@@ -38,14 +39,14 @@ own-altered list s (dropped {ps} {qs} ws e a) = own-not s (heardBy list ws) (tra
 -- ---- the answers to them
 
 -- by the stream's own packets before each
-ownHeard : List Arrival → Arrival → Outcome Heard
+ownHeard : List Arrival → Arrival → Told Heard
 ownHeard before a = accepted (record { size = a .size; kind = a .kind; stream = a .stream; missing = addedAfter (countsOf (a .kind) before) (a .count) })
 
-ownRule : List Arrival → List Arrival → List (Outcome Heard)
+ownRule : List Arrival → List Arrival → List (Told Heard)
 ownRule before [] = []
 ownRule before (a ∷ later) = ownHeard before a ∷ ownRule (before ++ (a ∷ [])) later
 
-chosen : (s : ℕ) (x : Outcome Arrival) (before later : Trace) (answers : List (Outcome Heard)) → answers ≡ ownRule (own s (before ++ (x ∷ []))) (own s later)
+chosen : (s : ℕ) (x : Told Arrival) (before later : Trace) (answers : List (Told Heard)) → answers ≡ ownRule (own s (before ++ (x ∷ []))) (own s later)
     → pick (isOwn s x) (answerTo before x ∷ answers) answers ≡ ownRule (own s before) (own s (x ∷ later))
 unfolding ownRule ownHeard
 chosen s (refused n) before later answers e =

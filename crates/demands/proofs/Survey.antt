@@ -6,15 +6,19 @@ use Rattle.words.proofs.Kit.{_≡_, refl, sym, ap, _∙_, Bool, true, false, no
 use Rattle.words.proofs.Kit.{subst, eqb-true, not-true, le-ltb, le-leb, eqb, leb, length, getD}
 use mathlib.Core.Logic.{_↔_}
 use native.Mathlib.Nat.{mod-lt, mul-comm, mul-le-mul, le-refl, le-trans}
+use Rattle.words.specs.declared.Where.the-variants.{Word}
+use Rattle.words.specs.declared.Refusal.{Refusal}
 use Rattle.words.specs.Numbers.{STREAM}
-use Rattle.words.specs.Tests.{pick, both, either, among}
+use Rattle.words.specs.Tests.{pick, when, both, either, among}
 use Rattle.words.specs.All.{all}
 use Rattle.words.specs.Word.{join}
 use Rattle.words.specs.Part.{part}
 use Rattle.words.specs.Refusals.{firstGiven, onlyWhere}
-use Rattle.words.specs.Outcome.{Outcome, refused, accepted, onward, saidOf}
+use Rattle.words.specs.Outcome.{Outcome, Reply, refused, accepted, onward, saidOf}
+use Rattle.words.specs.Told.{told, refusal}
 use Rattle.words.proofs.Cases.{both-left, both-right, accepted-same}
 use Rattle.words.proofs.RefusalLaws.{first-passed, none-given, onward-first}
+use Rattle.words.proofs.ToldLaws.{told-onward}
 use Rattle.words.proofs.AllLaws.{all-at}
 use Rattle.words.proofs.PartLaws.{part-length}
 use Rattle.fields.specs.Format.{packingSize, itemSize, codeKnown, codeFits, formatOk}
@@ -29,16 +33,19 @@ use Rattle.packet.specs.Parts.{streamed, hasSeconds, hasFraction, classAt, seco
 use Rattle.packet.specs.Parts.{fractionOf, partsOf, bodyOf, packetOf}
 use Rattle.packet.specs.Read.{timeOver, classBad, governed, padList, listBy, readBy, readOf}
 use Rattle.packet.specs.Survey.{surveyOf, readSurveyOf}
+use Rattle.packet.specs.Told.{whereOf, readTold, surveyTold}
 use Rattle.packet.specs.inner.Steps.{padChecks}
 use Rattle.packet.proofs.ReadLaws.{read-accepts, body-inside, read-inside}
 use Rattle.packet.proofs.FrontLaws.{survey-other}
+use Rattle.packet.proofs.ToldLaws.{told-given}
+use Rattle.packet.proofs.InsideLaws.{stream-place}
 use Rattle.payload_format.specs.Format.{componentCount, wideProcessing, formatBad, carriedBits}
 use Rattle.payload_format.specs.Count.{groupOf, countBad, wordsFor, neededOf}
 use Rattle.bitstream.specs.Carried.{needed}
 use Rattle.payload_unpack.specs.Unpack.{Buffers, unpackOf}
 use Rattle.vrt49.proofs.CallLaws.{_and_}
 use Rattle.demands.specs.Listing.{Listing, streamsIn, placeIn, chosenIn}
-use Rattle.demands.specs.Trace.{arrivalOf, heardBy}
+use Rattle.demands.specs.Trace.{arrivalOf, arrivalBy, heardBy}
 use Rattle.demands.specs.Program.{ours}
 use Rattle.demands.specs.Samples.{Hold}
 use Rattle.demands.specs.Survey.{OneN, OthersPlain, UnlistedPlain, surveySamples}
@@ -213,23 +220,31 @@ module _ (ws : List ℕ) (s : Survey) (e : readSurveyOf ws ≡ accepted s) where
     unfolding surveyOf packetOf
     one-read = rw (eq-eqb (typeOf w) 1 k) (record { one = one; most = items-few; needs = needs-body; unpacks = unpacks-body })
 
-pub one-n : (ws : List ℕ) (s : Survey) → readSurveyOf ws ≡ accepted s → s .packet .parts .kind ≡ 1 → OneN ours ws s
+pub one-n : (ws : List ℕ) (s : Survey) → surveyTold ws ≡ accepted s → s .packet .parts .kind ≡ 1 → OneN ours ws s
 unfolding surveyOf packetOf partsOf
-one-n ws s e k =
+one-n ws s told k =
+    let e = told-given ws s told in
     let is = survey-is ws s e in
     let kind : typeOf (getD ws 0 0) ≡ 1 = ap (λ (x : Survey). x .packet .parts .kind) is ∙ k in
     subst (OneN ours ws) is (one-read ws s e kind)
 
 -- ---- packets that stay plain
 
-pub others-plain : OthersPlain ours
+abbrev plainly : {R : Type 0} → Packet → Reply R Survey
+plainly p = accepted (record { packet = p; pad = 0; first = 0; second = 0; items = 0 })
+
+other-read : (ws : List ℕ) → (packetOf (getD ws 0 0) ws .parts .kind ≡ 1 → ⊥) → readSurveyOf ws ≡ onward (readOf ws) plainly
 unfolding readSurveyOf readBy surveyOf packetOf partsOf
-others-plain ws other =
+other-read ws other =
     let w = getD ws 0 0 in
     let list = listBy true w ws in
-    let plain : Packet → Outcome Survey = λ p. accepted (record { packet = p; pad = 0; first = 0; second = 0; items = 0 }) in
+    let plain : Packet → Outcome Survey = plainly in
     ap (firstGiven list) (rw (ne-eqb (typeOf w) 1 other)) ∙ sym (onward-first list (packetOf w ws) plain)
     ∙ ap (λ (o : Outcome Packet). onward o plain) (survey-other true ws other)
+
+pub others-plain : OthersPlain ours
+unfolding readTold surveyTold
+others-plain ws other = ap (told (whereOf ws)) (other-read ws other) ∙ told-onward (whereOf ws) (readOf ws) plainly
 
 either-yes : (t : Bool) → either t true ≡ true
 either-yes true = refl
@@ -239,22 +254,26 @@ module _ (list : Listing) (t ws : List ℕ) (none : streamsIn list ≤ placeIn l
   abbrev borne : ℕ
   borne = packetOf (getD ws 0 0) ws .parts .identifier
 
-  unheard : (o : Outcome Packet) → readOf ws ≡ o → onward (heardBy list ws) (doneOn t) ≡ onward o (λ p. refused STREAM)
-  unfolding heardBy chosenIn arrivalOf
+  abbrev notListed : Refusal
+  notListed = refusal STREAM (Word (when (streamed (getD ws 0 0)) 1))
+
+  unheard : (o : Outcome Packet) → readOf ws ≡ o → onward (heardBy list ws) (doneOn t) ≡ onward (told (whereOf ws) o) (λ p. refused notListed)
+  unfolding heardBy arrivalBy chosenIn arrivalOf
   unheard (refused n) e = rw (le-ltb (placeIn list borne) (streamsIn list) none, e)
   unheard (accepted p) e =
       let same : p .parts .identifier ≡ borne = ap (λ (q : Packet). q .parts .identifier) (sym (read-accepts false ws p e .says)) in
       rw (le-ltb (placeIn list borne) (streamsIn list) none, e, same, le-leb (streamsIn list) (placeIn list borne) none)
-      (rw (either-yes (among (p .parts .kind) (0 ∷ 2 ∷ []))))
+      (rw (either-yes (among (p .parts .kind) (0 ∷ 2 ∷ [])), stream-place ws))
 
 pub unlisted-plain : UnlistedPlain ours
+unfolding readTold
 unlisted-plain list packets t r ws none = play-is list t (right-listed r) ws ∙ unheard list t ws none (readOf ws) refl
 
 -- ---- samples
 
 pub survey-samples : Hold surveySamples
-unfolding surveySamples readSurveyOf readBy surveyOf padBad classKnown highKnown lowKnown payloadWhole payloadBits vectorBits itemsIn itemBits codeOf
-    formatFirst formatSecond join trailed tsmOf reservedOf streamed hasSeconds hasFraction classAt secondsAt fractionAt bodyAt requiredOf bodyLength wordIf
-    classHigh classLow fractionOf partsOf bodyOf packetOf part timeOver classBad
+unfolding surveySamples readTold surveyTold whereOf readSurveyOf readBy surveyOf padBad classKnown highKnown lowKnown payloadWhole payloadBits vectorBits
+    itemsIn itemBits codeOf formatFirst formatSecond join trailed tsmOf reservedOf streamed hasSeconds hasFraction classAt secondsAt fractionAt bodyAt
+    requiredOf bodyLength wordIf classHigh classLow fractionOf partsOf bodyOf packetOf part timeOver classBad
 survey-samples =
     refl and refl and refl and refl and refl and refl and refl and refl and refl and refl and refl and refl and refl and refl and refl and refl and refl and tt

@@ -7,7 +7,10 @@ use Rattle.words.specs.Tests.{pick}
 use Rattle.words.specs.Part.{part}
 use Rattle.words.specs.SetBits.{bitsOf, above}
 use Rattle.words.specs.All.{all, firstOf}
-use Rattle.words.specs.Outcome.{Outcome, refused, accepted, Done, saidOf, leftOf}
+use Rattle.words.specs.declared.Where.the-variants.{Nowhere}
+use Rattle.words.specs.declared.Refusal.{Refusal}
+use Rattle.words.specs.Outcome.{refused, accepted, Done, saidOf, leftOf}
+use Rattle.words.specs.Told.{Told, refusal}
 use Rattle.fields.specs.Sizes.{fieldSize, wordsOf}
 use Rattle.fields.specs.Rules.{ruleOf}
 use Rattle.fields.specs.Layout.{spanOf, obeyed, bodyWords, placeOf, fieldOf, lowBitsSet, otherLength, ruleBroken}
@@ -15,7 +18,8 @@ use Rattle.packet.specs.declared.Packet.{Packet}
 use Rattle.packet.specs.Header.{countOf, trailed, tsmOf, reservedOf}
 use Rattle.packet.specs.Parts.{streamed, hasSeconds, hasFraction, classAt, secondsAt, fractionAt, bodyAt, requiredOf, bodyLength, wordIf, classHigh, classLow}
 use Rattle.packet.specs.Parts.{fractionOf, partsOf, bodyOf, packetOf}
-use Rattle.packet.specs.Read.{timeOver, readOf, classBad, readBy}
+use Rattle.packet.specs.Read.{timeOver, classBad, readBy}
+use Rattle.packet.specs.Told.{readTold}
 use Rattle.record.specs.Layout.{orderOf, countWords, seenOf, lastOf}
 use Rattle.record.specs.Counts.{missedOf}
 use Rattle.table.specs.Layout.{recordAt}
@@ -24,7 +28,7 @@ use Rattle.table.specs.Identifiers.{apart, listGood, choicesGood}
 use Rattle.play.specs.declared.Heard.{Heard}
 use Rattle.demands.specs.Listing.{Listing, Valid, placeIn, chosenIn}
 use Rattle.demands.specs.Things.{Thing, wholeField}
-use Rattle.demands.specs.Trace.{Arrival, arrivalOf, heardBy, traceOf, own, lastCarried, countsOf, countRule, addedAfter, answerTo}
+use Rattle.demands.specs.Trace.{Arrival, arrivalOf, arrivalBy, heardBy, traceOf, own, lastCarried, countsOf, countRule, addedAfter, answerTo}
 use Rattle.demands.specs.Program.{Program, playAll}
 use Rattle.demands.specs.Right.{heldIn, Right}
 use Rattle.demands.specs.Resumed.{over, plays}
@@ -47,14 +51,14 @@ first = 0x40000004 ∷ 7 ∷ 0x40000000 ∷ 1 ∷ []
 abbrev second : List ℕ
 second = 0x40000004 ∷ 7 ∷ 0x40000000 ∷ 2 ∷ []
 
-abbrev sizeRead : Outcome Packet → ℕ
-sizeRead (refused n) = 0
+abbrev sizeRead : Told Packet → ℕ
+sizeRead (refused r) = 0
 sizeRead (accepted p) = p .size
 
 -- what reading and the list make of them
 record Computed : Type 0 where
-  read3 : (p : Packet) × (readOf data3 ≡ accepted p) × (p .size ≡ 3)
-  read4 : (p : Packet) × (readOf data4 ≡ accepted p) × (p .size ≡ 4)
+  read3 : (p : Packet) × (readTold data3 ≡ accepted p) × (p .size ≡ 3)
+  read4 : (p : Packet) × (readTold data4 ≡ accepted p) × (p .size ≡ 4)
   heard3 : heardBy list data3 ≡ accepted (record { stream = 0; kind = 1; count = 15; size = 3; body = [] })
   heard-first : heardBy list first ≡ accepted (record { stream = 0; kind = 4; count = 0; size = 4; body = 0x40000000 ∷ 1 ∷ [] })
   heard-second : heardBy list second ≡ accepted (record { stream = 0; kind = 4; count = 0; size = 4; body = 0x40000000 ∷ 2 ∷ [] })
@@ -62,7 +66,7 @@ record Computed : Type 0 where
   field-second : fieldOf 30 (0x40000000 ∷ 2 ∷ []) ≡ 2 ∷ []
 
 computed : Computed
-unfolding heardBy arrivalOf placeIn chosenIn firstOf trailed tsmOf reservedOf streamed hasSeconds hasFraction classAt secondsAt fractionAt
+unfolding heardBy arrivalBy readTold arrivalOf placeIn chosenIn firstOf trailed tsmOf reservedOf streamed hasSeconds hasFraction classAt secondsAt fractionAt
     bodyAt requiredOf bodyLength
     wordIf classHigh classLow fractionOf partsOf bodyOf packetOf part timeOver classBad readBy lowBitsSet otherLength ruleBroken bodyWords spanOf obeyed ruleOf
     wordsOf fieldSize bitsOf above placeOf fieldOf
@@ -79,14 +83,14 @@ computed = record {
 -- ---- demand 2's layouts
 
 -- a constant refusal
-pub no-constant-refusal : (P : Program) (n : ℕ) → ((ws : List ℕ) → P .read ws ≡ refused n) → Demand2 P → ⊥
-no-constant-refusal P n same d =
-    let e : refused n ≡ accepted (computed .read3 .0) = sym (same data3) ∙ d .reads data3 ∙ computed .read3 .1 in
+pub no-constant-refusal : (P : Program) (r : Refusal) → ((ws : List ℕ) → P .read ws ≡ refused r) → Demand2 P → ⊥
+no-constant-refusal P r same d =
+    let e : refused r ≡ accepted (computed .read3 .0) = sym (same data3) ∙ d .reads data3 ∙ computed .read3 .1 in
     let z : _≡_ {A = ℕ} 0 3 = ap sizeRead e ∙ computed .read3 .2 in
     omega (arith, z)
 
 -- a constant answer: the same for every packet that is legal
-pub no-constant-answer : (P : Program) (p : Packet) → ((ws : List ℕ) (q : Packet) → readOf ws ≡ accepted q → P .read ws ≡ accepted p) → Demand2 P → ⊥
+pub no-constant-answer : (P : Program) (p : Packet) → ((ws : List ℕ) (q : Packet) → readTold ws ≡ accepted q → P .read ws ≡ accepted p) → Demand2 P → ⊥
 no-constant-answer P p same d =
     let three : p .size ≡ 3 =
     ap sizeRead (sym (same data3 (computed .read3 .0) (computed .read3 .1)) ∙ d .reads data3 ∙ computed .read3 .1) ∙ computed .read3 .2 in
@@ -165,7 +169,7 @@ module _ (P : Program) (d : Demand3 P) where
   no-invented-missing number invented list packets t r ws a e other =
       let one = d .days list packets (ws ∷ []) t _ _ [] r (plays ws over) in
       let said : saidOf (P .play t ws) ≡ answerTo (traceOf list packets) (heardBy list ws) =
-      ap (λ (l : List (Outcome Heard)). getD l 0 (refused 0)) (one .ruled) in
+      ap (λ (l : List (Told Heard)). getD l 0 (refused (refusal 0 Nowhere))) (one .ruled) in
       other (sym (invented t ws _ (said ∙ ap (answerTo (traceOf list packets)) e)))
 
   -- one that the packet alone gives, whatever was counted before

@@ -3,13 +3,14 @@
 -- are the `ensures` of the calls, word for word.
 use Rattle.words.specs.Kit.{_≡_, ℕ, List, [], _∷_}
 use mathlib.Core.List.{map}
-use Rattle.words.specs.Outcome.{Outcome, refused, checked, measured, Done, Meets}
+use Rattle.words.specs.Outcome.{Reply, refused, checked, measured, Done, Meets}
 use Rattle.fields.specs.Answers.{foundPaper}
 use Rattle.fields.specs.Layout.{fieldCount, foundOf, contextOf}
 use Rattle.packet.specs.declared.Parts.{Parts}
-use Rattle.packet.specs.Read as Read
+use Rattle.packet.specs.Read.{parsedPaper}
 use Rattle.packet_trailer.specs.Trailer.{trailerOf, trailerWordOf, trailerPaper}
-use Rattle.packet.specs.Survey.{readSurveyOf, surveyPaper}
+use Rattle.packet.specs.Survey.{surveyPaper}
+use Rattle.packet.specs.Told.{readTold, surveyTold}
 use Rattle.packet_write.specs.Write.{writeOf, writeSurveyOf}
 use Rattle.payload_format.specs.Answers.{shownPaper}
 use Rattle.payload_format.specs.Count.{neededOf}
@@ -20,7 +21,7 @@ use Rattle.payload_format.specs.Signs.{signedOf}
 use Rattle.payload_unpack.specs.Unpack.{Buffers, unpackOf}
 use Rattle.table.specs.Start.{startOf}
 use Rattle.table.specs.Well.{wellMade}
-use Rattle.play.specs.Play as Play
+use Rattle.play.specs.Play.{playTold, playedPaper}
 use Rattle.play.specs.Run.{runOf, runPaper}
 use Rattle.page.specs.PutBack.{putBackOf}
 use Rattle.page.specs.Save.{lengthOf, saveOf}
@@ -36,24 +37,24 @@ use Rattle.vrt49.specs.Answers.{plain}
 -- a call that answers alone, and one that is lent words: how its answers read on paper, what is wanted by what it is handed, and which words are lent
 pub data Call : Type 1 where
   answers : {H A B : Type 0} → (A → B) → (H → B) → Call
-  lends : {H A B L : Type 0} → (A → Outcome B) → (H → Outcome (Done B L)) → (H → L) → Call
+  lends : {H R A B L : Type 0} → (A → Reply R B) → (H → Reply R (Done B L)) → (H → L) → Call
 
 -- "gets an answer": whatever is handed in, some answer, with lent words afterwards, meets the promise
 abbrev pub SomeOutcome : Call → Type 0
 SomeOutcome (answers {H} {A} paper want) = (h : H) → (r : A) × (paper r ≡ want h)
-SomeOutcome (lends {H} {A} {B} {L} paper want lent) = (h : H) → (r : A) × (after : L) × Meets paper (want h) (lent h) r after
+SomeOutcome (lends {H} {R} {A} {B} {L} paper want lent) = (h : H) → (r : A) × (after : L) × Meets paper (want h) (lent h) r after
 
 -- "Prove that two outcomes meeting it are equal": the answers, and the lent words afterwards
 abbrev pub OneOutcome : Call → Type 0
 OneOutcome (answers {H} {A} paper want) = (h : H) (r s : A) → paper r ≡ want h → paper s ≡ want h → r ≡ s
-OneOutcome (lends {H} {A} {B} {L} paper want lent) =
+OneOutcome (lends {H} {R} {A} {B} {L} paper want lent) =
     (h : H) (r s : A) (after after′ : L) → Meets paper (want h) (lent h) r after → Meets paper (want h) (lent h) s after′ → (r ≡ s) × (after ≡ after′)
 
 -- "A refusal changes no word of any buffer it was lent"
 abbrev pub RefusalLeaves : Call → Type 0
 RefusalLeaves (answers paper want) = Unit
-RefusalLeaves (lends {H} {A} {B} {L} paper want lent) =
-    (h : H) (r : A) (after : L) (n : ℕ) → Meets paper (want h) (lent h) r after → paper r ≡ refused n → after ≡ lent h
+RefusalLeaves (lends {H} {R} {A} {B} {L} paper want lent) =
+    (h : H) (r : A) (after : L) (n : R) → Meets paper (want h) (lent h) r after → paper r ≡ refused n → after ≡ lent h
 
 -- something of each call of a list
 abbrev pub Each : (Call → Type 0) → List {1} Call → Type 0
@@ -74,10 +75,10 @@ findCall = answers foundPaper (λ (h : ℕ × List ℕ). foundOf (h .0) (h .1))
 
 -- packet::read, read_survey, packet_write::write, write_survey, packet_trailer::trailer_parts, trailer_word
 abbrev pub readCall : Call
-readCall = answers Read.parsedPaper Read.readOf
+readCall = answers parsedPaper readTold
 
 abbrev pub readSurveyCall : Call
-readSurveyCall = answers surveyPaper readSurveyOf
+readSurveyCall = answers surveyPaper surveyTold
 
 abbrev pub writeCall : Call
 writeCall = lends measured (λ (h : Parts × List ℕ × List ℕ × ℕ). writeOf (h .0) (h .1) (h .2) (h .3)) (λ h. h .2)
@@ -121,7 +122,7 @@ wellMadeCall = answers plain wellMade
 
 -- play::play, play_run
 abbrev pub playCall : Call
-playCall = lends Play.playedPaper (λ (h : List ℕ × List ℕ). Play.playOf (h .0) (h .1)) (λ h. h .0)
+playCall = lends playedPaper (λ (h : List ℕ × List ℕ). playTold (h .0) (h .1)) (λ h. h .0)
 
 abbrev pub playRunCall : Call
 playRunCall = lends runPaper (λ (h : List ℕ × List ℕ × ℕ × List ℕ). runOf (h .0) (h .1) (h .2) (h .3)) (λ h. (h .0, h .3))

@@ -26,7 +26,7 @@ pub record StartMade (list : Listing) (lent t : List ℕ) : Type 0 where
 -- `play` was called with each of the packets, one after the other, on a table that was t at first; its answers, and the table at last
 pub data PlaysMade : List ℕ → List (List ℕ) → List Played → List ℕ → Type 0 where
   none : {t : List ℕ} → PlaysMade t [] [] t
-  next : {t ws after last : List ℕ} {packets : List (List ℕ)} {r : Played} {rs : List Played} → Meets Play.playedPaper (Play.playOf t ws) t r after
+  next : {t ws after last : List ℕ} {packets : List (List ℕ)} {r : Played} {rs : List Played} → Meets Play.playedPaper (Play.playTold t ws) t r after
       → PlaysMade after packets rs last → PlaysMade t (ws ∷ packets) (r ∷ rs) last
 
 -- `save` was called with a table and a lent buffer, was accepted, and wrote the page
@@ -51,7 +51,7 @@ pub record BackMade (page t : List ℕ) : Type 0 where
 pub data DayMade : List (List ℕ) → List ℕ → List (List ℕ) → List Played → List Stop → List ℕ → Type 0 where
   over : {before : List (List ℕ)} {t : List ℕ} → DayMade before t [] [] [] t
   plays : {before packets : List (List ℕ)} {t ws after last : List ℕ} {r : Played} {rs : List Played} {stops : List Stop}
-      → Meets Play.playedPaper (Play.playOf t ws) t r after → DayMade (before ++ (ws ∷ [])) after packets rs stops last
+      → Meets Play.playedPaper (Play.playTold t ws) t r after → DayMade (before ++ (ws ∷ [])) after packets rs stops last
       → DayMade before t (ws ∷ packets) (r ∷ rs) stops last
   stops : {before packets : List (List ℕ)} {t page back last : List ℕ} {rs : List Played} {later : List Stop} → SaveMade t page → BackMade page back
       → DayMade before back packets rs later last → DayMade before t packets rs (record { after = before; page = page } ∷ later) last

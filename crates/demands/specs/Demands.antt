@@ -4,14 +4,14 @@ use Rattle.words.specs.Kit.{_≡_, ℕ, _+_, _^_, _≤_, _<_, Bool, List, [], _
 use Rattle.words.specs.Numbers.{ROOM}
 use Rattle.words.specs.Word.{bits, has}
 use Rattle.words.specs.Part.{part}
-use Rattle.words.specs.Outcome.{Outcome, refused, accepted, Done, saidOf, leftOf}
+use Rattle.words.specs.Outcome.{refused, accepted, Done, saidOf, leftOf}
+use Rattle.words.specs.Told.{Told}
 use Rattle.fields.specs.Layout.{foundOf}
 use Rattle.packet.specs.declared.Packet.{Packet}
 use Rattle.packet.specs.declared.Parts.{Parts}
 use Rattle.packet.specs.Parts.{bodyAt}
 use Rattle.packet.specs.declared.Survey.{Survey}
-use Rattle.packet.specs.Read.{readOf}
-use Rattle.packet.specs.Survey.{readSurveyOf}
+use Rattle.packet.specs.Told.{readTold, surveyTold}
 use Rattle.packet_trailer.specs.Trailer.{trailerOf, trailerWordOf}
 use Rattle.packet_write.specs.Write.{headerWord, sizeFor, plainParts, padFor, writeOf, writeSurveyOf}
 use Rattle.payload_format.specs.Count.{neededOf}
@@ -36,6 +36,7 @@ use Rattle.demands.specs.Listing.{Listing, streamsIn, Valid}
 use Rattle.demands.specs.Trace.{traceOf, own, fieldCarried, answersAfter}
 use Rattle.demands.specs.Program.{Program, Accepts, AreWords, readsBy, writesBy, playAll, saidAll}
 use Rattle.demands.specs.Survey.{OneN, OthersPlain, UnlistedPlain, surveySamples}
+use Rattle.demands.specs.PlacesTold.{PlacesTold}
 use Rattle.demands.specs.FieldFound.{FieldFound}
 use Rattle.demands.specs.Right.{Right, pastOf}
 use Rattle.demands.specs.Lights.{LightsOut}
@@ -67,9 +68,10 @@ pub record Demand1 : Type 1 where
 -- ---- demand 2: "Packets, context fields and packed samples are read and written as VITA 49.0 defines them, within the limits of document 01."
 
 pub record Demand2 (P : Program) : Type 0 where
-  -- the layouts of document 01
-  pub reads : (ws : List ℕ) → P .read ws ≡ readOf ws
-  pub reads-survey : (ws : List ℕ) → P .readSurvey ws ≡ readSurveyOf ws
+  -- the layouts of document 01; document 02, C-15: "Demand 2 takes the place as part of the answer"
+  pub reads : (ws : List ℕ) → P .read ws ≡ readTold ws
+  pub reads-survey : (ws : List ℕ) → P .readSurvey ws ≡ surveyTold ws
+  pub places : PlacesTold P
   pub finds : (b : ℕ) (body : List ℕ) → P .find b body ≡ foundOf b body
   pub writes : (p : Parts) (body out : List ℕ) (at : ℕ) → P .write p body out at ≡ writeOf p body out at
   pub writes-survey : (pad : ℕ) (p : Parts) (body out : List ℕ) (at : ℕ) → P .writeSurvey pad p body out at ≡ writeSurveyOf pad p body out at
@@ -171,7 +173,7 @@ pub record Demand3 (P : Program) : Type 0 where
       → P .save t buffer ≡ accepted saved → (lent : List ℕ) → length lent < layoutWords (streamsIn list)
       → P .putBack (take (saved .says) (saved .leaves)) lent ≡ refused ROOM
   -- and so all day, with any number of stops: "every answer and the final table equal those of the unbroken play", and so does every page
-  pub days : (list : Listing) (first packets : List (List ℕ)) (t last : List ℕ) (answers : List (Outcome Heard)) (stops : List Stop) → Right list first t
+  pub days : (list : Listing) (first packets : List (List ℕ)) (t last : List ℕ) (answers : List (Told Heard)) (stops : List Stop) → Right list first t
       → Day P [] t packets answers stops last → DayRight P list first t packets answers stops last
   -- "With the list unchanged, other streams' packets may be altered at will, none becoming this stream's, without altering this stream's answers or record."
   pub apart : (list : Listing) (t u : List ℕ) (d e : Done ℕ (List ℕ)) → P .start (list .ids) (list .choices) t ≡ accepted d

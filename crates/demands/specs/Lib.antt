@@ -34,6 +34,8 @@ pub mod Recording
 pub mod Refusals
 -- which tables and pages are well made
 pub mod WellMade
+-- where a packet is refused
+pub mod PlacesTold
 -- the fields of a Context packet
 pub mod FieldFound
 -- packed words, as a writer makes them

@@ -1,13 +1,13 @@
 -- A program, of which the demands speak: a record of what its calls answer, and what they leave in the words that they are lent. `ours` is the program of this
 -- project: each call by the definition that its promise cites, so that what is proved of `ours` is proved of the code.
 use Rattle.words.specs.Kit.{_≡_, ℕ, _^_, _<_, Bool, true, false, List, [], _∷_, getD}
-use Rattle.words.specs.Outcome.{Outcome, accepted, onward, Done, saidOf, leftOf}
+use Rattle.words.specs.Outcome.{Outcome, Reply, accepted, onward, Done, saidOf, leftOf}
+use Rattle.words.specs.Told.{Told}
 use Rattle.fields.specs.Layout.{foundOf}
 use Rattle.packet.specs.declared.Packet.{Packet}
 use Rattle.packet.specs.declared.Parts.{Parts}
 use Rattle.packet.specs.declared.Survey.{Survey}
-use Rattle.packet.specs.Read.{readOf}
-use Rattle.packet.specs.Survey.{readSurveyOf}
+use Rattle.packet.specs.Told.{readTold, surveyTold}
 use Rattle.packet_write.specs.Write.{writeOf, writeSurveyOf}
 use Rattle.packet_trailer.specs.declared.Trailer.{Trailer}
 use Rattle.packet_trailer.specs.Trailer.{trailerOf, trailerWordOf}
@@ -20,7 +20,7 @@ use Rattle.table.specs.Start.{startOf}
 use Rattle.table.specs.Well.{wellMade}
 use Rattle.play.specs.declared.Heard.{Heard}
 use Rattle.play.specs.declared.run.Reached.{Reached}
-use Rattle.play.specs.Play.{playOf}
+use Rattle.play.specs.Play.{playTold}
 use Rattle.play.specs.Run.{runOf}
 use Rattle.page.specs.Save.{lengthOf, saveOf}
 use Rattle.page.specs.PutBack.{putBackOf}
@@ -32,11 +32,11 @@ use Rattle.panel_streams.specs.TypeCounts.{Count, typeCountsOf}
 use Rattle.panel_streams.specs.OwnTable.{ownTableOf}
 use Rattle.panel_streams.specs.Changed.{changedOf}
 
--- what its calls answer, each by the words that it is handed; `Done` has what an accepted call says and the lent words afterwards. `find` gives the place of a
--- field and its number of words, or nothing
+-- what its calls answer, each by the words that it is handed; `Told` has a refusal's place with its number; `Done` has what an accepted call says and the lent
+-- words afterwards. `find` gives the place of a field and its number of words, or nothing
 pub record Program : Type 0 where
-  pub read : List ℕ → Outcome Packet
-  pub readSurvey : List ℕ → Outcome Survey
+  pub read : List ℕ → Told Packet
+  pub readSurvey : List ℕ → Told Survey
   pub find : (bit : ℕ) (body : List ℕ) → List ℕ
   pub write : Parts → (body out : List ℕ) (at : ℕ) → Outcome (Done ℕ (List ℕ))
   pub writeSurvey : (pad : ℕ) → Parts → (body out : List ℕ) (at : ℕ) → Outcome (Done ℕ (List ℕ))
@@ -49,7 +49,7 @@ pub record Program : Type 0 where
   pub item : (first second n : ℕ) → Coordinates → Outcome ℕ
   pub start : (ids choices table : List ℕ) → Outcome (Done ℕ (List ℕ))
   pub wellMade : (table : List ℕ) → Bool
-  pub play : (table words : List ℕ) → Outcome (Done Heard (List ℕ))
+  pub play : (table words : List ℕ) → Told (Done Heard (List ℕ))
   pub playRun : (table words : List ℕ) (from : ℕ) (answers : List ℕ) → Outcome (Done Reached (List ℕ × List ℕ))
   pub pageLength : (table : List ℕ) → Outcome ℕ
   pub save : (table page : List ℕ) → Outcome (Done ℕ (List ℕ))
@@ -65,8 +65,8 @@ pub record Program : Type 0 where
 -- this project's, by the definitions that the promises cite
 abbrev pub ours : Program
 ours = record {
-  read = readOf;
-  readSurvey = readSurveyOf;
+  read = readTold;
+  readSurvey = surveyTold;
   find = foundOf;
   write = writeOf;
   writeSurvey = writeSurveyOf;
@@ -79,7 +79,7 @@ ours = record {
   item = itemOf;
   start = startOf;
   wellMade = wellMade;
-  play = playOf;
+  play = playTold;
   playRun = runOf;
   pageLength = lengthOf;
   save = saveOf;
@@ -94,8 +94,8 @@ ours = record {
 }
 
 -- an answer is accepted
-abbrev pub Accepts : {A : Type 0} → Outcome A → Type 0
-Accepts {A} o = (a : A) × (o ≡ accepted a)
+abbrev pub Accepts : {R A : Type 0} → Reply R A → Type 0
+Accepts {R} {A} o = (a : A) × (o ≡ accepted a)
 
 -- words of 32 bits
 abbrev pub AreWords : List ℕ → Type 0
@@ -104,7 +104,7 @@ AreWords ws = (i : ℕ) → getD ws i 0 < 2 ^ 32
 -- ---- packets by a choice: plain 49.0, or 49A
 
 -- what is read: the packet, and its pad count; a plain packet has none
-abbrev pub readsBy : Program → (survey : Bool) → List ℕ → Outcome (Packet × ℕ)
+abbrev pub readsBy : Program → (survey : Bool) → List ℕ → Told (Packet × ℕ)
 readsBy P false ws = onward (P .read ws) (λ p. accepted (p, 0))
 readsBy P true ws = onward (P .readSurvey ws) (λ s. accepted (s .packet, s .pad))
 
@@ -119,6 +119,6 @@ abbrev pub playAll : Program → List ℕ → List (List ℕ) → List ℕ
 playAll P t [] = t
 playAll P t (ws ∷ packets) = playAll P (leftOf (P .play t ws) t) packets
 
-abbrev pub saidAll : Program → List ℕ → List (List ℕ) → List (Outcome Heard)
+abbrev pub saidAll : Program → List ℕ → List (List ℕ) → List (Told Heard)
 saidAll P t [] = []
 saidAll P t (ws ∷ packets) = saidOf (P .play t ws) ∷ saidAll P (leftOf (P .play t ws) t) packets

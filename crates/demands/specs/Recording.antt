@@ -3,7 +3,8 @@
 use Rattle.words.specs.Kit.{_≡_, ℕ, zero, suc, _+_, _/_, Bool, true, List, [], _∷_, _++_, eqb, leb, length, getD, drop}
 use Rattle.words.specs.Numbers.{STREAM}
 use Rattle.words.specs.Tests.{pick, when}
-use Rattle.words.specs.Outcome.{Outcome, refused, accepted, Done}
+use Rattle.words.specs.Outcome.{refused, accepted, Done}
+use Rattle.words.specs.Told.{Told}
 use Rattle.packet.specs.Header.{sizeOf}
 use Rattle.play.specs.declared.Heard.{Heard}
 use Rattle.play.specs.declared.run.Reached.{Reached}
@@ -14,8 +15,8 @@ use Rattle.demands.specs.Program.{Program}
 use Rattle.demands.specs.Right.{Right, pastOf}
 
 -- a recording goes on behind a packet that is accepted, and behind one of no declared stream
-abbrev pub goesPast : Outcome Arrival → Bool
-goesPast (refused n) = eqb n STREAM
+abbrev pub goesPast : Told Arrival → Bool
+goesPast (refused r) = eqb (r .number) STREAM
 goesPast (accepted a) = true
 
 -- the packets of a recording from a place on, at most n: each as the words from its place on
@@ -26,7 +27,7 @@ packetsFrom list (suc n) ws at =
     (drop at ws ∷ pick (goesPast (heardBy list (drop at ws))) (packetsFrom list n ws (at + sizeOf (getD ws at 0))) [])
 
 -- what is written of some packets, by their answers: an entry for each
-abbrev pub entriesOf : List (List ℕ) → List (Outcome Heard) → List ℕ
+abbrev pub entriesOf : List (List ℕ) → List (Told Heard) → List ℕ
 entriesOf [] answers = []
 entriesOf (ws ∷ packets) [] = []
 entriesOf (ws ∷ packets) (x ∷ answers) = entryOf x (sizeOf (getD ws 0 0)) ++ entriesOf packets answers

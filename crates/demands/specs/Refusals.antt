@@ -4,13 +4,15 @@ use Rattle.words.specs.Kit.{_≡_, ℕ, true, List, [], _∷_, _++_, length, ge
 use Rattle.words.specs.Numbers.{TYPE, SHORT, TIME, INDICATOR, LAYOUT, FIELD}
 use Rattle.words.specs.Numbers.{STREAM, LIST, ROOM, VALUE, SIZE, FORMAT, COUNT, TABLE, PAGE, PAD}
 use Rattle.words.specs.Word.{join}
-use Rattle.words.specs.Outcome.{Outcome, accepted}
-use Rattle.words.specs.Refusals.{Refusals, firstGiven, numbersIn}
+use Rattle.words.specs.Outcome.{Reply, accepted}
+use Rattle.words.specs.Refusals.{RefusalsOf, firstGiven, givenIn}
+use Rattle.words.specs.Told.{toldList}
 use Rattle.fields.specs.Layout.{contextList, contextOf}
 use Rattle.packet.specs.declared.Parts.{Parts}
 use Rattle.packet.specs.Parts.{packetOf}
-use Rattle.packet.specs.Read.{readList, listBy, readOf}
-use Rattle.packet.specs.Survey.{surveyOf, readSurveyOf}
+use Rattle.packet.specs.Read.{readList, listBy}
+use Rattle.packet.specs.Survey.{surveyOf}
+use Rattle.packet.specs.Told.{whereOf, readTold, surveyTold}
 use Rattle.packet_trailer.specs.Trailer.{trailerList, trailerWordOf}
 use Rattle.packet_write.specs.Write.{padFor, writeList, writeSurveyList, writtenDone, writeOf, writeSurveyOf}
 use Rattle.payload_format.specs.Count.{wordsFor, neededList, neededOf}
@@ -26,7 +28,7 @@ use Rattle.table.specs.Layout.{layoutWords, recordAt}
 use Rattle.table.specs.Identifiers.{streamOf}
 use Rattle.table.specs.Stream.{streamNumberList}
 use Rattle.table.specs.Start.{freshTable, startList, startOf}
-use Rattle.play.specs.Play.{heardDone, tableList, playList, playOf}
+use Rattle.play.specs.Play.{heardDone, tableList, playList, playTold}
 use Rattle.play.specs.Run.{wholeWalk, reachedOf, answersOf, runOf}
 use Rattle.page.specs.Layout.{pageOf, pageLength, bodiesIn, tableOf}
 use Rattle.page.specs.Save.{lengthList, saveList, lengthOf, saveOf}
@@ -38,11 +40,12 @@ use Rattle.panel_streams.specs.Identity.{declaredIn, identityOf}
 use Rattle.panel_streams.specs.TypeCounts.{typeCountIn, typeCountsList, typeCountsOf}
 use Rattle.panel_streams.specs.OwnTable.{ownDone, ownTableList, ownTableOf}
 use Rattle.panel_streams.specs.Changed.{changedIn, changedList, changedOf}
-use Rattle.vrt49.specs.Calls.{readNumbers}
+use Rattle.vrt49.specs.Calls.{readGiven, surveyGiven, playGiven}
 
--- a call's list has these numbers in this order; the call gives the first of the list that applies, and is else accepted with this answer
-pub record Ordered {A : Type 0} (call : Outcome A) (numbers : List ℕ) (list : Refusals) (answer : A) : Type 0 where
-  pub order : numbersIn list ≡ numbers
+-- a call's list has these refusals in this order, numbers or numbers with places; the call gives the first of the list that applies, and is else accepted with
+-- this answer
+pub record Ordered {R A : Type 0} (call : Reply R A) (given : List R) (list : RefusalsOf R) (answer : A) : Type 0 where
+  pub order : givenIn list ≡ given
   pub first : call ≡ firstGiven list (accepted answer)
 
 -- "Write: TYPE, VALUE, SHORT, SIZE, TIME, INDICATOR, LAYOUT, FIELD, ROOM."
@@ -55,12 +58,13 @@ writeSurveyOrder = TYPE ∷ VALUE ∷ SHORT ∷ SIZE ∷ TIME ∷ INDICATOR ∷ 
 
 -- of the public calls, those that are not here never refuse
 pub record InOrder : Type 0 where
-  -- "Read: 1 to 10 as listed"
-  pub read : (ws : List ℕ) → let w = getD ws 0 0 in Ordered (readOf ws) readNumbers (readList w ws) (packetOf w ws)
+  -- "Read: 1 to 10 as listed"; document 02, C-15: each with its place
+  pub read : (ws : List ℕ) → let w = getD ws 0 0 in Ordered (readTold ws) (readGiven w ws) (toldList (whereOf ws) (readList w ws)) (packetOf w ws)
   pub write : (p : Parts) (body out : List ℕ) (at : ℕ)
       → Ordered (writeOf p body out at) writeOrder (writeList p body (length out) at) (writtenDone 0 p body out at)
   -- 49A: "CLASS is not given" where it governs, as its test says, and PAD where it governs alone
-  pub readSurvey : (ws : List ℕ) → let w = getD ws 0 0 in Ordered (readSurveyOf ws) (readNumbers ++ (PAD ∷ [])) (listBy true w ws) (surveyOf w ws)
+  pub readSurvey : (ws : List ℕ) → let w = getD ws 0 0 in
+      Ordered (surveyTold ws) (surveyGiven w ws) (toldList (whereOf ws) (listBy true w ws)) (surveyOf w ws)
   pub writeSurvey : (pad : ℕ) (p : Parts) (body out : List ℕ) (at : ℕ)
       → Ordered (writeSurveyOf pad p body out at) writeSurveyOrder (writeSurveyList pad p body (length out) at)
       (writtenDone (padFor true pad p) p body out at)
@@ -69,7 +73,7 @@ pub record InOrder : Type 0 where
       → Ordered (startOf ids choices t) (LIST ∷ ROOM ∷ []) (startList ids choices t)
       (record { says = layoutWords (length ids); leaves = freshTable ids choices t })
   pub play : (t ws : List ℕ) → let p = packetOf (getD ws 0 0) ws in
-      Ordered (playOf t ws) ((TABLE ∷ []) ++ readNumbers ++ (PAD ∷ STREAM ∷ [])) (playList t ws) (heardDone p (streamOf (p .parts .identifier) t) t ws)
+      Ordered (playTold t ws) (playGiven (getD ws 0 0) ws) (toldList (whereOf ws) (playList t ws)) (heardDone p (streamOf (p .parts .identifier) t) t ws)
   pub save : (t page : List ℕ)
       → Ordered (saveOf t page) (TABLE ∷ SIZE ∷ ROOM ∷ []) (saveList t page) (record { says = pageLength t; leaves = pageOf t ++ drop (pageLength t) page })
   pub putBack : (p t : List ℕ) → let n = layoutWords (bodiesIn p) in

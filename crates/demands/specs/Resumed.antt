@@ -2,7 +2,8 @@
 -- unbroken play." All is said of any table that is right for the packets so far, so of one that was put back too: the crews "stop and resume all day".
 use Rattle.words.specs.Kit.{_≡_, ℕ, _+_, _*_, _≤_, _<_, List, [], _∷_, _++_, length, take, drop}
 use Rattle.words.specs.Numbers.{ROOM}
-use Rattle.words.specs.Outcome.{Outcome, refused, accepted, Done, saidOf, leftOf}
+use Rattle.words.specs.Outcome.{refused, accepted, Done, saidOf, leftOf}
+use Rattle.words.specs.Told.{Told}
 use Rattle.table.specs.Layout.{layoutWords}
 use Rattle.play.specs.declared.Heard.{Heard}
 use Rattle.page.specs.Layout.{lengthAt}
@@ -50,12 +51,12 @@ pub record Stop : Type 0 where
 
 -- a day, from where it has had the packets `before` and its table is t: a packet is played; or the table is saved into some buffer, its page is put back into
 -- some other lent table, and the day goes on with that one. The packets still to come, their answers, the stops and the table at last.
-pub data Day (P : Program) : List (List ℕ) → List ℕ → List (List ℕ) → List (Outcome Heard) → List Stop → List ℕ → Type 0 where
+pub data Day (P : Program) : List (List ℕ) → List ℕ → List (List ℕ) → List (Told Heard) → List Stop → List ℕ → Type 0 where
   over : {before : List (List ℕ)} {t : List ℕ} → Day P before t [] [] [] t
-  plays : {before packets : List (List ℕ)} {t last : List ℕ} {answers : List (Outcome Heard)} {stops : List Stop} (ws : List ℕ)
+  plays : {before packets : List (List ℕ)} {t last : List ℕ} {answers : List (Told Heard)} {stops : List Stop} (ws : List ℕ)
       → Day P (before ++ (ws ∷ [])) (leftOf (P .play t ws) t) packets answers stops last
       → Day P before t (ws ∷ packets) (saidOf (P .play t ws) ∷ answers) stops last
-  stops : {before packets : List (List ℕ)} {t last : List ℕ} {answers : List (Outcome Heard)} {later : List Stop}
+  stops : {before packets : List (List ℕ)} {t last : List ℕ} {answers : List (Told Heard)} {later : List Stop}
       (buffer lent : List ℕ) (saved back : Done ℕ (List ℕ)) → P .save t buffer ≡ accepted saved
       → P .putBack (take (saved .says) (saved .leaves)) lent ≡ accepted back → Day P before (back .leaves) packets answers later last
       → Day P before t packets answers (record { after = before; page = take (saved .says) (saved .leaves) } ∷ later) last
@@ -66,7 +67,7 @@ SamePages P t [] = Unit
 SamePages P t (s ∷ later) = SavesAs P (playAll P t (s .after)) (s .page) × SamePages P t later
 
 -- a day that began with a table t that is right for the packets `first`
-pub record DayRight (P : Program) (list : Listing) (first : List (List ℕ)) (t : List ℕ) (packets : List (List ℕ)) (answers : List (Outcome Heard))
+pub record DayRight (P : Program) (list : Listing) (first : List (List ℕ)) (t : List ℕ) (packets : List (List ℕ)) (answers : List (Told Heard))
     (stops : List Stop) (last : List ℕ) : Type 0 where
   pub right : Right list (first ++ packets) last
   pub ruled : answers ≡ answersAfter (traceOf list first) (traceOf list packets)

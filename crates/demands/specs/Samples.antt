@@ -4,11 +4,13 @@ use Rattle.words.specs.Kit.{_≡_, ℕ, true, List, [], _∷_}
 use lib.IntN.{pos, negsuc}
 use lib.Ieee.{fin}
 use Rattle.words.specs.Numbers.{SHORT, CUT}
+use Rattle.words.specs.declared.Where.the-variants.{Word}
 use Rattle.words.specs.Outcome.{Outcome, refused, accepted, Done}
+use Rattle.words.specs.Told.{Told, refusal}
 use Rattle.fields.specs.Format.{realComplex, itemCode, packingSize, itemSize}
 use Rattle.fields.specs.Layout.{carried, spanOf}
 use Rattle.packet.specs.declared.Packet.{Packet}
-use Rattle.packet.specs.Read.{readOf}
+use Rattle.packet.specs.Told.{readTold}
 use Rattle.packet_write.specs.Write.{flagBit}
 use Rattle.payload_format.specs.Format.{linkEfficient}
 use Rattle.payload_pack.specs.Pack.{packOf}
@@ -32,9 +34,9 @@ Hold [] = Unit
 Hold (s ∷ rows) = (s .got ≡ s .want) × Hold rows
 
 -- what reading says of a packet: type, trailer (1 if there), TSI, TSF, count, size, and the words of its body
-abbrev pub told : Outcome Packet → Outcome (List ℕ)
-told (refused n) = refused n
-told (accepted p) =
+abbrev pub packetSays : Told Packet → Told (List ℕ)
+packetSays (refused r) = refused r
+packetSays (accepted p) =
     accepted (p .parts .kind ∷ flagBit (p .parts .trailed) ∷ p .parts .tsi ∷ p .parts .tsf ∷ p .parts .count ∷ p .size ∷ p .length ∷ [])
 
 -- three items, or one, with no tags or with those given; and what is left of a buffer of two words
@@ -50,13 +52,13 @@ none3 = 0 ∷ 0 ∷ 0 ∷ []
 unfoldable pub bench : List {1} Sample
 bench =
     -- "header 0x4065000B: type 4, TSI 1, TSF 2, count 5, size 11. Indicator 0x21200000 then asks 5 words."
-    row (told (readOf (0x4065000B ∷ 7 ∷ 0 ∷ 0 ∷ 0 ∷ 0x21200000 ∷ 0 ∷ 0 ∷ 0xFF80 ∷ 0 ∷ 0x00100000 ∷ []))) (accepted (4 ∷ 0 ∷ 1 ∷ 2 ∷ 5 ∷ 11 ∷ 6 ∷ []))
+    row (packetSays (readTold (0x4065000B ∷ 7 ∷ 0 ∷ 0 ∷ 0 ∷ 0x21200000 ∷ 0 ∷ 0 ∷ 0xFF80 ∷ 0 ∷ 0x00100000 ∷ []))) (accepted (4 ∷ 0 ∷ 1 ∷ 2 ∷ 5 ∷ 11 ∷ 6 ∷ []))
     ∷ row (spanOf (carried 0x21200000) []) 5
     -- "0x140F0005: type 1, trailer, count 15, two payload words. Given 4 words: CUT. Size 2: SHORT. Size 3: accepted, empty body."
-    ∷ row (told (readOf (0x140F0005 ∷ 7 ∷ 0xABCDEF12 ∷ 0x30000000 ∷ 0 ∷ []))) (accepted (1 ∷ 1 ∷ 0 ∷ 0 ∷ 15 ∷ 5 ∷ 2 ∷ []))
-    ∷ row (told (readOf (0x140F0005 ∷ 7 ∷ 0xABCDEF12 ∷ 0x30000000 ∷ []))) (refused CUT)
-    ∷ row (told (readOf (0x140F0002 ∷ 7 ∷ 0xABCDEF12 ∷ 0x30000000 ∷ 0 ∷ []))) (refused SHORT)
-    ∷ row (told (readOf (0x140F0003 ∷ 7 ∷ 0xABCDEF12 ∷ 0x30000000 ∷ 0 ∷ []))) (accepted (1 ∷ 1 ∷ 0 ∷ 0 ∷ 15 ∷ 3 ∷ 0 ∷ []))
+    ∷ row (packetSays (readTold (0x140F0005 ∷ 7 ∷ 0xABCDEF12 ∷ 0x30000000 ∷ 0 ∷ []))) (accepted (1 ∷ 1 ∷ 0 ∷ 0 ∷ 15 ∷ 5 ∷ 2 ∷ []))
+    ∷ row (packetSays (readTold (0x140F0005 ∷ 7 ∷ 0xABCDEF12 ∷ 0x30000000 ∷ []))) (refused (refusal CUT (Word 0)))
+    ∷ row (packetSays (readTold (0x140F0002 ∷ 7 ∷ 0xABCDEF12 ∷ 0x30000000 ∷ 0 ∷ []))) (refused (refusal SHORT (Word 0)))
+    ∷ row (packetSays (readTold (0x140F0003 ∷ 7 ∷ 0xABCDEF12 ∷ 0x30000000 ∷ 0 ∷ []))) (accepted (1 ∷ 1 ∷ 0 ∷ 0 ∷ 15 ∷ 3 ∷ 0 ∷ []))
     -- "last 14, then 2: missing 3. Last 2, then 2: 15."
     ∷ row (missed (14 ∷ 2 ∷ [])) 3
     ∷ row (missed (2 ∷ 2 ∷ [])) 15

@@ -80,11 +80,11 @@ Handed (lends {H} paper want lent) = H
 
 abbrev pub Answer : Call → Type 0
 Answer (answers {H} {A} paper want) = A
-Answer (lends {H} {A} paper want lent) = A
+Answer (lends {H} {R} {A} paper want lent) = A
 
 abbrev pub Lent : Call → Type 0
 Lent (answers paper want) = Unit
-Lent (lends {H} {A} {B} {L} paper want lent) = L
+Lent (lends {H} {R} {A} {B} {L} paper want lent) = L
 
 -- the promise of a call, of what it was handed, its answer and the lent words afterwards
 abbrev pub Promise : (c : Call) → Handed c → Answer c → Lent c → Type 0

@@ -4,8 +4,8 @@ use contract.Lifetimes.{Lfts}
 use borrow.Fn.Kinds.{PK, RK, Dens, In, Out, resT, endedOf}
 use denote.Triple.Clauses.{Lasts, atExit}
 use Rattle.payload_unpack.specs.Unpack.{buffers}
-use Rattle.vrt49.specs.Answers.{Tells}
-use Rattle.vrt49.specs.Calls.{CallForC, answers, tells}
+use Rattle.vrt49.specs.Answers.{Tells, inNumber}
+use Rattle.vrt49.specs.Calls.{CallForC, answers, tells, tellsWhere}
 use Rattle.vrt49.specs.Calls.{forRead, forReadSurvey, forWrite, forWriteSurvey, forTrailerParts, forTrailerWord, forFieldCount, forCheckBody, forFind}
 use Rattle.vrt49.specs.Calls.{forUnpack, forPack, forWordsNeeded, forCoordinatesOf, forItemAt, forSigned, forStart, forWellMade, forPlay}
 use Rattle.vrt49.specs.Calls.{forPlayRun, forPageLength, forSave, forPutBack, forReading, forReadings, forHeldWords}
@@ -74,15 +74,18 @@ use Rattle.demands.specs.Sources.{AsksNothing}
 abbrev pub HandedForC : CallForC → Type 0
 HandedForC (answers {H} want) = H
 HandedForC (tells {H} want values lent list numbers) = H
+HandedForC (tellsWhere {H} want values lent list given) = H
 
 abbrev pub LentForC : CallForC → Type 0
 LentForC (answers want) = Unit
 LentForC (tells {H} {A} {L} want values lent list numbers) = L
+LentForC (tellsWhere {H} {A} {L} want values lent list given) = L
 
 -- the promise of a call, of what it was handed, the number that it answers and the lent places afterwards
 abbrev pub PromiseForC : (c : CallForC) → HandedForC c → ℕ → LentForC c → Type 0
 PromiseForC (answers want) h r after = r ≡ want h
 PromiseForC (tells want values lent list numbers) h r after = Tells values (want h) (lent h) r after
+PromiseForC (tellsWhere want values lent list given) h r after = Tells values (inNumber (want h)) (lent h) r after
 
 -- a function asks nothing of what it is handed, and what its caller learns is the promise of the call c
 abbrev pub SourceForC : (c : CallForC) {n : ℕ} (ps : List (PK n)) (r : RK n) → In n ps → Out n ps r → ((κs : Lfts n) → Dens κs ps → HandedForC c)

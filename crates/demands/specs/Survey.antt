@@ -4,12 +4,14 @@ use Rattle.words.specs.Kit.{_≡_, ℕ, _+_, _*_, _≤_, List, [], _∷_, lengt
 use mathlib.Core.Logic.{_↔_}
 use Rattle.words.specs.Numbers.{STREAM, CLASS, PAD}
 use Rattle.words.specs.Part.{part}
-use Rattle.words.specs.Outcome.{Outcome, refused, accepted, onward, saidOf}
+use Rattle.words.specs.declared.Where.the-variants.{Word}
+use Rattle.words.specs.Tests.{when}
+use Rattle.words.specs.Outcome.{refused, accepted, onward, saidOf}
+use Rattle.words.specs.Told.{Told, refusal}
 use Rattle.fields.specs.Format.{realComplex, itemCode, itemSize}
 use Rattle.packet.specs.declared.Survey.{Survey}
-use Rattle.packet.specs.Parts.{packetOf}
-use Rattle.packet.specs.Read.{readOf}
-use Rattle.packet.specs.Survey.{readSurveyOf}
+use Rattle.packet.specs.Parts.{streamed, packetOf}
+use Rattle.packet.specs.Told.{readTold, surveyTold}
 use Rattle.packet_survey.specs.Payload.{formatFirst, formatSecond}
 use Rattle.payload_unpack.specs.Unpack.{Buffers}
 use Rattle.demands.specs.Listing.{Listing, streamsIn, placeIn}
@@ -37,18 +39,19 @@ abbrev pub OthersPlain : Program → Type 0
 OthersPlain P = (ws : List ℕ) → (packetOf (getD ws 0 0) ws .parts .kind ≡ 1 → ⊥)
     → P .readSurvey ws ≡ onward (P .read ws) (λ p. accepted (record { packet = p; pad = 0; first = 0; second = 0; items = 0 }))
 
--- of an identifier that is not declared: what plain reading refuses is refused, and the rest is STREAM. So a pad count there is CLASS
+-- of an identifier that is not declared: what plain reading refuses is refused, and the rest is STREAM, at the identifier or at the header. So a pad count
+-- there is CLASS
 abbrev pub UnlistedPlain : Program → Type 0
 UnlistedPlain P = (list : Listing) (packets : List (List ℕ)) (t : List ℕ) → Right list packets t
     → (ws : List ℕ) → streamsIn list ≤ placeIn list (packetOf (getD ws 0 0) ws .parts .identifier)
-    → P .play t ws ≡ onward (P .read ws) (λ p. refused STREAM)
+    → P .play t ws ≡ onward (P .read ws) (λ p. refused (refusal STREAM (Word (when (streamed (getD ws 0 0)) 1))))
 
 -- ---- samples
 
 -- what a reading by 49A says: pad, the format's two words, n
-abbrev pub toldSurvey : Outcome Survey → Outcome (List ℕ)
-toldSurvey (refused n) = refused n
-toldSurvey (accepted s) = accepted (s .pad ∷ s .first ∷ s .second ∷ s .items ∷ [])
+abbrev pub surveySays : Told Survey → Told (List ℕ)
+surveySays (refused r) = refused r
+surveySays (accepted s) = accepted (s .pad ∷ s .first ∷ s .second ∷ s .items ∷ [])
 
 -- the item's code and bits in the format of a data type
 abbrev pub formatSays : ℕ → List ℕ
@@ -57,12 +60,12 @@ formatSays low = realComplex (formatFirst low) ∷ itemCode (formatFirst low) �
 unfoldable pub surveySamples : List {1} Sample
 surveySamples =
     -- four complex 16-bit signed items in two words
-    row (toldSurvey (readSurveyOf (0x1C000007 ∷ 7 ∷ 0x00FFFFFA ∷ 0x00130000 ∷ 0xABCDEF12 ∷ 0x30000000 ∷ 0 ∷ []))) (accepted (0 ∷ 0x200003CF ∷ 0 ∷ 4 ∷ []))
-    -- a vector of three unsigned bytes, and eight bits of padding; plain, the pad count is CLASS
-    ∷ row (toldSurvey (readSurveyOf (0x1C000006 ∷ 7 ∷ 0x40FFFFFA ∷ 0x000A0002 ∷ 0x01020300 ∷ 0 ∷ []))) (accepted (8 ∷ 0x100001C7 ∷ 2 ∷ 3 ∷ []))
-    ∷ row (onward (readOf (0x1C000006 ∷ 7 ∷ 0x40FFFFFA ∷ 0x000A0002 ∷ 0x01020300 ∷ 0 ∷ [])) (λ p. accepted (p .size))) (refused CLASS)
+    row (surveySays (surveyTold (0x1C000007 ∷ 7 ∷ 0x00FFFFFA ∷ 0x00130000 ∷ 0xABCDEF12 ∷ 0x30000000 ∷ 0 ∷ []))) (accepted (0 ∷ 0x200003CF ∷ 0 ∷ 4 ∷ []))
+    -- a vector of three unsigned bytes, and eight bits of padding; plain, the pad count is CLASS, at the class's first word
+    ∷ row (surveySays (surveyTold (0x1C000006 ∷ 7 ∷ 0x40FFFFFA ∷ 0x000A0002 ∷ 0x01020300 ∷ 0 ∷ []))) (accepted (8 ∷ 0x100001C7 ∷ 2 ∷ 3 ∷ []))
+    ∷ row (onward (readTold (0x1C000006 ∷ 7 ∷ 0x40FFFFFA ∷ 0x000A0002 ∷ 0x01020300 ∷ 0 ∷ [])) (λ p. accepted (p .size))) (refused (refusal CLASS (Word 2)))
     -- the same without the padding is no whole vector
-    ∷ row (toldSurvey (readSurveyOf (0x1C000006 ∷ 7 ∷ 0x00FFFFFA ∷ 0x000A0002 ∷ 0x01020300 ∷ 0 ∷ []))) (refused PAD)
+    ∷ row (surveySays (surveyTold (0x1C000006 ∷ 7 ∷ 0x00FFFFFA ∷ 0x000A0002 ∷ 0x01020300 ∷ 0 ∷ []))) (refused (refusal PAD (Word 2)))
     -- Table 4-5, type by type: real or complex, the format's item code, the item's bits, the vector size minus one
     ∷ row (formatSays 0x00010000) (0 ∷ 0 ∷ 4 ∷ 0 ∷ [])
     ∷ row (formatSays 0x00020000) (0 ∷ 0 ∷ 8 ∷ 0 ∷ [])

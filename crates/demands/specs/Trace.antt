@@ -9,10 +9,12 @@ use Rattle.words.specs.Word.{has}
 use Rattle.words.specs.Part.{part}
 use Rattle.words.specs.Outcome.{Outcome, refused, accepted, onward}
 use Rattle.words.specs.Refusals.{Refusals, firstGiven}
+use Rattle.words.specs.Told.{Told, told}
 use Rattle.fields.specs.Layout.{indicatorOf, fieldOf}
 use Rattle.packet.specs.declared.Packet.{Packet}
 use Rattle.packet.specs.Parts.{packetOf}
 use Rattle.packet.specs.Read.{readBy}
+use Rattle.packet.specs.Told.{whereOf}
 use Rattle.record.specs.Counts.{missedOf}
 use Rattle.play.specs.declared.Heard.{Heard}
 use Rattle.demands.specs.Listing.{Listing, streamsIn, placeIn, chosenIn}
@@ -47,25 +49,29 @@ arrivalOf list ws p =
 
 -- what some words are to a list: refused, by reading or with STREAM; or an accepted packet of a stream. They are read by the choice of the stream whose
 -- identifier they bear
-unfoldable pub heardBy : Listing → List ℕ → Outcome Arrival
-heardBy list ws = onward (readBy (chosenIn list (packetOf (getD ws 0 0) ws .parts .identifier)) ws) (arrivalOf list ws)
+unfoldable pub arrivalBy : Listing → List ℕ → Outcome Arrival
+arrivalBy list ws = onward (readBy (chosenIn list (packetOf (getD ws 0 0) ws .parts .identifier)) ws) (arrivalOf list ws)
+
+-- with the place of each refusal
+unfoldable pub heardBy : Listing → List ℕ → Told Arrival
+heardBy list ws = told (whereOf ws) (arrivalBy list ws)
 
 -- packets one after the other, "refused ones among them"
 abbrev pub Trace : Type 0
-Trace = List (Outcome Arrival)
+Trace = List (Told Arrival)
 
 abbrev pub traceOf : Listing → List (List ℕ) → Trace
 traceOf list packets = map (heardBy list) packets
 
 -- an accepted packet of stream s
-abbrev pub isOwn : ℕ → Outcome Arrival → Bool
-isOwn s (refused n) = false
+abbrev pub isOwn : ℕ → Told Arrival → Bool
+isOwn s (refused r) = false
 isOwn s (accepted a) = eqb (a .stream) s
 
 -- "its own accepted packets": those of stream s, in their order
 abbrev pub own : ℕ → Trace → List Arrival
 own s [] = []
-own s (refused n ∷ trace) = own s trace
+own s (refused r ∷ trace) = own s trace
 own s (accepted a ∷ trace) = pick (eqb (a .stream) s) (a ∷ own s trace) (own s trace)
 
 -- ---- held: "the value in the last accepted Context packet of that stream that carried" a thing, "and nothing if none did"
@@ -144,8 +150,8 @@ addedAfter [] d = 0
 addedAfter (c ∷ later) d = missedOf (lastCount c later) d
 
 -- the answer to a packet, by the trace before it
-abbrev pub answerTo : Trace → Outcome Arrival → Outcome Heard
-answerTo before (refused n) = refused n
+abbrev pub answerTo : Trace → Told Arrival → Told Heard
+answerTo before (refused r) = refused r
 answerTo before (accepted a) = accepted (record {
   size = a .size;
   kind = a .kind;
@@ -154,6 +160,6 @@ answerTo before (accepted a) = accepted (record {
 })
 
 -- the answers to the packets of a trace, each by those before it
-abbrev pub answersAfter : Trace → Trace → List (Outcome Heard)
+abbrev pub answersAfter : Trace → Trace → List (Told Heard)
 answersAfter before [] = []
 answersAfter before (x ∷ later) = answerTo before x ∷ answersAfter (before ++ (x ∷ [])) later
