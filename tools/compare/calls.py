@@ -72,6 +72,15 @@ def refused(lent, number):
     return Case(lent, number, {})
 
 
+def refused_at(lent, said):
+    """A case of a call that says where it refuses, as vrt49_read does: said is the
+    reference's ('refused', number, place, bit).  "its number, in bits 7-0; of FIELD the
+    bit of the field, in bits 15-8 ...; and the place of the word that is refused, in
+    bits 31-16"; TABLE has no place."""
+    _, number, place, bit = said
+    return refused(lent, number | (bit or 0) << 8 | (place or 0) << 16)
+
+
 def length_place(r):
     """The place of a length, which is a size_t."""
     return noisy(r, 1, "Q")
@@ -96,10 +105,10 @@ def packet_entries(p):
 
 def read_of(words, answer):
     lent = [words, answer]
-    said, p = vrt49.read(list(words.entries))
-    if said == "refused":
-        return refused(lent, p)
-    return Case(lent, 0, {1: put(answer, packet_entries(p))})
+    said = vrt49.read(list(words.entries))
+    if said[0] == "refused":
+        return refused_at(lent, said)
+    return Case(lent, 0, {1: put(answer, packet_entries(said[1]))})
 
 
 def read(r):
@@ -183,10 +192,10 @@ def write(r):
 
 def read_survey_of(words, answer):
     lent = [words, answer]
-    said, what = vrt49.read_survey(list(words.entries))
-    if said == "refused":
-        return refused(lent, what)
-    packet, survey = what
+    said = vrt49.read_survey(list(words.entries))
+    if said[0] == "refused":
+        return refused_at(lent, said)
+    packet, survey = said[1]
     return Case(lent, 0, {1: put(answer, packet_entries(packet) + list(survey))})
 
 
@@ -583,7 +592,7 @@ def play_of(lent_words, words, answer):
     lent = [lent_words, words, answer]
     said, after = table.play_lent(list(lent_words.entries), list(words.entries))
     if said[0] == "refused":
-        return refused(lent, said[1])
+        return refused_at(lent, said)
     return Case(lent, 0, {0: array("I", after), 2: put(answer, said[1:])})
 
 
@@ -602,7 +611,8 @@ def run(lent, words, start_at, entries):
     reached) with five words for each packet; and the table afterwards.
 
     It stops when no word is left, when there is no room for another entry, and at
-    a refusal other than STREAM, which goes on by the size.
+    a refusal other than STREAM, which goes on by the size.  A refusal's entry has its
+    place and its bit in the words of type and stream.
     """
     if not table.well_made(lent):
         return ("refused", table.TABLE), [], list(lent)
@@ -613,8 +623,9 @@ def run(lent, words, start_at, entries):
             _, size, kind, stream, missing = answer
             written += [0, size, kind, stream, missing]
         else:
-            size = vrt49.size_of(words[place]) if answer[1] == table.STREAM else 0
-            written += [answer[1], size, 0, 0, 0]
+            _, number, offset, bit = answer
+            size = vrt49.size_of(words[place]) if number == table.STREAM else 0
+            written += [number, size, offset, bit or 0, 0]
         place += size
         if size == 0:
             break
@@ -872,8 +883,11 @@ def changed(r):
 
 
 # The calls in drive.c's order: what each takes (its letters, as there), how many
-# cases, and the answers that must occur.  SIZE does not occur for a page: it has at
-# most 2,882 words.
+# cases, and the numbers that must occur; of the calls that say where they refuse, which
+# are in PLACED, FIELD must occur for every field that has a rule.  SIZE does not occur
+# for a page: it has at most 2,882 words.
+
+PLACED = ("vrt49_read", "vrt49_read_survey", "vrt49_play")
 
 Call = namedtuple("Call", "name takes make cases occur")
 

@@ -24,7 +24,8 @@ from pathlib import Path
 sys.dont_write_bytecode = True
 sys.path.insert(0, str(Path(__file__).resolve().parent.parent / "reference"))
 
-from calls import CALLS, CONTENTS_FOLLOW, Buffer
+import vrt49
+from calls import CALLS, CONTENTS_FOLLOW, PLACED, Buffer
 from edges import edges
 
 assert sys.byteorder == "little"
@@ -94,7 +95,26 @@ def never_empty(call, seen):
     return [name for place, name in buffers(call).items() if place not in seen]
 
 
+# The refusals of calls that say where: calls.refused_at puts them into one number.
+
+
+def told(answer):
+    """The number, the place and the bit of an answer."""
+    return answer & 255, answer >> 16, answer >> 8 & 255
+
+
+def never_broken(call, answers):
+    """The fields with a rule for which no case of a call that says where has FIELD."""
+    broken = {bit for number, _, bit in map(told, answers) if number == vrt49.FIELD}
+    return sorted(set(vrt49.FIELD_RULES) - broken) if call.name in PLACED else []
+
+
 # What a difference looks like.
+
+
+def in_words(answer):
+    number, place, bit = told(answer)
+    return f"{number}" + f", place {place}, bit {bit}" * (answer > 255)
 
 
 def shown(lent):
@@ -110,7 +130,7 @@ def difference(call, case, number, given):
     lines = [f"{call.name}, case {number}:"]
     lines += [f"  lent {shown(lent)}" for lent in case.lent]
     answered = array("I", given[:4])[0]
-    lines.append(f"  the reference answers {case.number}, the library {answered}")
+    lines.append(f"  the reference answers {in_words(case.number)}; the library {in_words(answered)}")
     at = 4
     for place in written(call, case):
         before = case.lent[place].entries
@@ -227,11 +247,19 @@ def main():
             counted[name] += counts
             empty[name] |= places
     for call in calls:
-        numbers = " ".join(f"{number}:{times}" for number, times in sorted(counted[call.name].items()))
-        print(f"{call.name} {sum(counted[call.name].values())} cases, answers {numbers}")
-        absent = [number for number in call.occur if not counted[call.name][number]]
+        answers, numbers = counted[call.name], Counter()
+        for answer, times in answers.items():
+            numbers[told(answer)[0]] += times
+        listed = " ".join(f"{number}:{times}" for number, times in sorted(numbers.items()))
+        places = f", of {len(answers)} numbers with their places" if call.name in PLACED else ""
+        print(f"{call.name} {sum(numbers.values())} cases{places}, answers {listed}")
+        absent = [number for number in call.occur if not numbers[number]]
         if absent and not few:
             print(f"{call.name}: no case has the answer {absent}")
+            sys.exit(1)
+        kept = never_broken(call, answers)
+        if kept and not few:
+            print(f"{call.name}: no case has FIELD of {kept}")
             sys.exit(1)
         filled = never_empty(call, empty[call.name])
         if filled and not few and not only:

@@ -2,7 +2,7 @@
 //     drive FIRST    FIRST is the number of the first case, for messages
 // Every lent buffer stands between guard bytes. After each call the guards and the buffers that are only read must be as
 // they were, and after a refusal all buffers must. A change ends the program with a line that names call, case and buffer.
-// BEND=1 to 5 spoils one answer, to see that the comparison fails: see bend.
+// BEND=1 to 8 spoils one answer, to see that the comparison fails: see bend and bend_refusal.
 #include "vrt49.h"
 #include <stdio.h>
 #include <stdlib.h>
@@ -229,6 +229,28 @@ static int bend(int how, unsigned long done, uint32_t *answer) {
     return how;
 }
 
+// The same of the first refusal that has it: 6 its place, 7 its bit, 8 the place that a run's entry has of it.
+static int bend_refusal(int how, uint32_t which, uint32_t *answer) {
+    if (how == 6 && VRT49_PLACE(*answer)) {
+        *answer ^= 1 << 16;
+        return 0;
+    }
+    if (how == 7 && VRT49_BIT(*answer)) {
+        *answer ^= 1 << 8;
+        return 0;
+    }
+    if (how != 8 || strcmp(calls[which].name, "vrt49_play_run") || *answer)
+        return how;
+    vrt49_entry *entries = b[2].at;
+    size_t packets = *(size_t *)b[3].at;
+    for (size_t i = 0; i < packets; i++)
+        if (VRT49_PLACE(vrt49_entry_refusal(&entries[i]))) {
+            entries[i].type ^= 1;
+            return 0;
+        }
+    return how;
+}
+
 int main(int argc, char **argv) {
     unsigned long first = argc > 1 ? strtoul(argv[1], 0, 10) : 0;
     int bent = getenv("BEND") ? atoi(getenv("BEND")) : 0;
@@ -250,11 +272,13 @@ int main(int argc, char **argv) {
             argument(*kind);
         memcpy(before, now, used);
         uint32_t answer = call(which);
-        if (bent > 2)
+        if (bent >= 3 && bent <= 5)
             bent = bend(bent, done, &answer);
         look(which, first + done, answer);
         if (bent == 1 || bent == 2)
             bent = bend(bent, done, &answer);
+        if (bent >= 6)
+            bent = bend_refusal(bent, which, &answer);
         fwrite(&answer, 4, 1, stdout);
         for (size_t k = 0; k < buffers; k++)
             if (b[k].written) {

@@ -1,9 +1,10 @@
-"""Cases at the edges of document 01's rules, and of those of C-11, C-12 and C-13, for each call:
-the samples of document 01 with the number it states, every choice of optional parts, every
+"""Cases at the edges of document 01's rules, and of those of C-11, C-12, C-13 and C-15, for each
+call: the samples of document 01 with the number it states, every choice of optional parts, every
 bit of a field with a rule, every item of small groups, groups of as many items as may be and
 of more, every bit of a table and a page, every pair of counts, every choice of the enables
 of a state word; of survey packets every data type, pad count and bit of the class, and every
-choice of a list of streams."""
+choice of a list of streams; the place of every refusal of a packet, behind every choice of
+class, seconds and fraction, and the bit of every two fields that break their rules."""
 
 import itertools
 import random
@@ -19,9 +20,11 @@ from calls import MOST_ITEMS, given, noisy
 from making import ONES, TERA
 
 
-def sure(case, number):
-    """A case whose number document 01 states."""
-    assert case.number == number, (case, number)
+def sure(case, number, place=None, bit=0):
+    """A case whose number document 01 states, and whose place and bit C-15, where a place is
+    given."""
+    assert case.number & 255 == number, (case, number)
+    assert place is None or case.number >> 8 == place << 8 | bit, (case, number, place, bit)
     return case
 
 
@@ -83,9 +86,91 @@ def bodies():
     yield [3 << 8, 0, ONES, 0] + [0] * 1022
 
 
+# Where a packet is refused (C-15): words, with the number, the place and the bit that they give.
+
+# A bit that breaks the rule of a field: the word of the field, and the bit in it.
+BREAKS = {29: (0, 31), 24: (0, 16), 21: (0, 31), 18: (0, 16), 17: (0, 24), 16: (0, 20), 15: (0, 12), 9: (0, 24), 8: (0, 25)}
+
+
+def shaped(kind, c, tsi, tsf, body):
+    """A packet of identifier 7 with a body: its class, its seconds and its fraction are zeros;
+    and the places of class, fraction and body."""
+    words = [kind << 28 | c << 27 | tsi << 22 | tsf << 20]
+    words += [7] * (kind in (1, 3, 4, 5))
+    class_at = len(words)
+    words += [0, 0] * c + [0] * (tsi > 0)
+    fraction_at = len(words)
+    words += [0, 0] * (tsf > 0)
+    body_at = len(words)
+    words += body
+    words[0] |= len(words)
+    return words, class_at, fraction_at, body_at
+
+
+def put_at(words, place, *others):
+    return words[:place] + list(others) + words[place + len(others) :]
+
+
+def refused_parts():
+    """Every refusal of a packet but FIELD and PAD, for each type and each choice of class,
+    seconds and fraction; those of the later ones break an even later rule too."""
+    for kind, c, tsi, tsf in itertools.product(range(6), range(2), range(4), range(4)):
+        body = [1 << 21, 1 << 31, 0] if kind == 4 else [1]
+        words, class_at, fraction_at, body_at = shaped(kind, c, tsi, tsf, body)
+        late = put_at(words, fraction_at, ONES, ONES) if tsf == 2 else words
+        yield put_at(words, 0, words[0] | 6 << 28), 2, 0, 0
+        yield put_at(words, 0, words[0] | 1 << 25), 3, 0, 0
+        yield put_at(words, 0, words[0] & ~0xFFFF), 4, 0, 0
+        yield put_at(words, 0, words[0] & ~0xFFFF | body_at - 1), 4, 0, 0
+        yield from ((words[:n], 5, 0, 0) for n in range(1, len(words)))
+        if c:
+            yield from ((put_at(late, class_at, 1 << bit), 6, class_at, 0) for bit in (24, 31))
+        if tsf == 2:
+            yield late, 7, fraction_at, 0
+            yield put_at(words, fraction_at, TERA >> 32, TERA & ONES), 7, fraction_at, 0
+        if kind == 4:
+            yield put_at(words, body_at, words[body_at] | 1), 8, body_at, 0
+            yield put_at(words, body_at, words[body_at] | 1 << 30), 9, body_at, 0
+            yield [words[0] + 1, *words[1:], 0], 9, body_at, 0
+            yield words, 10, body_at + 1, 21
+
+
+def broken_fields():
+    """FIELD, of bodies that have every field: with each rule broken, each two, all but the
+    highest ones, and all; and of bodies of two fields; behind few and many parts."""
+    ruled = sorted(BREAKS, reverse=True)
+    several = [*itertools.combinations(ruled, 1), *itertools.combinations(ruled, 2)]
+    several += [tuple(ruled[first:]) for first in range(len(ruled) - 2)]
+    for parts in ((0, 0, 0), (1, 2, 3), (1, 0, 1)):
+        for broken in several:
+            yield broken_body(range(8, 31), broken, parts)
+            yield broken_body(broken, broken, parts)
+    # the second word of a device; lists behind a long text
+    body = put_at(body_of(29, 17), 4, 1 << 16)
+    yield shaped(4, 0, 0, 0, body)[0], 10, 2 + 3, 17
+    for n in (0, 1, 300, 65000):
+        text = [0, n, *[ONES] * n]
+        yield shaped(4, 1, 1, 1, [3 << 8, *text, 1 << 25, 0])[0], 10, 7 + 1 + len(text), 8
+        yield shaped(4, 1, 1, 1, [3 << 8, 1 << 24, *text[1:], 1 << 25, 0])[0], 10, 7 + 1, 9
+
+
+def broken_body(bits, broken, parts):
+    """A packet of the fields of these bits, with the rules of some broken."""
+    body = body_of(*bits)
+    places = {bit: 1 + sum(len(full_field(higher)) for higher in bits if higher > bit) for bit in bits}
+    for bit in broken:
+        word, place = BREAKS[bit]
+        body[places[bit] + word] |= 1 << place
+    words, _, _, body_at = shaped(4, *parts, body)
+    return words, 10, body_at + places[max(broken)], max(broken)
+
+
 def read(r):
     def ask(words):
         return calls.read_of(given(words), noisy(r, 18))
+
+    for words, *told in [*refused_parts(), *broken_fields()]:
+        yield sure(ask(words), *told)
 
     yield sure(ask([]), 1)
     yield sure(ask([0x4065000B, 7, 1, 0, 0] + SAMPLE_BODY), 0)
@@ -220,7 +305,10 @@ def read_survey(r):
     def ask(words):
         return calls.read_survey_of(given(words), noisy(r, 22))
 
-    yield sure(ask([]), 1)
+    for words, number, *told in [*refused_parts(), *broken_fields()]:
+        if words[0] >> 28 != 1 or number != 6:
+            yield sure(ask(words), number, *told)
+    yield sure(ask([]), 1, 0)
     cases = [ask(words) for words in HANDS]
     assert [list(case.after[1][18:]) for case in cases] == [[0, 0x200003CF, 0, 4], [8, 0x100001C7, 2, 3]]
     yield from (sure(case, 0) for case in cases)
@@ -233,14 +321,14 @@ def read_survey(r):
         yield sure(case, 0 if right else 20)
     for high, low in survey_classes():
         for body in ([], [1], [1, 2]):
-            yield sure(ask(survey(high, low, body)), 20)
+            yield sure(ask(survey(high, low, body)), 20, 2)
             # the earlier refusals come first
-            yield sure(ask(survey(high, low, body, tsf=2, fraction=TERA)), 7)
-            yield sure(ask(survey(high, low, body)[:-1]), 5)
+            yield sure(ask(survey(high, low, body, tsf=2, fraction=TERA)), 7, 4)
+            yield sure(ask(survey(high, low, body)[:-1]), 5, 0)
     for flags in (0, 4, 8):
         for high in (survey_high(), survey_high(3), ONES):
             words = survey(high, 0x00080000, [1, 2], flags)
-            yield sure(ask(words), 20)
+            yield sure(ask(words), 20, 2 if flags & 8 else 0)
             yield sure(ask(words[:-1]), 5)
             yield sure(ask([words[0] & ~0xFFFF] + words[1:]), 4)
             yield sure(ask(survey(high, 0x00080000, [1], flags, 2, TERA)), 7)
@@ -729,16 +817,29 @@ def play(r):
         yield sure(case, 0)
     yield sure(ask(table.layout([fresh_stream(7)]), context(body_of(*range(10, 23)))), 0)
     for kind in (0, 2):
-        yield sure(ask(played_table(1), [kind << 28 | 1]), 11)
-    yield sure(ask(played_table(1), [1 << 28 | 2, 8]), 11)
+        yield sure(ask(played_table(1), [kind << 28 | 1]), 11, 0)
+    yield sure(ask(played_table(1), [1 << 28 | 2, 8]), 11, 1)
     # both a table that is not well made and a packet that is refused
-    yield sure(ask([0], []), 18)
-    yield sure(ask([], [ONES]), 18)
+    yield sure(ask([0], []), 18, 0)
+    yield sure(ask([], [ONES]), 18, 0)
     yield from play_by_choice(ask)
+    yield from play_refused(ask)
     for spoilt in spoilt_tables():
         yield sure(ask(spoilt, packet(1, 0)), 18)
         yield sure(ask(spoilt, HANDS[1]), 18)
         yield sure(ask(spoilt, context([1 << 22 | 1 << 16, 5, ALL_ON])), 18)
+
+
+def play_refused(ask):
+    """What reading refuses, with its place, whether the stream is declared or not; and what
+    playing refuses of packets that reading accepts."""
+    declared, other = table.layout([fresh_stream(5, 1), fresh_stream(7)]), table.layout([fresh_stream(5)])
+    for words, *told in [*refused_parts(), *broken_fields()]:
+        yield sure(ask(declared, words), *told)
+        yield sure(ask(other, words), *told)
+    for kind, c, tsi, tsf in itertools.product(range(6), range(2), range(4), range(4)):
+        words = shaped(kind, c, tsi, tsf, [0])[0]
+        yield sure(ask(other, words), 11, 0 if kind in (0, 2) else 1)
 
 
 def play_by_choice(ask):
@@ -751,14 +852,15 @@ def play_by_choice(ask):
                 number = (0 if right else 20) if choice else 6 if high >> 24 else 0
                 yield sure(ask(lent, survey(high, low, body)), number)
             for high, low in [*survey_classes()][::3]:
-                yield sure(ask(lent, survey(high, low, [1])), 20 if choice else 6 if high >> 24 else 0)
+                number = 20 if choice else 6 if high >> 24 else 0
+                yield sure(ask(lent, survey(high, low, [1])), number, 2 if number else 0)
                 # not declared
                 words = survey(high, low, [1], identifier=9)
-                yield sure(ask(lent, words), 6 if high >> 24 else 11)
+                yield sure(ask(lent, words), *((6, 2) if high >> 24 else (11, 1)))
             for flags in (0, 4, 8):
                 words = survey(survey_high(), 0x00080000, [1, 2], flags)
-                yield sure(ask(lent, words), 20 if choice else 0)
-                yield sure(ask(lent, words[:1] + [9] + words[2:]), 11)
+                yield sure(ask(lent, words), 20 if choice else 0, 2 if choice and flags & 8 else 0)
+                yield sure(ask(lent, words[:1] + [9] + words[2:]), 11, 1)
                 yield sure(ask(lent, words[:1]), 5)
             for pad in (0, 1, 8, 31):
                 for kind in (0, 2, 3, 4, 5):
@@ -799,6 +901,14 @@ def play_run(r):
     assert written[::5] == [0, 11, 0, 0, 0, 20], written
     written = calls.run(table.layout(mixed), run + survey(survey_high(3), 0x00080000, [1], identifier=8), 0, 9)[1]
     assert written[::5] == [0, 11, 0, 0, 0, 6], written
+    # the entry of a refusal behind one of no stream and a good packet, and before others
+    for words, number, place, bit in [*refused_parts(), *broken_fields()]:
+        front = [0x20000001, 0x10000002, 7]
+        written = calls.run(lent, front + words, 0, 9)[1]
+        assert written == [11, 1, 0, 0, 0, 0, 2, 1, 0, 0, number, 0, place, bit, 0], written
+        for room in (14, 15, 30):
+            yield sure(calls.play_run_of(r, lent, front + words, 0, room), 0)
+    yield sure(calls.play_run_of(r, lent, [0x10000002, 8, 0x30000003, 8, 0, 0x50000002, 9, 0x10000001], 0, 60), 0)
     for spoilt in spoilt_tables():
         yield sure(calls.play_run_of(r, spoilt, data, 0, 10), 18)
 

@@ -1,7 +1,7 @@
 """Holds the examples for C to the reference's text of each recording of samples/recordings: examples.py FOLDER [COMMAND ..]. FOLDER has them as
 tools/try_install leaves them, COMMAND runs them. `stream` must count what the text has, whether it takes 1, 7 or 65,535 words at a time;
-`tuning` must print a line for each Context packet; both must end with the text's refusal; and where there is none, `resume`, stopped after every few
-packets, must save the page of a play that was never stopped. What `resume` cannot read or write it must name, and leave as it is. `samples`, which has
+`tuning` must print a line for each Context packet; both must end with the text's refusal and its place, `tuning` with the field that the reference finds
+broken; and where there is none, `resume`, stopped after every few packets, must save the page of a play that was never stopped. What `resume` cannot read or write it must name, and leave as it is. `samples`, which has
 its payloads in itself, must find each sample where loops over their order find it, and `survey`, which has its packets in itself, the items of those by 49A."""
 import glob
 import os
@@ -11,9 +11,15 @@ import sys
 import tempfile
 
 ROOT = os.path.dirname(os.path.dirname(os.path.dirname(os.path.abspath(__file__))))
+sys.path.insert(0, os.path.join(ROOT, 'tools/reference'))
+
+import vrt49
+import vrtplay
+
 FOLDER, COMMAND = sys.argv[1], sys.argv[2:]
 LONGEST = 65536  # the bytes that vrtplay reads, and so what the text speaks of
-STREAM = 11
+STREAM, LIST = 11, 12
+FIELDS = {29: 'bandwidth', 24: 'level', 21: 'sample rate', 18: 'temperature', 17: 'device', 16: 'state', 15: 'format', 9: 'GPS ASCII', 8: 'lists'}
 
 
 def names():
@@ -32,13 +38,14 @@ def run(name, *arguments, given=None):
 
 
 def expected(text):
-    """Of a text: packets and missing of each stream, packets of no declared stream, Context packets, and the refusal that ends it, if one does."""
+    """Of a text: packets and missing of each stream, packets of no declared stream, Context packets, and the refusal that ends it, if one does: its packet's
+    word, its number, and its place, which LIST has none of."""
     streams, contexts = {}, 0
     for kind, stream, missing in re.findall(r'at \d+ type (\d) stream (\d+) missing (\d+)', text):
         packets, lost = streams.get(int(stream), (0, 0))
         streams[int(stream)] = packets + 1, lost + int(missing)
         contexts += kind == '4'
-    refused = [(int(place), int(number)) for place, number in re.findall(r'at (\d+) refused (\d+)', text)]
+    refused = [(int(word), int(number), place and int(place)) for word, number, place in re.findall(r'at (\d+) refused (\d+)(?: place (\d+))?\n', text)]
     ends = [one for one in refused if one[1] != STREAM]
     return streams, len(refused) - len(ends), contexts, ends[0] if ends else None
 
@@ -63,18 +70,37 @@ def page(recording, packets):
             before = after
 
 
+def end_of_stream(end):
+    """What `stream` says of the refusal that ends a recording."""
+    if not end:
+        return ''
+    return f'refused: {NAMES[end[1]]}' + (f', word {end[2]} of its packet' if end[1] != LIST else '') + '\n'
+
+
+def end_of_tuning(end, recording):
+    """What `tuning` says of it."""
+    if not end:
+        return ''
+    word, number, place = end
+    if number == LIST:
+        return f'at word {word} refused: LIST\n'
+    with open(recording, 'rb') as file:
+        _, again, offset, bit = vrt49.read(vrtplay.words_of(file.read())[word:])
+    assert (again, offset) == (number, place), (recording, end, again, offset)
+    field = f' {bit}, {FIELDS[bit]}' if bit else ''
+    return f'at word {word} refused: {NAMES[number]}{field}, word {place} of the packet, {word + place} of the recording\n'
+
+
 def wrong(recording):
     with open(recording[:-4] + '.txt', encoding='ascii') as file:
         streams, undeclared, contexts, end = expected(file.read())
     status = 1 if end else 0
     for words in ('1', '7', '65535'):
-        says = f'refused: {NAMES[end[1]]}\n' if end else ''
         have = run('stream', words, given=recording)
-        if (counted(have[1]), have[0], have[2]) != ((streams, undeclared), status, says):
+        if (counted(have[1]), have[0], have[2]) != ((streams, undeclared), status, end_of_stream(end)):
             yield f'stream {words}: {have}'
-    says = f'at word {end[0]} refused: {NAMES[end[1]]}\n' if end else ''
     have = run('tuning', given=recording)
-    if (have[1].count('\n'), have[0], have[2]) != (contexts, status, says):
+    if (have[1].count('\n'), have[0], have[2]) != (contexts, status, end_of_tuning(end, recording)):
         yield f'tuning: {have}'
     if not end and page(recording, 3 + os.path.getsize(recording) // 256) != page(recording, LONGEST):
         yield 'resume: another page'

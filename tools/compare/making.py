@@ -204,15 +204,16 @@ def context_body(r):
     return body
 
 
-def break_rule(r, body):
-    """A bit set in the first two words of one of the fields, often one that its
-    rule forbids; the layout mostly stays."""
-    found = vrt49.fields(body) if body else None
+def break_rules(r, body):
+    """A bit changed in the first two words of one of the fields of a good body, of two or
+    of all, often one that the rule forbids; the layout mostly stays."""
+    found = vrt49.fields(body)
     if not found:
         return bent(r, body)
-    _, place, count = r.choice([f for f in found if f[0] in vrt49.FIELD_RULES] or found)
+    ruled = [f for f in found if f[0] in vrt49.FIELD_RULES] or found
     broken = list(body)
-    broken[place + r.randrange(min(count, 2))] ^= 1 << r.choice((r.randrange(32), 31, 24, 16, 12, 23, 25, 9))
+    for _, place, count in r.sample(ruled, r.choice((1, 1, 1, min(2, len(ruled)), len(ruled)))):
+        broken[place + r.randrange(min(count, 2))] ^= 1 << r.choice((r.randrange(32), 31, 24, 16, 12, 23, 25, 9))
     return broken
 
 
@@ -222,7 +223,7 @@ def some_body(r):
     if kind < 4:
         return context_body(r)
     if kind < 6:
-        return break_rule(r, context_body(r))
+        return break_rules(r, context_body(r))
     if kind < 9:
         return bent(r, context_body(r))
     made = words(r, r.randrange(12))
@@ -375,7 +376,7 @@ def bent_packet(r, made):
         return resized(other, len(other)) if other else other
     if kind == 3 and made[0] >> 28 == 4:
         place = vrt49.body_place(made[0])
-        other = made[:place] + break_rule(r, made[place:])
+        other = made[:place] + break_rules(r, made[place:])
         return resized(other, len(other))
     if kind == 4 and made[0] >> 27 & 1:
         other = list(made)

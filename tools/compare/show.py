@@ -9,7 +9,8 @@ worked out twice: packet by packet, and for each field and each loss by itself; 
 the same.  The picture is parsed: every column with packets missing, with Context packets
 missing, with packets refused, and every span whose tuning cannot be trusted must have its
 mark, with the right packets and number, and nothing else has one; the bands and the centres
-must be those of the reference.  The first difference ends the program with status 1.
+must be those of the reference, and its head must say what was refused, and where.  The first
+difference ends the program with status 1.
 """
 
 import os
@@ -38,6 +39,7 @@ import vrt49
 import vrtplay
 from read_vectors import FIXED, ONES, context, packet, plain
 from table import COUNTED_TYPES, LIST, STREAM
+from vrt49 import FIELD
 
 split = sys.argv.index("--")
 GROUPS_ASKED, COMMAND = sys.argv[1:split], sys.argv[split + 1 :]
@@ -67,6 +69,11 @@ TYPES = {
     0: "data without identifier", 1: "data", 2: "extension data without identifier",
     3: "extension data", 4: "Context", 5: "extension Context",
 }
+# The fields that have a rule, as docs/PACKET.md names them.
+RULED = {
+    29: "bandwidth", 24: "level", 21: "sample rate", 18: "temperature", 17: "device", 16: "state",
+    15: "format", 9: "GPS ASCII", 8: "lists",
+}
 # The fields with values, in the order of the lines; those that are the tuning; the others.
 VALUES = {
     27: ("RF", "MHz"), 28: ("IF", "MHz"), 26: ("RF offset", "MHz"), 25: ("IF band offset", "MHz"),
@@ -91,6 +98,7 @@ CSV_HEAD = (
     "sample_rate_hz,level_dbm,gain_1_db,gain_2_db,temperature_c,state"
 )
 SURVEY_HEAD = ",items,format,vector"  # behind it where 49A is chosen for a stream
+PLACE_HEAD = ",place,bit"  # behind both
 # What the items of 49A are, and their bits, by the data type of the class (004, Table 4-5).
 ITEMS = {number: (bits, "signed") for number, bits in enumerate((4, 8, 16, 32, 64), 1)}
 ITEMS |= {6: (32, "float"), 7: (64, "float")}
@@ -191,15 +199,29 @@ class Event:
     is what the stream holds then, read what its packet says of itself, where it can be read,
     samples what it says of its samples, where it is a data packet of 49A; in_doubt are the
     fields in doubt after the packet, unsure_since the packet since which the tuning is not, or
-    was not, to be trusted, and unsure the data packets since then.  quiet is what is only said
+    was not, to be trusted, and unsure the data packets since then; refusal is the number of a
+    refusal, offset its place in the packet and bit the field's.  quiet is what is only said
     with -a."""
 
     def __init__(self, kind, number, place, read=None, stream=None, held=None, **more):
         self.kind, self.number, self.place, self.read = kind, number, place, read
         self.stream, self.held, self.quiet, self.samples = stream, held, kind == "other", None
         self.missing = self.unsure_since = self.unsure = self.refusal = self.changed = None
-        self.in_doubt = None
+        self.in_doubt = self.offset = self.bit = None
         self.__dict__.update(more)
+
+    def where(self, comma=""):
+        """What is said of where it is refused: nothing of LIST, which is of no packet."""
+        if self.refusal == LIST:
+            return ""
+        field = f"field {self.bit}, {RULED[self.bit]}, " if self.refusal == FIELD else ""
+        word = f"{self.place + self.offset:{comma}}"
+        return f" ({field}at word {self.offset} of the packet, {word} of the recording)"
+
+    def why(self, comma=""):
+        """The refusal that ends a recording, with its reason and where."""
+        text = f"refused {self.refusal} {NAMES[self.refusal]}: {WHY[self.refusal]}"
+        return text + self.where(comma)
 
 
 class Trust:
@@ -277,10 +299,10 @@ class Story:
         self.seen = [[] for _ in self.table]  # the numbers of the packets of each stream
         self.bands = [[] for _ in self.table]  # packet, low, centre and high, where they change
         self.trust = [Trust() for _ in self.table]
-        self.stopped, self.capture = None, data[:4] in CAPTURES
+        self.stopped, self.capture = None, data[:4] in CAPTURES  # stopped: the last event, if so
         if not self.table:
-            self.stopped = LIST
             self.events.append(Event("refused", None, 0, refusal=LIST))
+            self.stopped = self.events[-1]
             return
         self.place = 1 + words[0]
         while self.place < len(words) and self.stopped is None:
@@ -292,8 +314,8 @@ class Story:
                 differs(f"the check itself, stream {place}", by_field, trust.in_all())
 
     def add(self, kind, words, **more):
-        answer, read = table.read(self.table, words)
-        read = read if answer == "accepted" else None
+        answer = table.read(self.table, words)
+        read = answer[1] if answer[0] == "accepted" else None
         if read and table.choice_of(self.table, words):
             more["samples"] = Samples(words)
         self.events.append(Event(kind, self.packets, self.place, read, **more))
@@ -302,9 +324,10 @@ class Story:
         before = [dict(stream["held"]) for stream in self.table] if words[0] >> 28 == 4 else None
         answer = table.play(self.table, words)
         if answer[0] == "refused":
-            self.add("refused", words, refusal=answer[1])
-            if answer[1] != STREAM:
-                self.stopped = answer[1]
+            _, number, offset, bit = answer
+            self.add("refused", words, refusal=number, offset=offset, bit=bit)
+            if number != STREAM:
+                self.stopped = self.events[-1]
                 return
             self.place += vrt49.size_of(words[0])
             return
@@ -408,14 +431,13 @@ def in_doubt_text(fields):
 
 
 def line_of(story, event):
-    if event.kind == "refused":
-        if event.refusal != STREAM:
-            why = WHY[event.refusal]
-        elif event.read.type in COUNTED_TYPES:
+    if event.refusal == STREAM:
+        why = f"type {event.read.type}, {TYPES[event.read.type]}"
+        if event.read.type in COUNTED_TYPES:
             why = f"identifier 0x{event.read.identifier:08X} is not declared"
-        else:
-            why = f"type {event.read.type} ({TYPES[event.read.type]})"
-        return f"{front(event)} refused {event.refusal} {NAMES[event.refusal]}: {why}"
+        return f"{front(event)} refused {STREAM} STREAM: {why}{event.where()}"
+    if event.kind == "refused":
+        return f"{front(event)} {event.why()}"
     text = f"{front(event)} stream {event.stream} ({identifier(story, event.stream)})"
     unsure = f"since packet {event.unsure_since}, for {event.unsure} data packets"
     if event.kind == "trusted":
@@ -494,7 +516,7 @@ def summary(story):
     said.append(f"{sums}, refused {story.refused():,}")
     said += strangers(story)
     if story.stopped:
-        said.append(f"stopped: refused {story.stopped} {NAMES[story.stopped]}: {WHY[story.stopped]}")
+        said.append(f"stopped: {story.stopped.why()}")
     return [*said, f"end {story.place} tail {story.tail}"]
 
 
@@ -528,11 +550,12 @@ def row_of(story, event):
     if story.chosen:
         one = event.samples
         row += [one.items, one.what(" "), one.vector] if one else [""] * 3
+    row += [cell(event.offset), cell(event.bit)]
     return ",".join(str(value) for value in row)
 
 
 def rows(story, everything=False):
-    return [CSV_HEAD + SURVEY_HEAD * bool(story.chosen)] + [
+    return [CSV_HEAD + SURVEY_HEAD * bool(story.chosen) + PLACE_HEAD] + [
         row_of(story, event) for event in story.events if everything or not event.quiet
     ]
 
@@ -711,7 +734,8 @@ def check_stop(what, story, root):
     wanted, found = [], []
     if story.stopped is not None and story.packets > 0:
         at = f"{left + wide * (story.packets - 1) / story.packets:.1f}"
-        stop = f"ended by refusal {story.stopped} {NAMES[story.stopped]}"
+        end = story.stopped
+        stop = f"ended by refusal {end.refusal} {NAMES[end.refusal]}{end.where(',')}"
         wanted.append((at, f"packet {story.packets - 1:,}: {stop}"))
     for path in root.iter(SPACE + "path"):
         title = path.findtext(SPACE + "title")
@@ -719,6 +743,17 @@ def check_stop(what, story, root):
             found.append((re.match(r"M([\d.]+) ", path.get("d")).group(1), title))
     if found != wanted:
         differs(what, f"expected {wanted}", f"marks where it stopped {found}")
+
+
+def check_head(what, story, root):
+    """What stands above the rows: what is missing and refused in all, and how it ended."""
+    contexts = story.missing((4,))
+    wanted = f"missing {story.missing():,}" + (f" (Context {contexts:,})" if contexts else "")
+    wanted += f", refused {story.refused():,}; "
+    wanted += f"stopped: {story.stopped.why(',')}" if story.stopped else "played to the end"
+    found = [text.text for text in root.findall(SPACE + "text")][1]
+    if found != wanted:
+        differs(what, f"expected {wanted}", f"drawn {found}")
 
 
 def parsed(what, path):
@@ -745,6 +780,7 @@ def check_picture(what, story, path):
         check_seen(what, groups[name])
         check_bands(what, story, place, groups[name], *frame(what, root))
     check_stop(what, story, root)
+    check_head(what, story, root)
     tried["pictures"] += 1
     tried["marks"] += sum(len(marks) for marks in found.values())
 
@@ -770,12 +806,11 @@ def same(what, done, wanted, story, name="standard input"):
             differs(what, f"line {number}", f"expected {one}", f"printed  {two}", said)
     says = ""
     if story.stopped:
-        says = f"vrtshow: {name}: stopped at word {story.place}: refused {story.stopped} "
-        says += f"{NAMES[story.stopped]}: {WHY[story.stopped]}"
+        says = f"vrtshow: {name}: stopped at word {story.place}: {story.stopped.why()}"
     error, *hints = done.stderr.decode().split("\n")
     if done.returncode != (1 if story.stopped else 0) or error != says:
         differs(what, f"status {done.returncode}", f"expected {says}", f"printed  {error}")
-    if hints.count(CAPTURE_HINT) != (story.capture and story.stopped == LIST):
+    if hints.count(CAPTURE_HINT) != (story.capture and not story.table):
         differs(what, "that it looks like a capture is said wrongly", done.stderr.decode())
     tried["runs"] += 1
 
@@ -1172,7 +1207,7 @@ def states():
         ends = [line for line in summary(story) if line.startswith("       state: ")]
         if ends != ([f"       state: {last}"] if last else []):
             differs(f"{what}: the check itself", *ends)
-        if [row.split(",")[-1] for row in rows(story, True)] != ["state", *column]:
+        if [row.split(",")[-3] for row in rows(story, True)] != ["state", *column]:
             differs(f"{what}: the check itself", *rows(story, True))
     # of two streams, each its own; the last holds nothing
     s = Sender().tells(state=1 << 31)
@@ -1180,6 +1215,50 @@ def states():
     s.tells(state=1 << 19 | 1)
     o.tells(state=1 << 30)
     hold("states of two streams", recording_of([9, 8, 7], *s.sent))
+
+
+def refused_packets():
+    """What a case is, a packet, and what is to be said of it: the refusal with its name, the
+    field or none, and the place in the packet, worked out by hand."""
+    good, long = {"identifier": 7}, {"identifier": 7, "c": 1, "tsi": 1, "tsf": 2}
+    yield "a type", [0x60000001], "2 TYPE", "", 0
+    yield "a bit", packet(1, [1], reserved=1 << 25, **long), "3 BITS", "", 0
+    yield "a size", [0x10000001, 7], "4 SHORT", "", 0
+    yield "a cut", packet(1, [1, 2], **long)[:-1], "5 CUT", "", 0
+    yield "a class", packet(3, [1], oui=1 << 24, **long), "6 CLASS", "", 2
+    yield "a class without an identifier", packet(2, [1], c=1, oui=1 << 31), "6 CLASS", "", 1
+    yield "a time", packet(1, [1], fraction=10**12, **long), "7 TIME", "", 5
+    yield "a time alone", packet(0, [1], tsf=2, fraction=10**12), "7 TIME", "", 1
+    yield "an indicator", packet(4, [1], **long), "8 INDICATOR", "", 7
+    yield "a layout", packet(4, [1 << 29, 0], **good), "9 LAYOUT", "", 2
+    every = [word for bit, n in FIXED for word in plain(bit, n)] + [0, 1, 5, 0, 0]
+    broken = {29: (2, 31), 24: (12, 16), 21: (15, 31), 18: (20, 16), 17: (21, 24), 16: (23, 20)}
+    broken |= {15: (24, 12), 9: (75, 24), 8: (78, 25)}
+    for bit, (at, forbidden) in broken.items():
+        body = [0x7FFFFF00, *every]
+        body[at] |= 1 << forbidden
+        body[78] |= 1 << 31  # the lowest one is broken too
+        field = f"field {bit}, {RULED[bit]}, "
+        yield f"field {bit}", packet(4, body, **long), "10 FIELD", field, 7 + at
+
+
+def refusals():
+    """Every refusal of a packet, behind one of each type that has no stream, and one of no
+    declared stream, with all that is to be said of it."""
+    front = [packet(0, [1]), packet(2, [1, 2]), packet(1, [1], identifier=9)]
+    strangers = [
+        "type 0, data without identifier (at word 0 of the packet, 2 of the recording)",
+        "type 2, extension data without identifier (at word 0 of the packet, 4 of the recording)",
+        "identifier 0x00000009 is not declared (at word 1 of the packet, 8 of the recording)",
+    ]
+    for what, words, refusal, field, place in refused_packets():
+        story = hold(f"refused: {what}", recording_of([7], *front, words), everything=(False,))
+        *passed, last = lines(story)
+        where = f" ({field}at word {place} of the packet, {10 + place} of the recording)"
+        if [line.split(" STREAM: ")[1] for line in passed] != strangers:
+            differs(f"{what}: the check itself", *passed)
+        if not last.startswith(f"at 10 packet 3 refused {refusal}: ") or not last.endswith(where):
+            differs(f"{what}: the check itself", last)
 
 
 def surveyed(identifier, kind, complex_samples=0, vector=1, vectors=1, count=0, **more):
@@ -1462,7 +1541,7 @@ def failing():
     for name, why in ((folder.name, "Is a directory"), ("/proc/self/mem", "Input/output error")):
         for more in ([], ["-q"], ["-a"], ["--csv"], ["-l"], ["--svg", svg]):
             done = run(*more, name)
-            fails(f"{name} {more}", done, f"{name}: cannot be read: {why}", [CSV_HEAD])
+            fails(f"{name} {more}", done, f"{name}: cannot be read: {why}", [CSV_HEAD + PLACE_HEAD])
     data = recording_of(
         [7], context(0x08000000, [0, 1 << 20], identifier=7), packet(1, [1] * 20, identifier=7)
     )
@@ -1548,8 +1627,8 @@ def progress():
 GROUPS = {
     group.__name__: group
     for group in (
-        samples, pictures, surveys, columns, million, values, seams, doubts, states, surveys_49a,
-        pieces, cut, live, outside, behind, kept, failing, captures, tails, progress,
+        samples, pictures, surveys, columns, million, values, seams, doubts, states, refusals,
+        surveys_49a, pieces, cut, live, outside, behind, kept, failing, captures, tails, progress,
     )
 }
 

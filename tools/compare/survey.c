@@ -1,7 +1,8 @@
 /* Every call of libvrt49 once, by the header's names: a context packet and a data packet are read, one is written again, both are played on a
    table of two streams, one of them by 49A, the table is saved and put back, the held fields are read for the panel, samples are unpacked and
-   packed again, and found by their channel and instant; a packet of 49A is read, unpacked, and written again. It prints what it does, and exits
-   with 1 where a call answers what it should not. It is C99 and C++; tools/compare/compare.sh runs it. */
+   packed again, and found by their channel and instant; a packet of 49A is read, unpacked, and written again. What is refused says its number, its
+   place and its field. It prints what it does, and exits with 1 where a call answers what it should not. It is C99 and C++; tools/compare/compare.sh
+   runs it. */
 #include <inttypes.h>
 #include <stdio.h>
 #include <stdlib.h>
@@ -26,6 +27,16 @@ static void expect(const char *call, uint32_t number, uint32_t wanted)
         return;
     printf("%s answers %" PRIu32 " (%s), not %" PRIu32 "\n", call, number, vrt49_name(number), wanted);
     exit(1);
+}
+
+/* what a call refuses with, part by part; each macro takes its argument once */
+static void expect_at(const char *call, uint32_t refusal, uint32_t number, uint32_t place, uint32_t bit)
+{
+    const uint32_t given[] = {refusal, refusal, refusal}, *next = given;
+    expect(call, VRT49_NUMBER(*next++), number);
+    expect("its place", VRT49_PLACE(*next++), place);
+    expect("its bit", VRT49_BIT(*next++), bit);
+    expect("all in one", next == given + 3 && refusal == number + 256 * bit + 65536 * place, 1);
 }
 
 /* reads a packet, and prints its header's values and its body's place */
@@ -58,6 +69,35 @@ static void read_packets(void)
     expect("vrt49_read of a packet that is cut", vrt49_read(data, 4, &packet), VRT49_CUT);
     expect("vrt49_read of nothing", vrt49_read(NULL, 0, &packet), VRT49_EMPTY);
     expect("the packet after refusals", packet.size == ENTRIES(data), 1);
+}
+
+/* the context packet with its sample rate negative: read, read as 49A, played, and entered in a run it is refused at the same word; its body is refused
+   without a place */
+static void refuse_packet(uint32_t *table, size_t layout)
+{
+    uint32_t words[ENTRIES(context)], refusal;
+    vrt49_packet packet;
+    vrt49_survey survey;
+    vrt49_heard heard;
+    vrt49_entry entry;
+    size_t packets, next;
+    memcpy(words, context, sizeof words);
+    words[9] |= 0x80000000;
+    refusal = vrt49_read(words, ENTRIES(words), &packet);
+    expect_at("vrt49_read of a negative rate", refusal, VRT49_FIELD, 9, VRT49_BIT_SAMPLE_RATE);
+    expect("vrt49_read_survey of it", vrt49_read_survey(words, ENTRIES(words), &survey), refusal);
+    expect("vrt49_play of it", vrt49_play(table, layout, words, ENTRIES(words), &heard), refusal);
+    expect("vrt49_play_entries", vrt49_play_entries(table, layout, words, ENTRIES(words), 0, &entry, 1, &packets, &next), VRT49_OK);
+    expect("its entry", packets == 1 && next == 0 && entry.number == VRT49_FIELD && entry.size == 0 && entry.missing == 0, 1);
+    expect("the refusal of its entry", vrt49_entry_refusal(&entry), refusal);
+    expect("vrt49_check_body of it", vrt49_check_body(words + 5, 6), VRT49_FIELD);
+    printf("refused: %s, field %" PRIu32 " (%s), at word %" PRIu32 "\n", vrt49_name(refusal), VRT49_BIT(refusal), vrt49_field_name(VRT49_BIT(refusal)),
+           VRT49_PLACE(refusal));
+    expect("no field", strcmp(vrt49_field_name(7), "?") == 0 && strcmp(vrt49_field_name(31), "?") == 0, 1);
+    words[1] = 8;
+    words[9] ^= 0x80000000;
+    expect_at("vrt49_play of no declared stream", vrt49_play(table, layout, words, ENTRIES(words), &heard), VRT49_STREAM, 1, 0);
+    expect("vrt49_play of no table", vrt49_play(table, 0, words, ENTRIES(words), &heard), VRT49_TABLE);
 }
 
 /* writes the data packet again, from its parts and its body, behind two words that stay */
@@ -110,6 +150,8 @@ static size_t play_packets(uint32_t *table, size_t room)
     printf("played again: type %" PRIu32 " of stream %" PRIu32 ", missing %" PRIu32 "\n", heard.type, heard.stream, heard.missing);
     expect("vrt49_play of 49A", vrt49_play(table, layout, survey_data, ENTRIES(survey_data), &heard), VRT49_OK);
     expect("the packet of 49A", heard.type == VRT49_TYPE_DATA && heard.stream == 1 && heard.size == ENTRIES(survey_data), 1);
+    expect("the refusal of an entry that is accepted", vrt49_entry_refusal(&entries[1]), VRT49_OK);
+    refuse_packet(table, layout);
     return layout;
 }
 
@@ -248,7 +290,7 @@ static void read_survey(void)
     vrt49_survey survey;
     vrt49_survey_parts parts, made;
     size_t length;
-    expect("vrt49_read of 49A", vrt49_read(survey_data, ENTRIES(survey_data), &packet), VRT49_CLASS);
+    expect_at("vrt49_read of 49A", vrt49_read(survey_data, ENTRIES(survey_data), &packet), VRT49_CLASS, 2, 0);
     expect("vrt49_read_survey", vrt49_read_survey(survey_data, ENTRIES(survey_data), &survey), VRT49_OK);
     printf("49A: %" PRIu32 " bits of padding, %" PRIu32 " items, format 0x%08" PRIX32 " 0x%08" PRIX32 "\n", survey.pad, survey.items, survey.first,
            survey.second);

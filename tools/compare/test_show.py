@@ -51,13 +51,14 @@ FAULTS = {
         ("survey.c", "    of->items += of->samples.items;\n", ""),
         ("survey.c", "    of->sampled++;\n", "    of->sampled = 1;\n"),
         ("lines.c", 'code == 0 ? "signed" : code == 16 ? "unsigned" : "float"', 'code == 16 ? "unsigned" : "signed"'),
-        ("lines.c", "item_name(samples->first), samples->second + 1);\n}\n\n/* What was", "item_name(samples->first), samples->second);\n}\n\n/* What was"),
+        ("lines.c", "item_name(samples->first), samples->second + 1);\n}\n\n/* Which", "item_name(samples->first), samples->second);\n}\n\n/* Which"),
         ("lines.c", "    if (of->choice != VRT49_SURVEY)\n        return;\n", ""),
         ("lines.c", 'of->sampled != 0 ? "; the last has " : "\\n"', '"; the last has "'),
         ("lines.c", "its class, its trailer or its padding", "its class or its padding"),
         # in CSV
         ("lines.c", "if (!at || at->choice != VRT49_SURVEY)", "if (!at)"),
         ("lines.c", 'row(all, of, at, "samples", ",,,,")', 'row(all, of, at, "other", ",,,,")'),
+        ("lines.c", "    if (all->chosen_n != 0)\n        put_samples_cells(at, &read);\n    put_place_cells(at);\n", "    put_place_cells(at);\n    if (all->chosen_n != 0)\n        put_samples_cells(at, &read);\n"),
         ("lines.c", '",%" PRIu32 ",%s %" PRIu32 " bits', '",%" PRIu32 ",%s,%" PRIu32 " bits'),
     ],
     "states": [
@@ -85,6 +86,35 @@ FAULTS = {
         ("lines.c", '"0x%08" PRIX32, of->state', '"0x%08" PRIX32, of->state & ~VRT49_STATE_USER'),
         ("lines.c", "    put_state_cell(of);\n", "    put_state_cell(of ? all->streams : NULL);\n"),
         ("lines.c", "temperature_c,state%s", "temperature_c%s"),
+    ],
+    "refusals": [
+        # which number, which word, of the packet and of the recording
+        ("survey.c", "        all->stopped_by = refusal;\n", "        all->stopped_by = at->said->number;\n"),
+        ("survey.c", "    tell_refused(all, at, refusal);\n", "    tell_refused(all, at, at->said->number);\n"),
+        ("lines.c", "(at ? at->place : 0) + VRT49_PLACE(refusal)", "at ? at->place : 0"),
+        ("lines.c", "ungrouped(all->stopped_at + VRT49_PLACE(all->stopped_by))", "ungrouped(all->stopped_at)"),
+        ("vrtshow.c", "ungrouped(all.stopped_at + VRT49_PLACE(all.stopped_by))", "ungrouped(all.stopped_at)"),
+        ("lines.c", "of the recording)\", VRT49_PLACE(refusal),", "of the recording)\", bit,"),
+        ("lines.c", "    put_where(out, refusal, word);\n", ""),
+        ("lines.c", "        put_where(stdout, refusal, word);\n", ""),
+        ("lines.c", '"refused %" PRIu32 " %s: %s", VRT49_NUMBER(refusal)', '"refused %" PRIu32 " %s: %s", refusal'),
+        ("lines.c", "    switch (VRT49_NUMBER(refusal)) {\n", "    switch (refusal) {\n"),
+        # which field
+        ("lines.c", "    if (VRT49_NUMBER(refusal) == VRT49_FIELD)\n        fprintf", "    if (0)\n        fprintf"),
+        ("lines.c", "bit, vrt49_field_name(bit)", "bit, vrt49_field_name(bit - 1)"),
+        # whose packet
+        ("lines.c", '"type %" PRIu32 ", %s", read.packet.type', '"type %" PRIu32 " (%s)", read.packet.type'),
+        ("lines.c", "if (has_identifier(&read.packet))", "if (1)"),
+        # in CSV
+        ("lines.c", 'state%s,place,"\n         "bit\\n"', 'state%s,"\n         "place\\n"'),
+        ("lines.c", "    if (refusal != VRT49_OK)\n        printf", "    if (VRT49_PLACE(refusal) != 0)\n        printf"),
+        ("lines.c", "    if (VRT49_NUMBER(refusal) == VRT49_FIELD)\n        printf", "    if (refusal != VRT49_OK)\n        printf"),
+        ("lines.c", "    if (VRT49_NUMBER(refusal) == VRT49_FIELD)\n        printf", "    if (0)\n        printf"),
+        ("lines.c", "    put_place_cells(at);\n", ""),
+        # in the picture
+        ("picture.c", "grouped(all->stopped_at + VRT49_PLACE(all->stopped_by))", "grouped(all->stopped_at)"),
+        ("picture.c", "        put_refusal(on->out, all->stopped_by, stopped_word(all));\n", "        put_refusal(on->out, VRT49_NUMBER(all->stopped_by), stopped_word(all));\n"),
+        ("picture.c", "    put_where(on->out, all->stopped_by, stopped_word(all));\n", ""),
     ],
     "surveys": [
         ("survey.c", "    of->since = 0;\n", ""),
@@ -185,6 +215,8 @@ FAULTS = {
     ],
     "cut": [
         ("survey.c", "stopped_at = from->before + from->at", "stopped_at = from->before + from->have"),
+        ("lines.c", "    if (VRT49_NUMBER(refusal) == VRT49_LIST)\n        return;\n", ""),
+        ("lines.c", "uint32_t refusal = at ? vrt49_entry_refusal(at->said) : VRT49_OK;", "uint32_t refusal = at ? vrt49_entry_refusal(at->said) : VRT49_LIST;"),
         ("recording.c", "(from->live || from->ended ? from->bytes : from->size) % 4", "0"),
         ("vrtshow.c", "    tell_end();\n    return REFUSED;", "    tell_end();\n    return 0;"),
         ("picture.c", "if (all->stopped_by == VRT49_OK || all->packets == 0)", "if (1)"),
@@ -239,7 +271,7 @@ FAULTS = {
         ("vrtshow.c", "0xD4C3B2A1, ", ""),
         ("vrtshow.c", ", 0x0A0D0D0A}", "}"),
         ("vrtshow.c", "if (first == CAPTURES[i])", "if (first >> 8 == CAPTURES[i] >> 8)"),
-        ("vrtshow.c", "all.stopped_by == VRT49_LIST && from.have != 0", "all.stopped_by == VRT49_LIST && from.have != 0 && path"),
+        ("vrtshow.c", "== VRT49_LIST && from.have != 0", "== VRT49_LIST && from.have != 0 && path"),
     ],
     "tails": [
         ("recording.c", "from->live || from->ended ? from->bytes : from->size", "from->bytes"),

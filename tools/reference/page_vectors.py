@@ -27,10 +27,10 @@ from play_vectors import (
     slot_place, slots_of,
 )
 from read_vectors import (
-    FIXED, FIXED_BITS, ONES, Numbers, all_fixed, context, packet, random_survey, survey,
+    FIXED, FIXED_BITS, ONES, RULED, Numbers, all_fixed, context, packet, random_survey, survey,
 )
-from table import ROOM, TABLE
-from vrt49 import PAD
+from table import ROOM, STREAM, TABLE
+from vrt49 import FIELD, PAD
 
 ACCEPTED = 0
 MOST_STREAMS = 32
@@ -893,6 +893,7 @@ class Coverage:
         self.saved_streams = set()
         self.put_streams = set()
         self.choices = set()
+        self.told = set()
 
     def add(self, label):
         self.tally[label] = self.tally.get(label, 0) + 1
@@ -912,7 +913,8 @@ def words_line(name, words, room):
 def five_words(answer):
     """What goes into the check number of the answers, for one packet."""
     if answer[0] == "refused":
-        return [answer[1], 0, 0, 0, 0]
+        _, number, place, bit = answer
+        return [number, 0, place, 0 if bit is None else bit, 0]
     _, size, kind, stream, missing = answer
     return [0, size, kind, stream, missing]
 
@@ -935,11 +937,14 @@ def of_resumed(k, one, cover):
     for words in one.packets:
         answers.append(table.play(whole, words))
         states.append(copy.deepcopy(whole))
-        if answers[-1] == ("refused", PAD):
-            cover.choices.add("PAD in a recording")
+        if answers[-1][0] == "refused":
+            cover.told.add(answers[-1][1:])
+    numbers = {answer[1] for answer in answers if answer[0] == "refused"}
+    if PAD in numbers:
+        cover.choices.add("PAD in a recording")
     both = (0 in one.choices, 1 in one.choices)
     cover.choices.add(("recording", *both))
-    if both == (True, True) and ("refused", PAD) in answers and len(one.cuts) > len(one.packets):
+    if both == (True, True) and PAD in numbers and len(one.cuts) > len(one.packets):
         cover.choices.add("both choices and PAD, stopped at each packet")
     end = table.layout(whole)
     folded = fold([word for answer in answers for word in five_words(answer)])
@@ -1095,6 +1100,11 @@ CHOICES = {
     ("recording", True, True), ("put", 0), ("put", 1), ("saved", 0), ("saved", 1),
 }
 
+# What is there of refusals in recordings: each number of play but TABLE, the identifier
+# and the header as the place of STREAM, and each field that has a rule.
+TOLD_NUMBERS = {*range(1, 11), PAD, STREAM}
+TOLD_STREAMS = {(STREAM, 0, None), (STREAM, 1, None)}
+
 TABLE_RULES = [name for name, _ in table.RULES_OF_WORDS + table.RULES_OF_RECORDS]
 
 
@@ -1119,6 +1129,9 @@ def check(cover):
         ("streams of a table saved", cover.saved_streams == every),
         ("lengths of a page", cover.lengths >= {19, 92, 546, 2882}),
         ("choices put back and saved", cover.choices >= CHOICES),
+        ("refusals in recordings", {number for number, _, _ in cover.told} == TOLD_NUMBERS),
+        ("places of STREAM", cover.told >= TOLD_STREAMS),
+        ("fields", {bit for number, _, bit in cover.told if number == FIELD} == set(RULED)),
         ("words past the second table", cover.past == {0, 1, 2}),
         ("PAGE before ROOM", {rule for a, b, rule in both_faults if a == PAGE} == set(page.RULES)),
         (

@@ -7,7 +7,8 @@ README.md gives the form of both files.  Each recording and each packet that is
 built for one answer says which answer that is, and each table that is built not
 to be well made says which rule it breaks; where the reference says another, the
 program ends without writing.  So it does where a table's words at the end are
-not those that follow from the packets that were played, taken together.
+not those that follow from the packets that were played, taken together, and where a
+refusal has another place than the one that is found by walking over the words.
 """
 
 import sys
@@ -18,9 +19,10 @@ import read_vectors
 import table
 import vrt49
 from read_vectors import (
-    FIXED, FIXED_BITS, FORMAT, ITEM_BITS, ONES, OUI, PAD_FAULTS, TERA, Numbers, all_fixed,
-    context, counted, format_word, lists_of, packet, plain, random_field, random_packet,
-    random_survey, survey, survey_class, whole,
+    FIXED, FIXED_BITS, FORMAT, ITEM_BITS, ONES, OUI, PAD_FAULTS, TERA, Numbers, Shape, Told,
+    all_fixed, context, counted, every_shape, fields_of, format_word, laid, lists_of, packet,
+    plain, random_field, random_packet, random_survey, refusal_text, some_shapes, survey,
+    survey_class, text_of, whole,
 )
 from table import LIST, ROOM, STREAM, TABLE
 from vrt49 import BITS, CLASS, CUT, EMPTY, FIELD, INDICATOR, LAYOUT, PAD, SHORT, TIME, TYPE
@@ -64,12 +66,12 @@ both_faults = set()
 
 class Recording:
     """One recording, with the answer of start that it is built for.  The choices are
-    zeros if no others are named.  The packets are pairs of their words and what they are meant to be answered: the number
-    of a refusal, or type, stream and missing of a packet that is played, or
-    None.  The stores are pairs of place and word.  Broken names the rules that
-    the table then breaks, and beside the rule that a well-made table is just
-    within.  After has words that are meant to be in the table at the end, by
-    their place."""
+    zeros if no others are named.  The packets are pairs of their words and what they are
+    meant to be answered: the number of a refusal, or Told with its place too, or type,
+    stream and missing of a packet that is played, or None.  The stores are pairs of place
+    and word.  Broken names the rules that the table then breaks, and beside the rule that
+    a well-made table is just within.  After has words that are meant to be in the table
+    at the end, by their place."""
 
     def __init__(self, ids, choices, packets, answer, room, stores, broken, beside, after):
         self.ids = list(ids)
@@ -946,7 +948,7 @@ def survey_counts():
         recording([7], begin + [one] + end, choices=[1], after=after)
     # The same words where the choice is 0: what is left is read plainly.
     for words, _ in refused:
-        answer, what = vrt49.read(words)
+        answer, what = vrt49.read(words)[:2]
         meant = what if answer == "refused" else (1, 0, 0)
         recording([7], [(words, meant)], choices=[0])
 
@@ -1567,6 +1569,91 @@ def random_stores(numbers, n):
     return stores
 
 
+# The places of refusals: C-15.
+
+
+# Four streams, the first and the third plain, the others of survey packets.  The tables
+# that streams_vectors.py takes have three at most.
+PLACE_IDS = (0x1500, 0x1501, 0x1502, 0x1503)
+PLACE_CHOICES = (0, 1, 0, 1)
+
+
+def places_recording(packets):
+    """Packets that are refused, a packet of each stream before them and its next behind
+    them: what is between is not counted."""
+    begin, end, after = [], [], {}
+    for stream, identifier in enumerate(PLACE_IDS):
+        begin.append((context(1 << 30, [stream], identifier=identifier), (4, stream, 0)))
+        end.append((context(1 << 10, [9], identifier=identifier, count=1), (4, stream, 0)))
+        after.update({indicator_place(stream): 1 << 30 | 1 << 10, slot_place(10, stream): 9})
+        after.update(at_places(count_place(4, stream), [2, 0, 2]))
+    recording(PLACE_IDS, begin + packets + end, after=after, choices=PLACE_CHOICES)
+
+
+def reading_places():
+    """Those of reading: to a plain stream, then those of type 1 to one of survey packets,
+    and some to no declared stream."""
+    packets = []
+    for turn, (words, told, _) in enumerate(read_vectors.placed(PLACE_IDS[0])):
+        # The words of read_vectors.py that have many fields are few here.
+        if told is not None and (len(words) < 40 or turn % 3 == 0):
+            packets.append((words, told))
+    for words, _, told in read_vectors.placed(PLACE_IDS[1]):
+        if words and words[0] >> 28 == 1:
+            packets.append((words, told))
+    # STREAM comes after them all.
+    for turn, (words, told, _) in enumerate(read_vectors.placed(0x15FF)):
+        if told is not None and turn % 9 == 0 and len(words) < 40:
+            packets.append((words, told))
+    for first in range(0, len(packets), 300):
+        places_recording(packets[first : first + 300])
+
+
+def stream_places():
+    """STREAM with every choice of optional parts: the header of types 0 and 2, the
+    identifier of the others."""
+    packets = []
+    shapes = list(some_shapes())
+    for kind in (0, 1, 2):
+        shapes += [one for one in every_shape(kind) if one.tsi > 1 or one.tsf > 1]
+    for turn, shape in enumerate(shapes):
+        identifier = (0, 0x15FF, ONES, PLACE_IDS[0] ^ 1 << 31)[turn % 4]
+        # In types 0 and 2 what stands at word 1 may be a declared identifier.
+        body = None if shape.kind == 4 else [("body", [PLACE_IDS[turn % 4]] * 2)]
+        words, places = laid(shape, body, identifier)
+        packets.append((words, Told(STREAM, places.get("identifier", 0))))
+    places_recording(packets)
+
+
+def far_places():
+    """The longest packets there are here: field 8 is their last two words.  Then one with
+    the text broken too, and the words of another packet behind it."""
+    packets = []
+    for stream, shape in ((0, Shape(4, 0, 0, 0, 0)), (1, Shape(4, 1, 1, 3, 3))):
+        other_words = len(laid(shape, [("body", [0, 0, 0, 0, 0])])[0])
+        body = fields_of({9: text_of(MOST_WORDS - other_words)}, {8: [0x02000000, 0]})
+        words, places = laid(shape, body, PLACE_IDS[stream])
+        packets.append((words, Told(FIELD, places[8], 8)))
+    body = fields_of((30,), {9: text_of(2000, 1 << 31), 8: [1 << 9, 0]})
+    words, places = laid(shape, body, PLACE_IDS[2])
+    packets.append((words + packet(1, [1]), Told(FIELD, places[9], 9)))
+    places_recording(packets)
+
+
+def table_places():
+    """TABLE has no place, whatever the packet is."""
+    stores = {count_place(5, 3) + 2: 17}
+    packets = [
+        (words, Told(TABLE, None))
+        for words, _, _ in read_vectors.placed(PLACE_IDS[0])
+        if len(words) < 12
+    ]
+    recording(
+        PLACE_IDS, packets[::9], stores=stores, broken=("last",), after=stores,
+        choices=PLACE_CHOICES,
+    )
+
+
 # The two files.
 
 
@@ -1643,6 +1730,7 @@ class Coverage:
         self.past_2_32 = set()
         self.no_identifier = set()
         self.choices = set()
+        self.places = {"plain": set(), "survey": set()}
 
     def add(self, label):
         self.tally[label] = self.tally.get(label, 0) + 1
@@ -1723,6 +1811,28 @@ def note_choice(cover, lent, words, answer):
         cover.choices.add((choice, kind, padded, said))
 
 
+def note_refused(cover, lent, words, answer):
+    """What a refusal covers, by its place, and whether it is the one that is found by
+    walking over the words."""
+    _, number, place, bit = answer
+    if number == TABLE:
+        fail((place, bit) != (None, None), f"TABLE has the place {place}")
+        return
+    kind = words[0] >> 28 if words else None
+    if number == STREAM:
+        right = 1 if kind in COUNTED else 0
+        fail((place, bit) != (right, None), f"STREAM of type {kind} has the place {place}")
+        shape = read_vectors.seen_shape(words)
+        cover.places["plain"].add((STREAM, *shape))
+        cover.places["plain"].add((STREAM, "type", kind, "place", place))
+        return
+    chosen = "plain"
+    for stream in range(lent[0]):
+        if kind == 1 and len(words) > 1 and lent[record_place(stream)] == words[1]:
+            chosen = "survey" if lent[choice_place(stream)] else "plain"
+    read_vectors.note_place(cover.places[chosen], words, answer)
+
+
 def of_recording(k, one, cover):
     """The words of a recording in the input, and its lines."""
     if one.room > MOST_ROOM or max(len(one.ids), len(one.choices)) > MOST_STREAMS:
@@ -1788,12 +1898,14 @@ def of_recording(k, one, cover):
             number = answer[1]
             if lent != before:
                 sys.exit(f"recording {k} packet {j} is refused and has written")
-            if meant is not None and meant != number:
-                sys.exit(f"recording {k} packet {j} is meant for {meant}, not {number}")
+            said = answer[1:] if isinstance(meant, Told) else number
+            if meant is not None and meant != said:
+                sys.exit(f"recording {k} packet {j} is meant for {meant}, not {said}")
             cover.add(f"play refused {number}")
             if number == STREAM:
                 cover.no_identifier.add(words[0] >> 28)
-            lines.append(f"  {j} refused {number}")
+            note_refused(cover, before, words, answer)
+            lines.append(f"  {j} {refusal_text(answer)}")
             continue
         _, size, kind, stream, missing = answer
         if meant is not None and meant != (kind, stream, missing):
@@ -1857,6 +1969,10 @@ def build():
     wrong_counts()
     wrong_starts()
     random_recordings()
+    reading_places()
+    stream_places()
+    far_places()
+    table_places()
 
 
 # Each answer, and the least number of its cases.
@@ -1937,6 +2053,19 @@ def check(cover):
     for name in RULES:
         fail(cover.broken.get((name,), 0) < 2, f"rule {name}: fewer than 2 break it alone")
         fail(cover.beside.get(name, 0) < 2, f"rule {name}: fewer than 2 are beside it")
+    # The edges of C-15; under the choice 1 those of type 1, as the others are plain.
+    wanted = read_vectors.places_wanted(READ_ORDER, False)
+    wanted += [(STREAM, *shape) for shape in read_vectors.shapes_refused(STREAM, False)]
+    wanted += [(STREAM, "type", kind, "place", 0) for kind in (0, 2)]
+    wanted += [(STREAM, "type", kind, "place", 1) for kind in COUNTED]
+    wanted += [(CLASS, "type", 1, "place", 2), (FIELD, "place", MOST_WORDS - 2)]
+    for edge in wanted:
+        fail(edge not in cover.places["plain"], f"no packet at the edge {edge}")
+    for number in (BITS, SHORT, CUT, TIME, PAD):
+        for shape in read_vectors.shapes_refused(number, True):
+            if shape[0] == 1:
+                edge = (number, *shape)
+                fail(edge not in cover.places["survey"], f"no survey packet at the edge {edge}")
 
 
 def main():

@@ -3,11 +3,13 @@
     python3 tools/reference/read_vectors.py INPUT EXPECTED
 
 README.md gives the form of both files.  Each case that is built for one answer
-says which answer that is; a case where the reference says another ends the
-program without writing.
+says which answer that is, and each that is built for one place which place; a case
+where the reference says another ends the program without writing.  So does a refusal
+whose place is not the one that is found by walking over the words.
 """
 
 import sys
+from collections import namedtuple
 
 sys.dont_write_bytecode = True
 
@@ -44,11 +46,12 @@ SURVEY = 1
 cases = []
 
 
-def case(words, answer=None, way=PLAIN):
-    """One case, with the answer it is built for, if it is built for one."""
+def case(words, answer=None, way=PLAIN, told=None):
+    """One case, with the answer it is built for, if it is built for one, and with the
+    place and the bit, if it is built for these."""
     for word in words:
         assert 0 <= word <= ONES
-    cases.append((way, list(words), answer))
+    cases.append((way, list(words), answer, told))
 
 
 def survey_case(words, answer=None):
@@ -1140,7 +1143,7 @@ def random_surveys():
 def plain_as_survey():
     """Every case from before, but the largest, read as a survey packet: of a type
     other than 1 the answer is the same."""
-    for _, words, answer in list(cases):
+    for _, words, answer, _ in list(cases):
         if len(words) > 60000:
             continue
         if words and vrt49.type_of(words[0]) == 1:
@@ -1154,8 +1157,8 @@ def survey_edges():
     """The names of the edges of C-13 that the cases have, with their answers."""
     found = set()
     twice = {}
-    for way, words, _ in cases:
-        verdict, what = (vrt49.read, vrt49.read_survey)[way](words)
+    for way, words, _, _ in cases:
+        verdict, what = (vrt49.read, vrt49.read_survey)[way](words)[:2]
         answer = what if verdict == "refused" else ACCEPTED
         twice.setdefault(tuple(words), {})[way] = answer
         if way != SURVEY or not words:
@@ -1268,7 +1271,459 @@ def check_survey():
             sys.exit(f"a case at {edge}")
 
 
+# The places of refusals: C-15 of document 02.
+
+# What a refusal says: the number, the place, and the bit of FIELD or else None.
+Told = namedtuple("Told", "number place bit", defaults=[None])
+
+# The optional parts of a packet; flag is T for types 0-3 and TSM for types 4-5.
+Shape = namedtuple("Shape", "kind c flag tsi tsf")
+
+
+def some_shapes():
+    """Every type with every choice of optional parts."""
+    step = 0
+    for kind in TYPES:
+        for choice in range(16):
+            c, flag, seconds, fraction = (choice >> i & 1 for i in (3, 2, 1, 0))
+            yield Shape(kind, c, flag, (1 + step % 3) * seconds, (1 + step // 3 % 3) * fraction)
+            step += 1
+
+
+def every_shape(kind):
+    """One type with every choice of optional parts, every TSI and every TSF."""
+    for choice in range(64):
+        yield Shape(kind, choice >> 5, choice >> 4 & 1, choice >> 2 & 3, choice & 3)
+
+
+def laid(
+    shape, body=None, identifier=IDENTIFIER, high=0x00123456, low=0x00070009, fraction=1
+):
+    """The words of a packet that is laid out part by part, and the place at which each
+    part was put, by its name.  The body is a list of parts."""
+    words, places = [0], {"header": 0}
+
+    def put(name, part):
+        places[name] = len(words)
+        words.extend(part)
+
+    if shape.kind in (1, 3, 4, 5):
+        put("identifier", [identifier])
+    if shape.c:
+        put("class", [high, low])
+    if shape.tsi:
+        put("seconds", [0x5F5E1000])
+    if shape.tsf:
+        put("fraction", [fraction >> 32, fraction & ONES])
+    if body is None:
+        body = [("body", [1 << 31 if shape.kind == 4 else 0xB0D1])]
+    for name, part in body:
+        put(name, part)
+    flag = 24 if shape.kind in CONTEXT_TYPES else 26
+    if shape.flag and flag == 26:
+        put("trailer", [0x0BADCAFE])
+    words[0] = (
+        shape.kind << 28 | shape.c << 27 | shape.flag << flag | shape.tsi << 22
+        | shape.tsf << 20 | len(words)
+    )
+    return words, places
+
+
+def both(words, *told):
+    """Words that are answered the same, read plainly and as a survey packet."""
+    return words, Told(*told), Told(*told)
+
+
+def header_places(identifier):
+    """EMPTY, and what is wrong with the header: TYPE, BITS, SHORT and CUT."""
+    yield both([], EMPTY, 0)
+    for kind in range(6, 16):
+        for choice in range(8):
+            c, seconds, fraction = (choice >> i & 1 for i in (2, 1, 0))
+            shape = Shape(kind, c, choice % 3 % 2, seconds * (kind % 3 + 1), fraction * 2)
+            yield both(laid(shape, identifier=identifier)[0], TYPE, 0)
+    for step, shape in enumerate(some_shapes()):
+        words, places = laid(shape, identifier=identifier)
+        bits = (25, 24) if shape.kind in DATA_TYPES else (26, 25)
+        yield both([words[0] | 1 << bits[step % 2]] + words[1:], BITS, places["header"])
+        # One word below what is required, which the word of the body is of type 4 alone.
+        least = len(words) if shape.kind == 4 else len(words) - 1
+        yield both([(words[0] >> 16 << 16) + least - 1] + words[1:], SHORT, places["header"])
+        yield both(words[:-1], CUT, places["header"])
+        yield both(words[: 1 + step % (len(words) - 1)], CUT, places["header"])
+        if shape.c:
+            # Inside the class, whose first word is wrong too.
+            first = words[places["class"]] | 0xFF000000
+            yield both(words[: places["class"]] + [first], CUT, places["header"])
+
+
+def class_places(identifier):
+    """CLASS, every second time with TIME behind it.  Type 1 read as a survey packet has
+    PAD instead, at the same word."""
+    for step, shape in enumerate(some_shapes()):
+        if not shape.c:
+            continue
+        high = 0x00123456 | 1 << 24 + step % 8
+        late = step % 2 == 1
+        fraction = TERA if late else 1
+        words, places = laid(shape, identifier=identifier, high=high, fraction=fraction)
+        told = Told(CLASS, places["class"])
+        survey_told = told
+        if shape.kind == 1:
+            survey_told = Told(PAD, places["class"])
+            if late and shape.tsf == 2:
+                survey_told = Told(TIME, places["fraction"])
+        yield words, told, survey_told
+
+
+def time_places(identifier):
+    """TIME, every second time with a bad indicator behind it."""
+    edges = (TERA, TERA + 1, 1 << 63, (1 << 64) - 1)
+    for kind in TYPES:
+        for step, shape in enumerate(every_shape(kind)):
+            if shape.tsf != 2:
+                continue
+            fraction = edges[(step // 4 + kind) % 4]
+            body = [("body", [0x00000081])] if step // 4 % 2 else None
+            words, places = laid(shape, body, identifier, fraction=fraction)
+            yield both(words, TIME, places["fraction"])
+
+
+def indicator_places(identifier):
+    """INDICATOR, also with the faults of LAYOUT and FIELD behind it."""
+    for step, shape in enumerate(every_shape(4)):
+        rest = ([], [1, 2], [ONES])[step % 3]
+        indicator = 1 << step % 8 | (0, 1 << 30, 1 << 24)[step % 3]
+        words, places = laid(shape, [("body", [indicator, *rest])], identifier)
+        yield both(words, INDICATOR, places["body"])
+
+
+# Bodies whose fields need other words than they have, some with the fault of FIELD too.
+LAID_WRONG = (
+    [1 << 30], [1 << 30, 1, 2], [1 << 24, ONES, 0], [1 << 29, ONES], [0, 0], [1 << 9],
+    [1 << 9, ONES, 1], [1 << 8, 0], [1 << 8, ONES, 1], [3 << 8, 0, 1, 0, 0],
+)
+
+
+def layout_places(identifier):
+    for step, shape in enumerate(every_shape(4)):
+        body = LAID_WRONG[step % len(LAID_WRONG)]
+        words, places = laid(shape, [("body", body)], identifier)
+        yield both(words, LAYOUT, places["body"])
+
+
+# The nine fields that have a rule, and for each of them words that break it.
+RULED = (29, 24, 21, 18, 17, 16, 15, 9, 8)
+BREAKING = {
+    29: ([0x80000000, 0], [ONES, ONES]),
+    24: ([0x00010000], [0x8000FF80]),
+    21: ([0x80000000, 1], [ONES, ONES]),
+    18: ([0x00010000], [0xFFFFFFE0]),
+    17: ([0x01000000, 0], [0, 0x00010000], [0x00FFFFFF, 0x80000000], [ONES, ONES]),
+    16: ([0x00100000], [0x00000100]),
+    15: ([FORMAT | 0x1000, 0], [format_word(complexity=3), 0], [format_word(item=17), ONES]),
+    9: ([0x01000000, 0], [0x80000000, 2, 5, 6]),
+    8: ([0x02000000, 0], [0x00000200, 0], [0xFE01FE01, 0x00010000, 5, 6, 7]),
+}
+FIELD_SIZES = dict(FIXED)
+FIELD_BITS = (*FIELD_SIZES, 9, 8)
+
+
+def keeping(bit):
+    """The words of a field whose rule, if it has one, is kept."""
+    if bit == 9:
+        return [0x00ABCDEF, 2, 8, 9]
+    if bit == 8:
+        return lists_of(1, 0, 1) + [5, 6]
+    return plain(bit, FIELD_SIZES[bit])
+
+
+def fields_of(kept, broken, changed=0):
+    """The parts of a body: the indicator, then each field, named by its bit.  Kept has
+    bits, or the words of fields by their bits, as broken has."""
+    fields = dict(kept) if isinstance(kept, dict) else {bit: keeping(bit) for bit in kept}
+    fields.update(broken)
+    bits = sorted(fields, reverse=True)
+    indicator = changed << 31 | sum(1 << bit for bit in bits)
+    return [("body", [indicator]), *[(bit, fields[bit]) for bit in bits]]
+
+
+def text_of(n, first=0x00ABCDEF):
+    """Field 9 with n words of text."""
+    return [first, n, *counted(n, 0x24475047)]
+
+
+def broken_bodies():
+    """Fields that are kept and fields that are broken."""
+    numbers = Numbers(15)
+    for bit in RULED:
+        above = [other for other in FIELD_BITS if other > bit]
+        below = [other for other in FIELD_BITS if other < bit]
+        free = {other: [ONES] * FIELD_SIZES[other] for other in above if other not in RULED}
+        for words in BREAKING[bit]:
+            # Nothing above it, nothing or every field below.
+            yield (), {bit: words}
+            yield below, {bit: words}
+            # Every field above it.
+            yield above, {bit: words}
+            # Behind a few, without and with others below.
+            few = [other for other in above if numbers.below(4) == 0] or above[:1]
+            some = [other for other in below if numbers.below(4) == 0]
+            yield few, {bit: words}
+            yield few + some, {bit: words}
+        # Among all, and behind all those without a rule, which are all ones.
+        yield above + below, {bit: BREAKING[bit][-1]}
+        yield free, {bit: BREAKING[bit][0]}
+        # It and all below it.
+        yield above + below, {other: BREAKING[other][0] for other in RULED if other <= bit}
+        yield (), {other: BREAKING[other][-1] for other in RULED if other <= bit}
+        # Two of them.
+        for turn, other in enumerate(low for low in RULED if low < bit):
+            two = {bit: BREAKING[bit][turn % 2], other: BREAKING[other][turn % 2]}
+            yield (), two
+            if turn == 0:
+                yield FIELD_BITS, two
+    # Field 8 behind a text of many words, and the text broken itself.
+    for n in (0, 1, 3, 64, 1000):
+        yield {9: text_of(n)}, {8: [0x02000000, 0]}
+        yield {10: [ONES]}, {9: text_of(n, 1 << 24), 8: [0x02000000, 0]}
+    yield {9: text_of(40)}, {16: [0x00000800], 8: [1 << 9, 0]}
+
+
+def field_places(identifier):
+    """FIELD with each of these bodies, in every shape of prologue, which come in turn."""
+    shapes = list(every_shape(4))
+    for step, (kept, broken) in enumerate(broken_bodies()):
+        shape = shapes[step * 27 % 64]
+        words, places = laid(shape, fields_of(kept, broken, step % 2), identifier)
+        bit = max(broken)
+        yield both(words, FIELD, places[bit], bit)
+
+
+def pad_places(identifier):
+    """PAD in every shape of prologue that type 1 has, for each of its reasons."""
+    for step, shape in enumerate(every_shape(1)):
+        # Where class and trailer are there, the other reasons in turn.
+        turn = 2 + (step + step // 4) % 4
+        given = list(PAD_FAULTS.values())[turn] if shape.c and shape.flag else {}
+        body = given.get("body", [1, 2])
+        chosen = {name: given[name] for name in given if name in ("pad", "data", "low")}
+        high, low = survey_class(**chosen)
+        words, places = laid(shape, [("body", body)], identifier, high, low)
+        plainly = Told(CLASS, places["class"]) if shape.c and high >> 24 else None
+        yield words, plainly, Told(PAD, places["class"] if shape.c else places["header"])
+
+
+def placed(identifier=IDENTIFIER):
+    """Words, and what they are told, read plainly and as a survey packet, or None."""
+    yield from header_places(identifier)
+    yield from class_places(identifier)
+    yield from time_places(identifier)
+    yield from indicator_places(identifier)
+    yield from layout_places(identifier)
+    yield from field_places(identifier)
+    yield from pad_places(identifier)
+
+
+def place_cases():
+    for words, plainly, as_survey in placed():
+        for way, told in ((PLAIN, plainly), (SURVEY, as_survey)):
+            if told is not None:
+                case(words, told.number, way, (told.place, told.bit))
+
+
+def farthest_field():
+    """65,535 words, of which the last two are a field 8 that is broken."""
+    shape = Shape(4, 1, 1, 1, 1)
+    # Seven words of other parts, the indicator, 74 words of fields, and two of field 9.
+    text = text_of(65535 - 7 - 1 - 74 - 2 - 2)
+    kept = {**{bit: keeping(bit) for bit in FIELD_SIZES}, 9: text}
+    words, places = laid(shape, fields_of(kept, {8: [1 << 31, 0]}))
+    assert len(words) == 65535
+    case(words, FIELD, told=(places[8], 8))
+
+
+# The same by walking over the words.
+
+# For each field with a rule, the bits of its first and of its second word that are zero;
+# the format has more to its rule.
+ZERO_BITS = {
+    29: (0x80000000, 0), 24: (0xFFFF0000, 0), 21: (0x80000000, 0), 18: (0xFFFF0000, 0),
+    17: (0xFF000000, 0xFFFF0000), 16: (0x00F00F00, 0), 15: (0x0000F000, 0),
+    9: (0xFF000000, 0), 8: (0xFE00FE00, 0),
+}
+
+
+def breaks(bit, first, second):
+    """Whether a field with these first words breaks its rule."""
+    zero_first, zero_second = ZERO_BITS.get(bit, (0, 0))
+    if first & zero_first or second & zero_second:
+        return True
+    if bit != 15:
+        return False
+    code, item = first >> 24 & 31, (first & 63) + 1
+    if first >> 29 & 3 == 3 or 7 <= code <= 13 or code >= 23:
+        return True
+    if item != {14: 32, 15: 64}.get(code, item):
+        return True
+    return item + (first >> 20 & 7) + (first >> 16 & 15) > (first >> 6 & 63) + 1
+
+
+def walked_fields(words, at):
+    """The place and the bit of each broken field of a body at this place."""
+    found = []
+    indicator = words[at]
+    at += 1
+    for bit in FIELD_BITS:
+        if indicator >> bit & 1:
+            first, second = (words[at : at + 2] + [0])[:2]
+            if breaks(bit, first, second if FIELD_SIZES.get(bit, 2) > 1 else 0):
+                found.append((at, bit))
+            at += 2 + second if bit == 9 else FIELD_SIZES.get(bit, 0)
+    return found
+
+
+def walked(words, number):
+    """The place and the bit that a refusal has."""
+    if number in (EMPTY, TYPE, BITS, SHORT, CUT):
+        return 0, None
+    header, at = words[0], 1
+    if header >> 28 in (1, 3, 4, 5):
+        at += 1
+    if number == CLASS or number == PAD and header >> 27 & 1:
+        return at, None
+    if number == PAD:
+        return 0, None
+    if header >> 27 & 1:
+        at += 2
+    if header >> 22 & 3:
+        at += 1
+    if number == TIME:
+        return at, None
+    if header >> 20 & 3:
+        at += 2
+    return walked_fields(words, at)[0] if number == FIELD else (at, None)
+
+
+def seen_shape(words):
+    """The type of a packet, and whether it has a class, a trailer, seconds and a
+    fraction."""
+    header = words[0]
+    kind = header >> 28
+    trailer = header >> 26 & 1 if kind in DATA_TYPES else 0
+    return kind, header >> 27 & 1, trailer, int(header >> 22 & 3 > 0), int(header >> 20 & 3 > 0)
+
+
+def shapes_refused(number, as_survey):
+    """The shapes that a refusal of reading can have, as they are seen."""
+    flags = (0, 1)
+    found = [
+        (kind, c, t, i, f)
+        for kind in (range(6, 16) if number == TYPE else TYPES)
+        for c in flags
+        for t in (flags if kind in DATA_TYPES else (0,))
+        for i in flags
+        for f in flags
+    ]
+    if number == CLASS:
+        return [one for one in found if one[1] and not (as_survey and one[0] == 1)]
+    if number == TIME:
+        return [one for one in found if one[4]]
+    if number in (INDICATOR, LAYOUT, FIELD):
+        return [one for one in found if one[0] == 4]
+    if number == PAD:
+        return [one for one in found if one[0] == 1]
+    return found
+
+
+def note_place(seen, words, said):
+    """What a refusal covers, by its place."""
+    _, number, place, bit = said
+    if (place, bit) != walked(words, number):
+        sys.exit(f"{said} is not what walking finds in {words[:12]}")
+    seen.add((number, "place", place))
+    if not words:
+        return
+    shape = seen_shape(words)
+    kind, c, _, seconds, _ = shape
+    seen.add((number, *shape))
+    seen.add((number, "type", kind, "place", place))
+    seen.add((number, "class", c, "seconds", seconds))
+    start = 2 if kind in (1, 3, 4, 5) else 1
+    if number == CUT and c and len(words) == start + 1:
+        seen.add((CUT, "inside the class"))
+    if number != FIELD:
+        return
+    body = start + 2 * c + seconds + 2 * shape[4]
+    carried = [one for one in FIELD_BITS if words[body] >> one & 1]
+    above = [one for one in carried if one > bit]
+    every = [one for one in FIELD_BITS if one > bit]
+    how = "nothing" if not above else "all" if above == every else "some"
+    seen.add((FIELD, bit, f"{how} above"))
+    broken = [one for _, one in walked_fields(words, body)]
+    seen.add((FIELD, "broken", *broken))
+    if bit == 17 and not breaks(17, words[place], 0):
+        seen.add((FIELD, 17, "in its second word", "alone" if len(carried) == 1 else "behind"))
+    if bit == 8 and 9 in carried and place - body > 1000:
+        seen.add((FIELD, 8, "behind a long field 9"))
+
+
+def places_wanted(numbers, as_survey):
+    """The edges of C-15 that have to be there."""
+    wanted = []
+    for number in numbers:
+        if number == EMPTY:
+            wanted.append((EMPTY, "place", 0))
+        else:
+            wanted += [(number, *shape) for shape in shapes_refused(number, as_survey)]
+    wanted += [(CLASS, "type", kind, "place", 1) for kind in (0, 2)]
+    wanted += [(CLASS, "type", kind, "place", 2) for kind in (3, 4, 5)]
+    wanted += [(TIME, "type", kind, "place", 1 + n) for kind in (0, 2) for n in range(4)]
+    wanted += [(TIME, "type", kind, "place", 2 + n) for kind in (1, 3, 4, 5) for n in range(4)]
+    wanted += [(TIME, "class", c, "seconds", i) for c in (0, 1) for i in (0, 1)]
+    wanted += [(number, "place", 2 + n) for number in (INDICATOR, LAYOUT) for n in range(6)]
+    wanted.append((CUT, "inside the class"))
+    if PAD in numbers:
+        wanted += [(PAD, "place", 0), (PAD, "place", 2)]
+    for bit in RULED:
+        wanted += [(FIELD, bit, "nothing above"), (FIELD, bit, "all above")]
+        wanted += [(FIELD, bit, "some above")] if bit != 29 else []
+        wanted.append((FIELD, "broken", bit))
+        wanted += [(FIELD, "broken", bit, other) for other in RULED if other < bit]
+        wanted.append((FIELD, "broken", *[other for other in RULED if other <= bit]))
+    wanted += [(FIELD, 17, "in its second word", how) for how in ("alone", "behind")]
+    wanted.append((FIELD, 8, "behind a long field 9"))
+    return wanted
+
+
+def check_places(answers):
+    """The places of all refusals, read both ways."""
+    for way, numbers in NUMBERS.items():
+        seen = set()
+        for one, words, said in answers:
+            if one == way and said[0] == "refused":
+                note_place(seen, words, said)
+        wanted = places_wanted(numbers, way == SURVEY)
+        if way == PLAIN:
+            # No FIELD is farther back, as field 8 has two words at least.
+            wanted.append((FIELD, "place", 65533))
+            wanted.append((CLASS, "type", 1, "place", 2))
+        for edge in wanted:
+            if edge not in seen:
+                sys.exit(f"no case, asked {way}, at the edge {edge}")
+
+
 # The two files.
+
+
+def refusal_text(said):
+    """A refusal as it stands in a line: its number, its place where it has one, and the
+    bit of FIELD."""
+    _, number, place, bit = said
+    text = f"refused {number}"
+    if place is not None:
+        text += f" place {place}"
+    return text if bit is None else text + f" bit {bit}"
 
 
 def survey_line(s):
@@ -1298,20 +1753,18 @@ def packet_lines(start, p, s=None):
 
 
 def read(way, words):
-    """('refused', number) or ('accepted', packet, survey), which is None where the
-    packet is read plainly."""
-    if way == PLAIN:
-        answer, given = vrt49.read(words)
-        return (answer, given) if answer == "refused" else (answer, given, None)
-    answer, given = vrt49.read_survey(words)
-    return (answer, given) if answer == "refused" else (answer, *given)
+    """('refused', number, place, bit) or ('accepted', packet, survey), which is None
+    where the packet is read plainly."""
+    said = vrt49.read(words) if way == PLAIN else vrt49.read_survey(words)
+    if said[0] == "refused":
+        return said
+    return ("accepted", said[1], None) if way == PLAIN else ("accepted", *said[1])
 
 
-def lines(k, way, words):
-    given = read(way, words)
-    if given[0] == "refused":
-        return [f"{k} refused {given[1]}"]
-    _, p, s = given
+def lines(k, said, words):
+    if said[0] == "refused":
+        return [f"{k} {refusal_text(said)}"]
+    _, p, s = said
     found = packet_lines(f"{k} ", p, s)
     if p.type == 4:
         for bit, place, n in vrt49.fields(words[p.body : p.body + p.length]):
@@ -1358,6 +1811,8 @@ def build():
     other_types()
     largest_survey()
     random_surveys()
+    place_cases()
+    farthest_field()
 
 
 # The refusals of each way to read.
@@ -1371,15 +1826,19 @@ def main():
     given = bytearray()
     expected = []
     tally = {}
-    for k, (way, words, answer) in enumerate(cases):
+    answers = []
+    for k, (way, words, answer, told) in enumerate(cases):
         said = read(way, words)
         number = said[1] if said[0] == "refused" else ACCEPTED
         if answer is not None and number != answer:
             sys.exit(f"case {k} is built for {answer}, the reference says {number}")
+        if told is not None and said[2:] != told:
+            sys.exit(f"case {k} is built for the place {told}, the reference says {said[2:]}")
         tally[way, number] = tally.get((way, number), 0) + 1
+        answers.append((way, words, said))
         for word in [way, len(words), *words]:
             given += word.to_bytes(4, "big")
-        expected += lines(k, way, words)
+        expected += lines(k, said, words)
     for way, numbers in NUMBERS.items():
         for number in numbers:
             if tally.get((way, number), 0) < 10:
@@ -1387,8 +1846,9 @@ def main():
         if sum(n for (other, _), n in tally.items() if other == way) < 450:
             sys.exit(f"fewer than 450 cases are asked {way}")
     check_survey()
-    if len(given) > 1_000_000:
-        sys.exit(f"the input has {len(given)} bytes, more than 1,000,000")
+    check_places(answers)
+    if len(given) > 1_350_000:
+        sys.exit(f"the input has {len(given)} bytes, more than 1,350,000")
     with open(sys.argv[1], "wb") as file:
         file.write(given)
     with open(sys.argv[2], "w", encoding="ascii", newline="\n") as file:

@@ -3,9 +3,10 @@
     python3 tools/reference/recordings.py FOLDER
 
 README.md gives the form of the files.  Each packet of a recording says what it is
-meant to be answered: the number of a refusal, or type, stream and missing of one
-that is played.  The lines are put together from that, and held against those of
-vrtplay.py; where they differ the program ends without writing.
+meant to be answered: the number of a refusal, or its place too, or type, stream and
+missing of one that is played.  The lines are put together from that, the places by
+walking over the words, and held against those of vrtplay.py; where they differ the
+program ends without writing.
 """
 
 import os
@@ -19,14 +20,14 @@ from play_vectors import (
     short_packet,
 )
 from read_vectors import (
-    FIXED, FIXED_BITS, FORMAT, ONES, TERA, Numbers, all_fixed, context, counted, format_word,
-    lists_of, packet,
+    FIXED, FIXED_BITS, FORMAT, ONES, TERA, Numbers, Told, all_fixed, context, counted,
+    format_word, lists_of, packet, walked,
 )
 from table import LIST, STREAM
 from vrt49 import BITS, CLASS, CUT, FIELD, INDICATOR, LAYOUT, SHORT, TIME, TYPE
 
 MOST_BYTES = 65536
-MOST_FOLDER = 700 * 1024
+MOST_FOLDER = 740 * 1024
 
 # The name, the bytes and the lines of each recording.
 recordings = []
@@ -41,6 +42,13 @@ def raw(name, data, lines):
     recordings.append((name, bytes(data), lines))
 
 
+def place_in(words, number):
+    """The place of a refusal in its packet."""
+    if number == STREAM:
+        return 1 if words[0] >> 28 in COUNTED else 0
+    return walked(words, number)[0]
+
+
 def recording(name, ids, steps, tail=b""):
     """A list, then packets with what each is meant to be answered, then bytes that
     make no word."""
@@ -51,8 +59,10 @@ def recording(name, ids, steps, tail=b""):
         place = len(words)
         if ended is None:
             if isinstance(meant, int):
-                lines.append(f"at {place} refused {meant}")
-                if meant != STREAM:
+                meant = Told(meant, place_in(packet_words, meant))
+            if isinstance(meant, Told):
+                lines.append(f"at {place} refused {meant.number} place {meant.place}")
+                if meant.number != STREAM:
                     ended = place
             else:
                 kind, stream, missing = meant
@@ -336,6 +346,32 @@ def refusals():
     recording("just_within", [7], steps)
 
 
+def places():
+    """Refusals that go on, then one of a field: temperature, device and text are broken,
+    and the first of them is told.  The places are counted by hand."""
+    given = dict(c=1, tsi=1, tsf=2)
+    temperature, device, text = [0x00010000], [0, 0x00010000], [1 << 24, 1, 0x24475047]
+    steps = [
+        (context(1 << 24, [0xFF80], identifier=7, **given), (4, 0, 0)),
+        # Types 0 and 2 have no identifier, whatever stands at word 1.
+        (packet(0, [7, 7]), Told(STREAM, 0)),
+        (packet(2, [7], t=1, **given), Told(STREAM, 0)),
+        (packet(1, [7, 7], identifier=9, t=1, **given), Told(STREAM, 1)),
+        (context(0, identifier=9, **given), Told(STREAM, 1)),
+        (short_packet(3, 7, 0), (3, 0, 0)),
+        # Header, identifier, class, seconds, fraction, indicator, bandwidth, gain: word 11.
+        (
+            context(
+                1 << 29 | 1 << 23 | 1 << 18 | 1 << 17 | 1 << 9,
+                [0, 5, 0x01000080, *temperature, *device, *text],
+                identifier=7, count=1, **given,
+            ),
+            Told(FIELD, 11),
+        ),
+    ]
+    recording("places", [7], steps + REST)
+
+
 def cuts():
     """The last packet is not whole."""
     last = packet(1, counted(5), t=1, identifier=7, count=0)
@@ -409,8 +445,8 @@ def most_bytes():
     words = [1, 7] + packet(1, [0] * 15998, identifier=7)
     place = len(words)
     words += packet(1, counted(full - place - 1), identifier=7, count=1)
-    lines = ["at 2 type 1 stream 0 missing 0", f"at {place} refused {CUT}", f"end {place} tail 0"]
-    raw("cut_at_the_limit", to_bytes(words), lines)
+    lines = ["at 2 type 1 stream 0 missing 0", f"at {place} refused {CUT} place 0"]
+    raw("cut_at_the_limit", to_bytes(words), lines + [f"end {place} tail 0"])
     # One byte fewer than are read.
     data = to_bytes([1, 7] + packet(1, [0] * (full - 5), identifier=7)) + b"\0\0\0"
     raw("a_byte_fewer", data, ["at 2 type 1 stream 0 missing 0", f"end {full - 1} tail 3"])
@@ -460,6 +496,7 @@ def build():
     states()
     stream_refusals()
     refusals()
+    places()
     cuts()
     lists()
     most_bytes()
@@ -482,7 +519,12 @@ def check():
         for line in lines:
             parts = line.split()
             if parts[2] == "refused":
-                seen.add(("refused", int(parts[3])))
+                number = int(parts[3])
+                seen.add(("refused", number))
+                place = int(parts[5]) if parts[4:5] == ["place"] else None
+                fail(number != LIST and place is None, f"{name}: no place in {line}")
+                fail(number == LIST and len(parts) != 4, f"{name}: a place in {line}")
+                seen.add(("place", number, place))
             elif parts[2] == "type":
                 seen.add(("type", int(parts[3])))
                 seen.add(("stream", int(parts[5])))
@@ -491,6 +533,8 @@ def check():
                 seen.add(("tail", int(parts[3])))
                 seen.add(("last", lines[-2].split()[2] if len(lines) > 1 else "none"))
     wanted = {("refused", number) for number in range(2, 13)}
+    wanted |= {("place", STREAM, 0), ("place", STREAM, 1), ("place", FIELD, 11)}
+    wanted |= {("place", CLASS, 1), ("place", CLASS, 2), ("place", LIST, None)}
     wanted |= {("type", kind) for kind in COUNTED}
     wanted |= {("stream", stream) for stream in range(32)}
     wanted |= {("missing", missing) for missing in range(16)}

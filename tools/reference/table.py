@@ -1,10 +1,11 @@
 """A reference table of streams: it starts, plays packets and is well made or not.
 
 It is written from document 01, from C-11 of document 02, which corrects it on
-fields 16 and 22, from C-13, which has a choice for each stream, and from nothing else.
-Reading a packet, its fields and the field rules are those of vrt49.py.  Words are
-whole numbers from 0 to 2^32 - 1 in a list; the sentences in quotation marks are
-document 01's own, or C-11's or C-13's where they are named.
+fields 16 and 22, from C-13, which has a choice for each stream, from C-15, which has a
+place for each refusal, and from nothing else.  Reading a packet, its fields and the
+field rules are those of vrt49.py.  Words are whole numbers from 0 to 2^32 - 1 in a list;
+the sentences in quotation marks are document 01's own, or those of C-11, C-13 or C-15
+where they are named.
 
 A table is a list of dictionaries, one for each stream in the order of the list:
 
@@ -165,8 +166,11 @@ def read(table, words):
     """The answer of reading, by the choice of the packet's stream."""
     if choice_of(table, words) == 0:
         return vrt49.read(words)
-    answer, found = vrt49.read_survey(words)
-    return (answer, found) if answer == "refused" else (answer, found[0])
+    answer = vrt49.read_survey(words)
+    if answer[0] == "refused":
+        return answer
+    packet, _ = answer[1]
+    return ("accepted", packet)
 
 
 def stream_of(table, packet):
@@ -181,6 +185,13 @@ def stream_of(table, packet):
     return None
 
 
+def stream_place(header):
+    # C-15: "the identifier, or the header if none, for STREAM"
+    if vrt49.identifier_words(header) == 0:
+        return 0
+    return vrt49.identifier_place(header)
+
+
 def missing_added(count, number):
     """What a packet with this number adds to the missing of its count."""
     # "The first packet adds nothing to missing; later ones add (count - last -
@@ -191,16 +202,18 @@ def missing_added(count, number):
 
 
 def play(table, words):
-    """('refused', number) or ('played', size, type, stream, missing added).  A
-    packet that is played changes the table."""
+    """('refused', number, place, bit) or ('played', size, type, stream, missing added).
+    The bit is None but for FIELD.  A packet that is played changes the table."""
     # "Play: TABLE, read order, STREAM."  These dictionaries are those of a
     # well-made table.
-    answer, packet = read(table, words)
-    if answer == "refused":
-        return ("refused", packet)
+    answer = read(table, words)
+    if answer[0] == "refused":
+        # C-15: "Play passes it on"
+        return answer
+    packet = answer[1]
     place = stream_of(table, packet)
     if place is None:
-        return ("refused", STREAM)
+        return ("refused", STREAM, stream_place(words[0]), None)
     stream = table[place]
     # "Each has seen and missing, both kept modulo 2^32, and the last count."
     count = stream["counts"][packet.type]
@@ -431,9 +444,9 @@ def start_lent(ids, choices, lent):
 
 def play_lent(lent, words):
     """The answer of play, and the lent table afterwards."""
-    # "Play: TABLE, read order, STREAM."
+    # "Play: TABLE, read order, STREAM."  C-15: "TABLE none", no place.
     if not well_made(lent):
-        return ("refused", TABLE), list(lent)
+        return ("refused", TABLE, None, None), list(lent)
     table = table_of(lent)
     answer = play(table, words)
     if answer[0] == "refused":

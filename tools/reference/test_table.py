@@ -1,8 +1,8 @@
 """Document 01's "Samples from the bench" that concern the table, and its
 sentences on starting, playing and what is well made, held against the reference; and
-the sentences of C-11 of document 02 on the state word and field 22, and of C-13 on the
-choice of each stream.  The expectations are document 01's own, or worked out on paper
-from those of C-11 and C-13."""
+the sentences of C-11 of document 02 on the state word and field 22, of C-13 on the
+choice of each stream, and of C-15 on places.  The expectations are document 01's own, or
+worked out on paper from those of C-11, C-13 and C-15."""
 
 import copy
 import unittest
@@ -301,7 +301,7 @@ class State(unittest.TestCase):
         table.play(found, context(0, 1 << 16, [VALID], identifier=8))
         # Refused: a reserved bit is set.
         answer = table.play(found, context(3, 1 << 16, [VALID | 1 << 20]))
-        self.assertEqual(answer, ("refused", vrt49.FIELD))
+        self.assertEqual(answer, ("refused", vrt49.FIELD, 3, 16))
         self.assertEqual(found[0]["held"], {16: [LOCK | 0x33], 30: [5]})
         self.assertEqual(found[1]["held"], {16: [VALID]})
 
@@ -320,9 +320,9 @@ class OverRangeCount(unittest.TestCase):
         found = started(7)
         for words in ([], [1, 2]):
             answer = table.play(found, context(0, 1 << 22, words))
-            self.assertEqual(answer, ("refused", vrt49.LAYOUT))
+            self.assertEqual(answer, ("refused", vrt49.LAYOUT, 2, None))
         answer = table.play(found, context(0, 1 << 22 | 1 << 18, [5, 0x10000]))
-        self.assertEqual(answer, ("refused", vrt49.FIELD))
+        self.assertEqual(answer, ("refused", vrt49.FIELD, 4, 18))
 
     def test_fields_behind(self):
         # Their words are those after its own.
@@ -343,31 +343,67 @@ class OverRangeCount(unittest.TestCase):
 
 
 class Refusals(unittest.TestCase):
-    # "A refusal returns its number alone and writes nothing."
+    # "A refusal ... writes nothing."  C-15: "Play passes it on", the place.
 
-    def refused(self, words, number):
+    def refused(self, words, number, place, bit=None):
         found = started(7, 0)
         table.play(found, data(3))
         before = copy.deepcopy(found)
-        self.assertEqual(table.play(found, words), ("refused", number))
+        self.assertEqual(table.play(found, words), ("refused", number, place, bit))
         self.assertEqual(found, before)
 
     def test_stream(self):
-        # "no identifier (types 0, 2), one not declared"
-        self.refused(data(4, kind=0), table.STREAM)
-        self.refused(data(4, kind=2), table.STREAM)
-        self.refused(data(4, 8), table.STREAM)
+        # "no identifier (types 0, 2), one not declared"; C-15: "the identifier, or the
+        # header if none, for STREAM"
+        self.refused(data(4, kind=0), table.STREAM, 0)
+        self.refused(data(4, kind=2), table.STREAM, 0)
+        self.refused(data(4, 8), table.STREAM, 1)
+        for kind in (3, 5):
+            self.refused(data(4, 8, kind), table.STREAM, 1)
+        self.refused(context(4, 1 << 30, [5], 8), table.STREAM, 1)
+        # With a class and a time behind the header, or behind the identifier.
+        self.refused([0x08500006, 7, 7, 7, 7, 7], table.STREAM, 0)
+        self.refused([0x2C500007, 7, 7, 7, 7, 7, 7], table.STREAM, 0)
+        self.refused([0x1C500008, 8, 7, 7, 7, 7, 7, 7], table.STREAM, 1)
 
     def test_read_order_before_stream(self):
-        self.refused([], vrt49.EMPTY)
-        self.refused(context(4, 1 << 24, [ONES], 8), vrt49.FIELD)
-        self.refused(context(4, 1 << 30 | 1 << 24, [5, ONES]), vrt49.FIELD)
+        self.refused([], vrt49.EMPTY, 0)
+        self.refused(context(4, 1 << 24, [ONES], 8), vrt49.FIELD, 3, 24)
+        self.refused(context(4, 1 << 30 | 1 << 24, [5, ONES]), vrt49.FIELD, 4, 24)
+
+    def test_places(self):
+        self.refused([0x70000002, 7], vrt49.TYPE, 0)
+        self.refused([0x11000002, 7], vrt49.BITS, 0)
+        self.refused([0x10000001, 7], vrt49.SHORT, 0)
+        self.refused([0x10000003, 7], vrt49.CUT, 0)
+        self.refused([0x18000004, 7, 1 << 24, 0], vrt49.CLASS, 2)
+        self.refused([0x08000003, 1 << 24, 0], vrt49.CLASS, 1)
+        self.refused([0x10600005, 7, 0, 0xE8, 0xD4A51000], vrt49.TIME, 3)
+        self.refused([0x40400004, 7, 0, 1], vrt49.INDICATOR, 3)
+        self.refused([0x48000005, 7, 0, 0, 1 << 30], vrt49.LAYOUT, 4)
+        self.refused([0x48000007, 7, 0, 0, 1 << 17, 0, 1 << 16], vrt49.FIELD, 5, 17)
 
     def test_table_first(self):
+        # C-15: "TABLE none"
         lent = table.layout(started(7)) + [PATTERN]
         lent[5] = 17
-        for words in ([], data(4), data(4, 8)):
-            self.assertEqual(table.play_lent(lent, words), (("refused", table.TABLE), lent))
+        for words in ([], data(4), data(4, 8), context(0, 1 << 24, [ONES])):
+            refused = ("refused", table.TABLE, None, None)
+            self.assertEqual(table.play_lent(lent, words), (refused, lent))
+
+    def test_lent(self):
+        lent = table.layout(started(7)) + [PATTERN]
+        for words, refused in (
+            (data(4, 8), ("refused", table.STREAM, 1, None)),
+            (data(4, kind=0), ("refused", table.STREAM, 0, None)),
+            (context(0, 1 << 30 | 1 << 24, [5, ONES]), ("refused", vrt49.FIELD, 4, 24)),
+        ):
+            self.assertEqual(table.play_lent(lent, words), (refused, lent))
+
+    def test_start(self):
+        # Starting has no places.
+        self.assertEqual(table.start([], [], 90), ("refused", table.LIST))
+        self.assertEqual(table.start_lent([7], [0], []), (("refused", table.ROOM), []))
 
 
 class Choice(unittest.TestCase):
@@ -389,25 +425,28 @@ class Choice(unittest.TestCase):
                 if choices[place]:
                     self.assertEqual(padded, ("played", 6, 1, place, 0))
                     self.assertEqual(bare, ("played", 6, 1, place, 0))
-                    self.assertEqual(plain, ("refused", vrt49.PAD))
+                    self.assertEqual(plain, ("refused", vrt49.PAD, 0, None))
                 else:
-                    self.assertEqual(padded, ("refused", vrt49.CLASS))
+                    self.assertEqual(padded, ("refused", vrt49.CLASS, 2, None))
                     self.assertEqual(bare, ("played", 6, 1, place, 0))
                     self.assertEqual(plain, ("played", 2, 1, place, 0))
 
     def test_not_declared(self):
         for choice in (0, 1):
             found = started(7, choices=[choice])
-            self.assertEqual(table.play(found, self.packet(9)), ("refused", table.STREAM))
-            self.assertEqual(table.play(found, self.packet(9, 3)), ("refused", vrt49.CLASS))
-            self.assertEqual(table.play(found, data(0, 9)), ("refused", table.STREAM))
+            stream = ("refused", table.STREAM, 1, None)
+            padded = ("refused", vrt49.CLASS, 2, None)
+            self.assertEqual(table.play(found, self.packet(9)), stream)
+            self.assertEqual(table.play(found, self.packet(9, 3)), padded)
+            self.assertEqual(table.play(found, data(0, 9)), stream)
             self.assertEqual(found, started(7, choices=[choice]))
 
     def test_other_types(self):
         for choice in (0, 1):
             found = started(7, choices=[choice])
             self.assertEqual(table.play(found, self.packet(7, 0, 3)), ("played", 6, 3, 0, 0))
-            self.assertEqual(table.play(found, self.packet(7, 3, 3)), ("refused", vrt49.CLASS))
+            padded = ("refused", vrt49.CLASS, 2, None)
+            self.assertEqual(table.play(found, self.packet(7, 3, 3)), padded)
             self.assertEqual(table.play(found, data(1, kind=3)), ("played", 2, 3, 0, 0))
             self.assertEqual(table.play(found, data(1, kind=5)), ("played", 2, 5, 0, 0))
             self.assertEqual(table.play(found, context(0, 1 << 30, [5])), ("played", 4, 4, 0, 0))
@@ -423,9 +462,17 @@ class Choice(unittest.TestCase):
     def test_few_words(self):
         # No word 1, or none at all.
         found = started(7, choices=[1])
-        self.assertEqual(table.play(found, []), ("refused", vrt49.EMPTY))
-        self.assertEqual(table.play(found, [0x1C000005]), ("refused", vrt49.CUT))
-        self.assertEqual(table.play(found, [0x10000001]), ("refused", vrt49.SHORT))
+        self.assertEqual(table.play(found, []), ("refused", vrt49.EMPTY, 0, None))
+        self.assertEqual(table.play(found, [0x1C000005]), ("refused", vrt49.CUT, 0, None))
+        self.assertEqual(table.play(found, [0x10000001]), ("refused", vrt49.SHORT, 0, None))
+
+    def test_pad(self):
+        # C-15: "the class's first word, or the header if none, for PAD"
+        found = started(7, choices=[1])
+        pad = self.packet(7)
+        pad[3] = 0
+        for words, place in ((pad, 2), ([0x18000004, *pad[1:4]], 2), ([0x14000003, 7, 0], 0)):
+            self.assertEqual(table.play(found, words), ("refused", vrt49.PAD, place, None))
 
 
 class WellMade(unittest.TestCase):

@@ -1,5 +1,6 @@
-"""Document 01's "Samples from the bench" that concern reading, and C-13's sentences on
-spectrum-survey packets, held against the reference.  The expectations are theirs."""
+"""Document 01's "Samples from the bench" that concern reading, C-13's sentences on
+spectrum-survey packets, and C-15's on places, held against the reference.  The
+expectations are theirs, or worked out on paper from those of C-15."""
 
 import unittest
 
@@ -45,12 +46,10 @@ class ContextHeader(unittest.TestCase):
         self.assertEqual(sum(count for _, _, count in found), 5)
 
     def test_one_field_word_fewer_or_more(self):
-        self.assertEqual(
-            vrt49.read([0x4065000A] + self.WORDS[1:]), ("refused", vrt49.LAYOUT)
-        )
-        self.assertEqual(
-            vrt49.read([0x4065000C] + self.WORDS[1:] + [0]), ("refused", vrt49.LAYOUT)
-        )
+        # C-15: "the indicator for LAYOUT", which is word 5.
+        refused = ("refused", vrt49.LAYOUT, 5, None)
+        self.assertEqual(vrt49.read([0x4065000A] + self.WORDS[1:]), refused)
+        self.assertEqual(vrt49.read([0x4065000C] + self.WORDS[1:] + [0]), refused)
 
 
 class DataHeader(unittest.TestCase):
@@ -69,11 +68,11 @@ class DataHeader(unittest.TestCase):
         self.assertEqual(packet.trailer, 0)
 
     def test_given_4_words(self):
-        self.assertEqual(vrt49.read(self.WORDS[:4]), ("refused", vrt49.CUT))
+        self.assertEqual(vrt49.read(self.WORDS[:4]), ("refused", vrt49.CUT, 0, None))
 
     def test_size_2(self):
         self.assertEqual(
-            vrt49.read([0x140F0002] + self.WORDS[1:]), ("refused", vrt49.SHORT)
+            vrt49.read([0x140F0002] + self.WORDS[1:]), ("refused", vrt49.SHORT, 0, None)
         )
 
     def test_size_3(self):
@@ -84,7 +83,7 @@ class DataHeader(unittest.TestCase):
 
     def test_size_0(self):
         self.assertEqual(
-            vrt49.read([0x140F0000] + self.WORDS[1:]), ("refused", vrt49.SHORT)
+            vrt49.read([0x140F0000] + self.WORDS[1:]), ("refused", vrt49.SHORT, 0, None)
         )
 
 
@@ -102,7 +101,7 @@ class Fraction(unittest.TestCase):
         self.assertEqual(packet.fraction, 999_999_999_999)
 
     def test_whole_second(self):
-        self.assertEqual(self.at(2, 10**12), ("refused", vrt49.TIME))
+        self.assertEqual(self.at(2, 10**12), ("refused", vrt49.TIME, 2, None))
 
     def test_whole_second_of_samples(self):
         answer, packet = self.at(1, 10**12)
@@ -146,7 +145,7 @@ class ByHand(unittest.TestCase):
         self.assertEqual(
             vrt49.read(self.COMPLEX), ("accepted", vrt49.read_survey(self.COMPLEX)[1][0])
         )
-        self.assertEqual(vrt49.read(self.VECTOR), ("refused", vrt49.CLASS))
+        self.assertEqual(vrt49.read(self.VECTOR), ("refused", vrt49.CLASS, 2, None))
 
     def test_unpacked(self):
         for words in (self.COMPLEX, self.VECTOR):
@@ -177,7 +176,7 @@ class SurveyTable(unittest.TestCase):
     # Complex Cartesian", "19-16 Data Type 0x1 - 0xD", "15-0 Vector Size".
 
     def refused(self, **given):
-        self.assertEqual(vrt49.read_survey(survey(**given)), ("refused", PAD))
+        self.assertEqual(vrt49.read_survey(survey(**given)), ("refused", PAD, 2, None))
 
     def test_each_bit(self):
         for bit in range(27):
@@ -195,7 +194,7 @@ class SurveyTable(unittest.TestCase):
             answer = vrt49.read_survey(survey(low=low << 16, body=[1, 2, 3, 4]))
             self.assertEqual(answer[0] == "accepted", right, low)
             if not right:
-                self.assertEqual(answer, ("refused", PAD))
+                self.assertEqual(answer, ("refused", PAD, 2, None))
 
     def test_types(self):
         # Table 4-5, left column and right column.
@@ -230,17 +229,18 @@ class SurveyParts(unittest.TestCase):
     # "20 PAD, after FIELD, when class or trailer is absent"
 
     def test_absent(self):
-        for header in (0x10000000, 0x14000000, 0x18000000):
+        # C-15: "the class's first word, or the header if none, for PAD"
+        for header, place in ((0x10000000, 0), (0x14000000, 0), (0x18000000, 2)):
             words = survey(header=header)
-            self.assertEqual(vrt49.read_survey(words), ("refused", PAD))
+            self.assertEqual(vrt49.read_survey(words), ("refused", PAD, place, None))
             self.assertEqual(vrt49.read(words)[0], "accepted")
 
     def test_earlier_refusals(self):
         words = survey(low=0, header=0x1C200000, body=[0xE8, 0xD4A51000, 1])
-        self.assertEqual(vrt49.read_survey(words), ("refused", vrt49.TIME))
-        self.assertEqual(vrt49.read_survey(words[:-1]), ("refused", vrt49.CUT))
+        self.assertEqual(vrt49.read_survey(words), ("refused", vrt49.TIME, 4, None))
+        self.assertEqual(vrt49.read_survey(words[:-1]), ("refused", vrt49.CUT, 0, None))
         words[0] -= 5
-        self.assertEqual(vrt49.read_survey(words), ("refused", vrt49.SHORT))
+        self.assertEqual(vrt49.read_survey(words), ("refused", vrt49.SHORT, 0, None))
 
     def test_other_types(self):
         # "The choice governs type 1 only"
@@ -251,12 +251,14 @@ class SurveyParts(unittest.TestCase):
                 words = [kind << 28 | (8 + trailer) << 24] + identifier + [high, 0x00080000, 0]
                 words += [0] * (trailer // 4)
                 words[0] += len(words)
-                answer, what = vrt49.read_survey(words)
+                answer = vrt49.read_survey(words)
                 if high >> 24:
-                    self.assertEqual((answer, what), ("refused", vrt49.CLASS))
+                    place = 1 + len(identifier)
+                    self.assertEqual(answer, ("refused", vrt49.CLASS, place, None))
+                    self.assertEqual(vrt49.read(words), answer)
                 else:
-                    self.assertEqual((answer, what[0]), vrt49.read(words))
-                    self.assertEqual(what[1], (0, 0, 0, 0))
+                    self.assertEqual((answer[0], answer[1][0]), vrt49.read(words))
+                    self.assertEqual(answer[1][1], (0, 0, 0, 0))
 
 
 class SurveyItems(unittest.TestCase):
@@ -310,6 +312,147 @@ class SurveyItems(unittest.TestCase):
         words = survey(body=[0] * 65530)
         self.assertEqual(len(words), 65535)
         self.assertEqual(vrt49.read_survey(words)[1][1].items, 2_096_960)
+
+
+class Places(unittest.TestCase):
+    # C-15: "Every reading refusal is to carry the word place from the packet's start, and
+    # FIELD also the field bit."
+
+    def refused(self, words, number, place, bit=None):
+        """Read both ways, as none of these is a survey packet but by its type."""
+        self.assertEqual(vrt49.read(words), ("refused", number, place, bit))
+        self.assertEqual(vrt49.read_survey(words), ("refused", number, place, bit))
+
+    def test_header(self):
+        # "The place is the header for types, bits, sizes and cuts"; "EMPTY has place 0"
+        self.refused([], vrt49.EMPTY, 0)
+        self.refused([0x68F00003, 7, 0], vrt49.TYPE, 0)
+        self.refused([0x12000003, 7, 0], vrt49.BITS, 0)
+        self.refused([0x4A500008, 7, 0, 0, 0, 0, 0, 0], vrt49.BITS, 0)
+        self.refused([0x48500007, 7, 0, 0, 0, 0, 0, 0], vrt49.SHORT, 0)
+        self.refused([0x00000000], vrt49.SHORT, 0)
+        self.refused([0x00000002], vrt49.CUT, 0)
+        # Inside the class, with the identifier alone, and with a class that is wrong.
+        self.refused([0x18000005, 7, 0], vrt49.CUT, 0)
+        self.refused([0x18000005, 7], vrt49.CUT, 0)
+        self.refused([0x38000005, 7, 0xFFFFFFFF, 0], vrt49.CUT, 0)
+
+    def test_class(self):
+        # "the offending word for CLASS": word 1 without an identifier, else word 2
+        for kind, place in ((0, 1), (2, 1), (3, 2), (4, 2), (5, 2)):
+            words = [kind << 28 | 0x08500000, 7, 7, 7, 7, 7, 7, 0, 0]
+            words[place] = 0x01000000
+            words[0] += len(words)
+            self.refused(words, vrt49.CLASS, place)
+        words = [0x18000005, 7, 0x80123456, 0, 0]
+        self.assertEqual(vrt49.read(words), ("refused", vrt49.CLASS, 2, None))
+        self.assertEqual(vrt49.read_survey(words), ("refused", PAD, 2, None))
+
+    def test_time(self):
+        # "the fraction's first word for TIME": behind the identifier, the two words of the
+        # class and the word of the seconds, as they are there
+        late = [0xE8, 0xD4A51000]
+        self.refused([0x00200003, *late], vrt49.TIME, 1)
+        self.refused([0x00600004, 0, *late], vrt49.TIME, 2)
+        self.refused([0x08200005, 0, 0, *late], vrt49.TIME, 3)
+        self.refused([0x08600006, 0, 0, 0, *late], vrt49.TIME, 4)
+        self.refused([0x10200004, 7, *late], vrt49.TIME, 2)
+        self.refused([0x30E00005, 7, 0, *late], vrt49.TIME, 3)
+        self.refused([0x58200006, 7, 0, 0, *late], vrt49.TIME, 4)
+        self.refused([0x1C600008, 7, 0, 0, 0, *late, 0], vrt49.TIME, 5)
+
+    # What stands before the body of a type 4 packet, without the size, and the words of it.
+    PROLOGUES = (
+        (0x40000000, 2), (0x40400000, 3), (0x40100000, 4), (0x40F00000, 5), (0x48000000, 4),
+        (0x49800000, 5), (0x48300000, 6), (0x49500000, 7),
+    )
+
+    def body(self, header, place, *body):
+        words = [header, 7, 0, 0, 0, 0, 0][:place] + list(body)
+        return [header + len(words)] + words[1:]
+
+    def test_indicator_and_layout(self):
+        # "the offending word for ... INDICATOR", "the indicator for LAYOUT"
+        for header, place in self.PROLOGUES:
+            for wrong in (0x00000001, 0x40000080, 0x01000001):
+                self.refused(self.body(header, place, wrong), vrt49.INDICATOR, place)
+            for wrong in ([0x40000000], [0, 0], [0x01000000, 0x10000, 0], [0x200, 0, 1]):
+                self.refused(self.body(header, place, *wrong), vrt49.LAYOUT, place)
+
+    def test_field(self):
+        # "the first word of the highest broken field for FIELD"
+        for header, place in self.PROLOGUES:
+            # Bandwidth, level, temperature: words 1 and 2, 3, and 4 of the body.
+            for bandwidth, level, temperature, offset, bit in (
+                (0x80000000, 0, 0, 1, 29), (0, 0x10000, 0, 3, 24), (0, 0, 0x10000, 4, 18),
+                (0x80000000, 0x10000, 0x10000, 1, 29), (0, 0x10000, 0x10000, 3, 24),
+            ):
+                words = self.body(header, place, 0x21040000, bandwidth, 0, level, temperature)
+                self.refused(words, vrt49.FIELD, place + offset, bit)
+
+    def test_first_word_of_the_field(self):
+        # The device's second word is wrong: the place is its first.
+        self.refused([0x40000005, 7, 0x00020000, 0, 0x10000], vrt49.FIELD, 3, 17)
+        self.refused([0x40000006, 7, 0x00820000, 0, 0, 0x10000], vrt49.FIELD, 4, 17)
+        self.refused([0x40000005, 7, 0x00020000, 1 << 24, 0x10000], vrt49.FIELD, 3, 17)
+
+    def test_nine_fields(self):
+        # 29, 24, 21, 18, 17, 16, 15, 9 and 8, with their first words at 1, 3, 4, 6, 7, 9,
+        # 10, 12 and 15 of the body, as the text has one word.
+        right = [[0, 0], [0], [0, 0], [0], [0, 0], [0], [0x3CF, 0], [0, 1, 5], [0, 0]]
+        wrong = [[0x80000000, 0], [0x10000], [0x80000000, 0], [0x10000], [0, 0x10000]]
+        wrong += [[0x100], [0x13CF, 0], [0x01000000, 1, 5], [0x200, 0]]
+        offsets = [1, 3, 4, 6, 7, 9, 10, 12, 15]
+        bits = [29, 24, 21, 18, 17, 16, 15, 9, 8]
+        for chosen in range(1, 512):
+            body = [0x21278300]
+            for n in range(9):
+                body += wrong[n] if chosen >> n & 1 else right[n]
+            highest = min(n for n in range(9) if chosen >> n & 1)
+            words = self.body(0x40600000, 5, *body)
+            self.refused(words, vrt49.FIELD, 5 + offsets[highest], bits[highest])
+
+    def test_behind_a_long_text(self):
+        for n in (0, 1, 500, 65528):
+            words = self.body(0x40000000, 2, 0x300, 0, n, *[1] * n, 0x02000000, 0)
+            self.refused(words, vrt49.FIELD, 5 + n, 8)
+            self.refused(words + [0, 0], vrt49.FIELD, 5 + n, 8)
+            words[3] = 0x01000000
+            self.refused(words, vrt49.FIELD, 3, 9)
+
+    def test_free_fields(self):
+        # A field without a rule is not told, whatever its words are.
+        ones = 0xFFFFFFFF
+        words = [0x40000000, 7, 0x40C40000, ones, ones, ones, ones]
+        self.refused(self.body(0x40000000, 2, *words[2:]), vrt49.FIELD, 6, 18)
+
+    def test_pad(self):
+        # "the class's first word, or the header if none, for PAD"
+        for words, place in (
+            ([0x10000002, 7], 0), ([0x14500006, 7, 0, 0, 0, 0], 0), ([0x18000004, 7, 0, 0], 2),
+            # Only the trailer is absent; only the second word of the class does not fit; the
+            # payload is not whole.
+            ([0x18000005, 7, 0x00FFFFFA, 0x00080000, 5], 2),
+            ([0x1C000006, 7, 0x00FFFFFA, 0x80080000, 5, 0], 2),
+            ([0x1CF00009, 7, 0x08FFFFFA, 0x000C0000, 0, 0, 0, 5, 0], 2),
+        ):
+            self.assertEqual(vrt49.read_survey(words), ("refused", PAD, place, None))
+
+    def test_the_number_first(self):
+        # The place goes with the number that is given: a class, a time, an indicator and a
+        # field that are wrong.
+        words = [0x48600009, 7, 0x01000000, 0, 0, 0xE8, 0xD4A51000, 0x01000001, 0x10000]
+        self.refused(words, vrt49.CLASS, 2)
+        words[2] = 0
+        self.refused(words, vrt49.TIME, 5)
+        words[5] = 0
+        self.refused(words, vrt49.INDICATOR, 7)
+        words[7] = 0x01800000
+        self.refused(words, vrt49.LAYOUT, 7)
+        words[7] = 0x01000000
+        self.refused(words, vrt49.FIELD, 8, 24)
+        words[8] = 0
+        self.assertEqual(vrt49.read(words)[0], "accepted")
 
 
 if __name__ == "__main__":

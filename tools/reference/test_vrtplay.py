@@ -1,5 +1,5 @@
 """Document 01's example of the program vrtplay, and its sentences on it, held
-against the reference.  The expectations are document 01's own, and C-13's."""
+against the reference.  The expectations are document 01's own, C-13's and C-15's."""
 
 import unittest
 
@@ -75,8 +75,8 @@ class Refusals(unittest.TestCase):
         self.assertEqual(
             lines,
             [
-                "at 2 refused 11",
-                "at 5 refused 11",
+                "at 2 refused 11 place 1",
+                "at 5 refused 11 place 0",
                 "at 7 type 1 stream 0 missing 0",
                 "end 9 tail 0",
             ],
@@ -87,7 +87,31 @@ class Refusals(unittest.TestCase):
             ("60000001", 2), ("12000002", 3), ("10000001", 4), ("10000004", 5),
         ):
             lines = vrtplay.play(given(f"00000001 00000007 {word} 00000007 10000002"))
-            self.assertEqual(lines, [f"at 2 refused {number}", "end 2 tail 0"])
+            self.assertEqual(lines, [f"at 2 refused {number} place 0", "end 2 tail 0"])
+
+    def test_places(self):
+        # C-15: "`vrtplay` prints `place P` after the number", "from the packet's start"; the
+        # packet is at word 4, and no bit is printed.
+        for words, number, place in (
+            ("18000004 00000007 01000000 00000000", 6, 2),
+            ("08000003 80000000 00000000", 6, 1),
+            ("10200004 00000007 000000E8 D4A51000", 7, 2),
+            ("1C600008 00000007 00000000 00000000 00000000 000000E8 D4A51000 00000000", 7, 5),
+            ("40000003 00000007 00000001", 8, 2),
+            ("40400004 00000007 00000000 40000000", 9, 3),
+            ("40000005 00000007 41000000 00000000 00010000", 10, 4),
+            ("40000006 00000007 00820000 00000000 00000000 00010000", 10, 4),
+        ):
+            before = "00000001 00000007 10000002 00000007"
+            lines = vrtplay.play(given(f"{before} {words} 10010002 00000007"))
+            self.assertEqual(
+                lines,
+                [
+                    "at 2 type 1 stream 0 missing 0",
+                    f"at 4 refused {number} place {place}",
+                    "end 4 tail 0",
+                ],
+            )
 
 
 class Plain(unittest.TestCase):
@@ -103,7 +127,7 @@ class Plain(unittest.TestCase):
             [
                 "at 2 type 1 stream 0 missing 0",
                 "at 8 type 1 stream 0 missing 0",
-                "at 10 refused 6",
+                "at 10 refused 6 place 2",
                 "end 10 tail 0",
             ],
         )
@@ -121,7 +145,7 @@ class MostBytes(unittest.TestCase):
             self.assertEqual(vrtplay.play(full + more), expected)
         head = given("00000001 00000007 10003FFF 00000007")
         long = head + bytes(65540 - len(head))
-        self.assertEqual(vrtplay.play(long), ["at 2 refused 5", "end 2 tail 0"])
+        self.assertEqual(vrtplay.play(long), ["at 2 refused 5 place 0", "end 2 tail 0"])
 
 
 if __name__ == "__main__":

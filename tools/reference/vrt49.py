@@ -1,9 +1,9 @@
 """A reference reader of VITA 49.0 packets, and of spectrum-survey packets (49A).
 
-It is written from document 01, from C-13 of document 02, from tables 4-4 and 4-5 of
-source document 004, which C-13 names, and from nothing else.  Words are whole numbers
-from 0 to 2^32 - 1 in a list; the sentences in quotation marks are document 01's own,
-or C-13's where it is named.
+It is written from document 01, from C-13 and C-15 of document 02, from tables 4-4 and
+4-5 of source document 004, which C-13 names, and from nothing else.  Words are whole
+numbers from 0 to 2^32 - 1 in a list; the sentences in quotation marks are document 01's
+own, or C-13's or C-15's where they are named.
 """
 
 from collections import namedtuple
@@ -363,16 +363,21 @@ def layout_refused(words):
     return 1 + sum(count for _, _, count in found) != len(body)
 
 
-def field_refused(words):
-    # "a field rule is broken"
-    if type_of(words[0]) != 4:
-        return False
+def broken_fields(words):
+    """Each field whose rule is broken, highest bit first, as its bit and its place from
+    the packet's start, for a type 4 packet that LAYOUT does not refuse."""
+    found = []
     body = body_of(words)
     for bit, place, count in fields(body):
         if bit in FIELD_RULES:
             if not FIELD_RULES[bit](body[place : place + count]):
-                return True
-    return False
+                found.append((bit, body_place(words[0]) + place))
+    return found
+
+
+def field_refused(words):
+    # "a field rule is broken"
+    return type_of(words[0]) == 4 and broken_fields(words) != []
 
 
 # "The first that applies is given, in these orders.  Read: 1 to 10 as listed"
@@ -388,6 +393,68 @@ REFUSALS = (
     (LAYOUT, layout_refused),
     (FIELD, field_refused),
 )
+
+
+# The places.  C-15: "Every reading refusal is to carry the word place from the packet's
+# start, and FIELD also the field bit."  Each function gives the place, and the bit or
+# None, for words to which its refusal is the first that applies.
+
+
+def at_header(words):
+    # C-15: "The place is the header for types, bits, sizes and cuts"; "EMPTY has place 0"
+    return 0, None
+
+
+def at_class(words):
+    # C-15: "the offending word for CLASS": the first of the class, which alone has bits
+    # that are looked at
+    return class_place(words[0]), None
+
+
+def at_fraction(words):
+    # C-15: "the fraction's first word for TIME"
+    return fraction_place(words[0]), None
+
+
+def at_indicator(words):
+    # C-15: "the offending word for ... INDICATOR", "the indicator for LAYOUT"
+    return body_place(words[0]), None
+
+
+def at_field(words):
+    # C-15: "the first word of the highest broken field for FIELD"
+    bit, place = broken_fields(words)[0]
+    return place, bit
+
+
+def at_class_or_header(words):
+    # C-15: "the class's first word, or the header if none, for PAD"
+    return at_class(words) if class_words(words[0]) != 0 else at_header(words)
+
+
+PLACES = {
+    EMPTY: at_header,
+    TYPE: at_header,
+    BITS: at_header,
+    SHORT: at_header,
+    CUT: at_header,
+    CLASS: at_class,
+    TIME: at_fraction,
+    INDICATOR: at_indicator,
+    LAYOUT: at_indicator,
+    FIELD: at_field,
+    PAD: at_class_or_header,
+}
+
+
+def refusal(words, refusals):
+    """('refused', number, place, bit) for the first refusal that applies, or None.  The
+    bit is None but for FIELD."""
+    for number, applies in refusals:
+        if applies(words):
+            place, bit = PLACES[number](words)
+            return ("refused", number, place, bit)
+    return None
 
 
 # What an accepted packet gives.  What is absent is zero.
@@ -455,12 +522,9 @@ def packet_of(words):
 
 
 def read(words):
-    """('refused', number) or ('accepted', packet)."""
-    # "A refusal returns its number alone"; "words beyond the size are ignored".
-    for number, applies in REFUSALS:
-        if applies(words):
-            return ("refused", number)
-    return ("accepted", packet_of(words))
+    """('refused', number, place, bit) or ('accepted', packet)."""
+    # "words beyond the size are ignored"
+    return refusal(words, REFUSALS) or ("accepted", packet_of(words))
 
 
 # Spectrum-survey packets.
@@ -623,11 +687,9 @@ def survey_of(words):
 
 
 def read_survey(words):
-    """('refused', number) or ('accepted', (packet, survey))."""
-    for number, applies in SURVEY_REFUSALS:
-        if applies(words):
-            return ("refused", number)
-    return ("accepted", (packet_of(words), survey_of(words)))
+    """('refused', number, place, bit) or ('accepted', (packet, survey))."""
+    refused = refusal(words, SURVEY_REFUSALS)
+    return refused or ("accepted", (packet_of(words), survey_of(words)))
 
 
 TrailerParts = namedtuple("TrailerParts", "enables indicators e associated")

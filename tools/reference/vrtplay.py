@@ -3,9 +3,9 @@ each packet.
 
     python3 tools/reference/vrtplay.py <RECORDING
 
-It is written from document 01, from C-13 of document 02 and from nothing else; the
-sentences in quotation marks are document 01's own.  Starting and playing are those of
-table.py.
+It is written from document 01, from C-13 and C-15 of document 02 and from nothing else;
+the sentences in quotation marks are document 01's own, or those of C-13 or C-15 where
+they are named.  Starting and playing are those of table.py.
 """
 
 import sys
@@ -47,6 +47,7 @@ def play(data):
     lines = []
     found = started(words)
     if found is None:
+        # C-15: "except for LIST"
         lines.append(f"at 0 refused {LIST}")
         place = 0
     else:
@@ -60,9 +61,11 @@ def play(data):
                 lines.append(f"at {place} type {kind} stream {stream} missing {missing}")
             else:
                 # "A refusal prints `at W refused N`; STREAM goes on by the size,
-                # any other ends at W."
-                lines.append(f"at {place} refused {answer[1]}")
-                if answer[1] != STREAM:
+                # any other ends at W."  C-15: "`vrtplay` prints `place P` after the
+                # number", counted "from the packet's start".
+                _, number, offset, _ = answer
+                lines.append(f"at {place} refused {number} place {offset}")
+                if number != STREAM:
                     break
                 size = vrt49.size_of(words[place])
             place += size

@@ -293,13 +293,15 @@ def times():
 def as_in_reading():
     """The cases of read_vectors.py: what reading accepts is written again, and
     what it refuses from TIME on is refused in writing with the same number.
-    The longest are left out."""
+    The longest are left out, and those that are built for a place."""
     refused_before = [0] * 11
     step = 0
-    for way, words, _ in read_vectors.cases:
+    for way, words, _, told in read_vectors.cases:
         if way == SURVEY or read_vectors.has_survey_class(words) or len(words) > 60000:
             continue
-        answer, what = vrt49.read(words)
+        if told is not None:
+            continue
+        answer, what = vrt49.read(words)[:2]
         step += 1
         at = (0, 1, 3, 8)[step % 4]
         if answer == "accepted":
@@ -673,14 +675,14 @@ def survey_as_in_reading():
     """The cases of read_vectors.py that are read as survey packets: what reading
     accepts is written again, and what it refuses with PAD is refused in writing, but for
     the bits 26 to 24 of the class, for which parts have no number.  Of those that are no
-    survey packets each eighth is taken."""
+    survey packets each eighth is taken, and of those that are built for a place none."""
     refused_before = {}
     step = 0
-    for way, words, _ in read_vectors.cases:
-        if way != SURVEY or len(words) > 1000:
+    for way, words, _, told in read_vectors.cases:
+        if way != SURVEY or len(words) > 1000 or told is not None:
             continue
         step += 1
-        answer, what = vrt49.read_survey(words)
+        answer, what = vrt49.read_survey(words)[:2]
         if not read_vectors.has_survey_class(words) and step % 8 != 0:
             if answer == "accepted" or refused_before.get(what, 0) >= 5:
                 continue
@@ -748,6 +750,25 @@ def random_surveys():
         at = numbers.below(6)
         room = at + len(body) + 5 + numbers.below(9)
         cases.append((SURVEY_WRITE, (parts, pad, body, at, room), None))
+
+
+# The places of refusals.
+
+
+def places():
+    """Of the cases that read_vectors.py has for places a few: each number and each bit
+    once, read plainly, and each number with a place other than 0, read as a survey packet.
+    They are short ones."""
+    found = set()
+    for way, words, number, told in read_vectors.cases:
+        if told is None or len(words) > 12:
+            continue
+        place, bit = told
+        one = (way, number, bit)
+        if one in found or way == SURVEY and (place == 0 or bit not in (None, 8)):
+            continue
+        found.add(one)
+        (survey_again if way == SURVEY else again_case)(number, words)
 
 
 # Trailer words
@@ -889,12 +910,25 @@ def of_write(k, arguments):
     return given, number, "write wrote", found
 
 
+# What refusals of reading say, in cases of reading, writing and reading again.
+told_in_reading = set()
+
+
+def refused_in_reading(k, op, given, said):
+    """A case of reading, writing and reading again that reading refuses."""
+    _, number, place, bit = said
+    told_in_reading.add((op, number, place > 0, bit))
+    label = f"{'survey ' if op == SURVEY_AGAIN else ''}again refused {number} in reading"
+    return given, number, label, [f"{k} {read_vectors.refusal_text(said)}"]
+
+
 def of_again(k, arguments):
     words, at, room = arguments
     given = [at, room, len(words), *words]
-    answer, what = vrt49.read(words)
-    if answer == "refused":
-        return given, what, f"again refused {what} in reading", [f"{k} refused {what}"]
+    said = vrt49.read(words)
+    if said[0] == "refused":
+        return refused_in_reading(k, AGAIN, given, said)
+    what = said[1]
     parts = vrt49_write.parts_of(what)
     number, after, found = written_lines(k, parts, vrt49.body_of(words), at, room)
     if number != WRITTEN:
@@ -914,10 +948,10 @@ def of_survey_write(k, arguments):
     if number != WRITTEN:
         return given, number, f"survey write refused {number}", found
     # What is written reads back: the parts, the pad count of type 1, and the body.
-    answer, what = vrt49.read_survey(after[at:])
-    if answer != "accepted":
+    said = vrt49.read_survey(after[at:])
+    if said[0] != "accepted":
         sys.exit(f"case {k} does not read back")
-    packet, survey = what
+    packet, survey = said[1]
     if survey.pad != (pad if parts.type == 1 else 0):
         sys.exit(f"case {k} reads back another pad count")
     if after[at + packet.body : at + packet.body + packet.length] != body:
@@ -928,9 +962,10 @@ def of_survey_write(k, arguments):
 def of_survey_again(k, arguments):
     words, at, room = arguments
     given = [at, room, len(words), *words]
-    answer, what = vrt49.read_survey(words)
-    if answer == "refused":
-        return given, what, f"survey again refused {what} in reading", [f"{k} refused {what}"]
+    said = vrt49.read_survey(words)
+    if said[0] == "refused":
+        return refused_in_reading(k, SURVEY_AGAIN, given, said)
+    what = said[1]
     packet, survey = what
     parts, body = vrt49_write.parts_of(packet), vrt49.body_of(words)
     number, after, found = written_lines(k, parts, body, at, room, survey.pad)
@@ -986,6 +1021,7 @@ def build():
     survey_as_in_reading()
     random_surveys()
     survey_size()
+    places()
 
 
 # Each answer, and the least number of its cases.
@@ -1091,6 +1127,20 @@ def check_edges():
             sys.exit(f"no case at the edge {edge}")
 
 
+def check_places():
+    """Every number of reading, those of other words than the header with a place, and
+    every field that has a rule."""
+    wanted = [(AGAIN, FIELD, True, bit) for bit in read_vectors.RULED]
+    for op in (AGAIN, SURVEY_AGAIN):
+        wanted += [(op, number, False, None) for number in range(1, 6)]
+        wanted += [(op, number, True, None) for number in range(6, 10)]
+    wanted += [(SURVEY_AGAIN, FIELD, True, 8)]
+    wanted += [(SURVEY_AGAIN, PAD, there, None) for there in (False, True)]
+    for one in wanted:
+        if one not in told_in_reading:
+            sys.exit(f"no case that reading refuses with {one}")
+
+
 def check_survey_edges():
     """The edges of C-13 in writing."""
     found = set()
@@ -1174,6 +1224,7 @@ def main():
     check(tally)
     check_edges()
     check_survey_edges()
+    check_places()
     if len(given) > 1_950_000:
         sys.exit(f"the input has {len(given)} bytes, more than 1,950,000")
     with open(sys.argv[1], "wb") as file:

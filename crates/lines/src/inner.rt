@@ -13,6 +13,7 @@ pub use crate::output::number;
 pub use crate::output::signed;
 pub use crate::output::text;
 pub use crate::packets::show_packet;
+pub use crate::packets::show_refusal;
 pub use crate::packets::show_survey;
 pub use crate::sums::fold_of;
 pub use crate::sums::folded;

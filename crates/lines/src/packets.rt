@@ -1,10 +1,26 @@
-// The values of a packet, as lines of names and numbers.
+// The values of a packet, as lines of names and numbers, and a refusal.
 use crate::output::named;
 use crate::output::named_flag;
 use crate::output::text;
 use packet::Packet;
 use packet::Parts;
 use packet::Survey;
+use words::Refusal;
+use words::Where;
+
+// Writes a refusal: its number, and the word and the field's bit where they are told.
+pub fn show_refusal(r: Refusal) {
+    named(b"refused", r.number as u64);
+    let place = r.place;
+    match place {
+        Where::Nowhere => {}
+        Where::Word(at) => named(b"place", at as u64),
+        Where::Field(at, bit) => {
+            named(b"place", at as u64);
+            named(b"bit", bit as u64);
+        }
+    }
+}
 
 // The line of the header's values.
 fn show_header(p: Parts, size: usize) {

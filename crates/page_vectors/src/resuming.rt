@@ -8,7 +8,7 @@ pub struct Walk {
     pub answers: u32,
 }
 
-// The check number after a packet: five words, the refusal's number or 0, size, type, stream and missing.
+// The check number after a packet: five words, 0, size, type, stream and missing, or of a refusal its number, 0, its word, its bit or 0, and 0.
 fn fold_answer(y: u32, answer: Played) -> u32 {
     match answer {
         Played::Accepted(h) => {
@@ -17,11 +17,12 @@ fn fold_answer(y: u32, answer: Played) -> u32 {
             let stream = lines::inner::folded(kind, h.stream as u64);
             lines::inner::folded(stream, h.missing as u64)
         }
-        Played::Refused(n) => {
-            let size = lines::inner::folded(lines::inner::folded(y, n as u64), 0);
-            let kind = lines::inner::folded(size, 0);
-            let stream = lines::inner::folded(kind, 0);
-            lines::inner::folded(stream, 0)
+        Played::Refused(r) => {
+            let place = r.place;
+            let size = lines::inner::folded(lines::inner::folded(y, r.number as u64), 0);
+            let word = lines::inner::folded(size, words::inner::word_of(place) as u64);
+            let bit = lines::inner::folded(word, words::inner::bit_of(place) as u64);
+            lines::inner::folded(bit, 0)
         }
     }
 }

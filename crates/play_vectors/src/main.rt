@@ -34,7 +34,7 @@ fn show_played(j: u64, answer: Played) {
             lines::inner::named(b"missing", h.missing as u64);
             lines::inner::named(b"size", h.size as u64);
         }
-        Played::Refused(n) => lines::inner::named(b"refused", n as u64),
+        Played::Refused(r) => lines::inner::show_refusal(r),
     }
     lines::inner::text(b"\n");
 }

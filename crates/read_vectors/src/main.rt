@@ -40,8 +40,8 @@ fn show_context(p: Packet, ws: &[u32])
 }
 
 // The line of a refusal.
-fn show_refused(n: u32) {
-    lines::inner::named(b"refused", n as u64);
+fn show_refused(r: words::Refusal) {
+    lines::inner::show_refusal(r);
     lines::inner::text(b"\n");
 }
 
@@ -53,7 +53,7 @@ fn show_plain(ws: &[u32]) {
             lines::inner::show_packet(p);
             show_context(p, ws);
         }
-        Parsed::Refused(n) => show_refused(n),
+        Parsed::Refused(r) => show_refused(r),
     }
 }
 
@@ -65,7 +65,7 @@ fn show_survey(ws: &[u32]) {
             lines::inner::show_survey(s);
             show_context(s.packet, ws);
         }
-        ParsedSurvey::Refused(n) => show_refused(n),
+        ParsedSurvey::Refused(r) => show_refused(r),
     }
 }
 

@@ -5,10 +5,13 @@ use native.Mathlib.Nat.{add-zero}
 use lib.Seq.{getD-drop}
 use Rattle.words.specs.Numbers.{STREAM}
 use Rattle.words.specs.Outcome.{Outcome, refused, accepted, measured, saidOf, Meets}
+use Rattle.words.specs.Told.{told}
 use Rattle.words.proofs.MeetLaws.{meets-accepted}
+use Rattle.words.proofs.ToldLaws.{told-said}
 use Rattle.packet.specs.declared.Packet.{Packet}
 use Rattle.packet.specs.Header.{sizeOf}
 use Rattle.packet.specs.Read.{readBy}
+use Rattle.packet.specs.Told.{whereOf}
 use Rattle.packet.proofs.ReadLaws.{size-some, size-said, read-number}
 use Rattle.words.specs.declared.Length.{Length}
 use Rattle.words.specs.declared.Length.the-variants.{Accepted}
@@ -16,14 +19,14 @@ use Rattle.table.specs.Well.{wellMade}
 use Rattle.table.specs.Start.{startOf}
 use Rattle.table.proofs.StartLaws.{start-well-made}
 use Rattle.play.specs.declared.step.Happened.{Happened}
-use Rattle.play.specs.Play.{chosen, stepOf}
+use Rattle.play.specs.Play.{chosen, stepOf, playOf, playTold}
 use Rattle.play.specs.Run.{goesOn, saidAt, leftAt, nextOf, Stepped}
 use Rattle.play.proofs.PlayLaws.{step-read, play-step}
 use Rattle.play.proofs.KeepLaws.{play-keeps}
 
 -- ---- a step that goes on
 
-said-on : (o : Outcome Packet) (t ws : List ℕ) → readBy (chosen t ws) ws ≡ o → goesOn (saidOf (stepOf t ws)) ≡ true
+said-on : (o : Outcome Packet) (t ws : List ℕ) → readBy (chosen t ws) ws ≡ o → goesOn (told (whereOf ws) (saidOf (stepOf t ws))) ≡ true
     → (p : Packet) × (readBy (chosen t ws) ws ≡ accepted p)
 said-on (accepted p) t ws e g = (p, e)
 said-on (refused n) t ws e g = absurd (read-number (chosen t ws) ws n e (eqb-true n STREAM (rw (step-read, e) at g)))
@@ -31,9 +34,10 @@ said-on (refused n) t ws e g = absurd (read-number (chosen t ws) ws n e (eqb-tru
 read-size : (survey : Bool) (ws : List ℕ) (p : Packet) → readBy survey ws ≡ accepted p → 1 ≤ sizeOf (getD ws 0 0)
 read-size survey ws p e = rw (size-said survey ws p e) at (size-some survey ws p e)
 
-said-step : (t ws : List ℕ) (at : ℕ) → wellMade t ≡ true → goesOn (saidAt t ws at) ≡ true → goesOn (saidOf (stepOf t (drop at ws))) ≡ true
-unfolding saidAt
-said-step t ws at w g = rw (play-step t (drop at ws) w) at g
+said-step : (t ws : List ℕ) (at : ℕ) → wellMade t ≡ true → goesOn (saidAt t ws at) ≡ true
+    → goesOn (told (whereOf (drop at ws)) (saidOf (stepOf t (drop at ws)))) ≡ true
+unfolding saidAt playTold
+said-step t ws at w g = rw (told-said (whereOf (drop at ws)) (playOf t (drop at ws)), play-step t (drop at ws) w) at g
 
 -- a walk that goes on has passed at least a word
 pub next-on : (t ws : List ℕ) (at : ℕ) → wellMade t ≡ true → goesOn (saidAt t ws at) ≡ true → at < nextOf t ws at

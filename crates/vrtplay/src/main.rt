@@ -6,6 +6,7 @@ use libc::STDIN_FILENO;
 use lines::inner::Line;
 use play::Played;
 use words::Length;
+use words::Refusal;
 
 // The words of bytes, four for each.
 fn words_of(ws: &mut [u32], bytes: &[u8])
@@ -19,12 +20,14 @@ fn words_of(ws: &mut [u32], bytes: &[u8])
     }
 }
 
-// The line of a refusal at a place.
-fn show_refused(at: usize, n: u32) {
+// The line of a packet that was refused: the number, and the word of the packet that was disliked. On a table that is well made each refusal has one.
+fn show_refused(at: usize, r: Refusal) {
+    let place = r.place;
     Line::new()
         .text(b"at ")
         .number(at as u64)
-        .named(b"refused", n as u64)
+        .named(b"refused", r.number as u64)
+        .named(b"place", words::inner::word_of(place) as u64)
         .text(b"\n")
         .write();
 }
@@ -45,7 +48,7 @@ fn show_heard(at: usize, h: play::Heard) {
 fn show_played(at: usize, answer: Played) {
     match answer {
         Played::Accepted(h) => show_heard(at, h),
-        Played::Refused(n) => show_refused(at, n),
+        Played::Refused(r) => show_refused(at, r),
     }
 }
 
@@ -78,7 +81,11 @@ fn walk(table: &mut [u32], ws: &[u32], from: usize) -> usize
 
 // A list that is refused, or not there: the walk does not begin.
 fn refuse_list() -> usize {
-    show_refused(0, words::LIST);
+    Line::new()
+        .text(b"at 0")
+        .named(b"refused", words::LIST as u64)
+        .text(b"\n")
+        .write();
     0
 }
 

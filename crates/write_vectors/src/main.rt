@@ -167,11 +167,17 @@ fn write_again(survey: bool, p: Packet, pad: u32, ws: &[u32], out: &mut [u32], a
     }
 }
 
+// The line of words that reading refuses.
+fn show_unread(r: words::Refusal) {
+    lines::inner::show_refusal(r);
+    lines::inner::text(b"\n");
+}
+
 // Words that are read plainly, and written and read again.
 fn plain_again(ws: &[u32], out: &mut [u32], at: usize) {
     let answer = packet::read(ws);
     match answer {
-        Parsed::Refused(n) => show_refused(n),
+        Parsed::Refused(r) => show_unread(r),
         Parsed::Accepted(p) => write_again(false, p, 0, ws, out, at),
     }
 }
@@ -180,7 +186,7 @@ fn plain_again(ws: &[u32], out: &mut [u32], at: usize) {
 fn survey_again(ws: &[u32], out: &mut [u32], at: usize) {
     let answer = packet::read_survey(ws);
     match answer {
-        ParsedSurvey::Refused(n) => show_refused(n),
+        ParsedSurvey::Refused(r) => show_unread(r),
         ParsedSurvey::Accepted(s) => write_again(true, s.packet, s.pad, ws, out, at),
     }
 }

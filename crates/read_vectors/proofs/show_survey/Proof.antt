@@ -5,6 +5,7 @@ use Rattle.packet.specs.Read.{readBy}
 use Rattle.packet.specs.Survey.{surveyPaper, readSurveyOf}
 use Rattle.packet.proofs.FrontLaws.{survey-read}
 use Rattle.packet.proofs.ReadLaws.{body-inside, read-inside}
+use Rattle.packet.proofs.ToldLaws.{told-given}
 use Rattle.read_vectors.proofs.show_survey.Statement.{statement}
 use Rattle.read_vectors.proofs.show_survey.Tie as tie
 
@@ -16,7 +17,7 @@ show-context-requires c κs =
     let ws = now (start .args .ws) in
     let s = at-answer .answer .given .0 .0 in
     let p = s .packet in
-    let f : readSurveyOf ws ≡ accepted s = sym (at-read .read-survey .ensures) ∙ ap surveyPaper (at-answer .answer .given .1) in
+    let f : readSurveyOf ws ≡ accepted s = told-given ws s (sym (at-read .read-survey .ensures) ∙ ap surveyPaper (at-answer .answer .given .1)) in
     let e : readBy true ws ≡ accepted p = rw (survey-read ws, f) in
     omega (arith, body-inside true ws p e, read-inside true ws p e)
 
