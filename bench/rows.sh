@@ -16,10 +16,10 @@ counted() { "$INSNCOUNT" "$@" 2>&1 | sed -n 's/^instructions //p'; }
 cost() { # PROGRAM CALL KIND SIZE: the instructions of n calls, without those of the set-up and of the choice of the call
     echo $(($(counted "$1" "$2" "$3" "$4" $((2 * n))) - $(counted "$1" "$2" "$3" "$4" $n)))
 }
-row() { # CALL KIND SIZE WHAT
+row() { # CALL KIND SIZE WHAT [ANSWER]: what the calls answer, if they are not accepted
     c=$(cost "$work/c" "$1" "$2" "$3") r=$(cost "$work/r" "$1" "$2" "$3")
     c_says=$("$INSNCOUNT" "$work/c" "$1" "$2" "$3" $n 2>/dev/null) r_says=$("$INSNCOUNT" "$work/r" "$1" "$2" "$3" $n 2>/dev/null)
     [ "$c_says" = "$r_says" ] && same=equal || same=DIFFER
-    case $r_says in '0 '*) ;; *) same=REFUSED ;; esac
+    case $r_says in "${5:-0} "*) ;; *) same="ANSWERS ${r_says%% *}" ;; esac
     awk -v k="$1" -v w="$4" -v c="$c" -v r="$r" -v n=$n -v s=$same 'BEGIN { printf "%-14s %-34s %10.1f %9.1f  %.3f  %s\n", k, w, c / n, r / n, r / c, s }'
 }

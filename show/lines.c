@@ -61,9 +61,10 @@ static const char *const TYPES[] = {"data without identifier", "data",
                                     "extension data without identifier", "extension data",
                                     "Context", "extension Context"};
 
-const char *reason(uint32_t number)
+/* Why a refusal is given that ends a recording. */
+static const char *reason(uint32_t refusal)
 {
-    switch (number) {
+    switch (VRT49_NUMBER(refusal)) {
     case VRT49_TYPE: return "its type is above 5";
     case VRT49_BITS: return "a reserved header bit is set";
     case VRT49_SHORT: return "its size is below the parts that its header announces";
@@ -73,7 +74,6 @@ const char *reason(uint32_t number)
     case VRT49_INDICATOR: return "indicator bits 7-0 are not zero";
     case VRT49_LAYOUT: return "its fields need more or fewer words than its body has";
     case VRT49_FIELD: return "a field breaks its rule";
-    case VRT49_STREAM: return "its stream is not declared";
     case VRT49_PAD: return "it is no data packet of 49A: its class, its trailer or its padding";
     case VRT49_LIST: return "it does not begin with 1 to 32 identifiers, each once";
     default: return "";
@@ -93,6 +93,13 @@ const char *grouped(uint64_t number)
             *--text = ',';
         *--text = (char)('0' + number % 10);
     }
+    return text;
+}
+
+const char *ungrouped(uint64_t number)
+{
+    static char text[24];
+    snprintf(text, sizeof text, "%" PRIu64, number);
     return text;
 }
 
@@ -137,6 +144,27 @@ static void put_value(const vrt49_shown *shown)
         printf("%.10g and %.10g", (double)shown->levels[0], (double)shown->levels[1]);
     else
         printf("%.10g", (double)shown->levels[0]);
+}
+
+/* ---- refusals */
+
+void put_where(FILE *out, uint32_t refusal, const char *word)
+{
+    uint32_t bit = VRT49_BIT(refusal);
+    if (VRT49_NUMBER(refusal) == VRT49_LIST)
+        return;
+    fputs(" (", out);
+    if (VRT49_NUMBER(refusal) == VRT49_FIELD)
+        fprintf(out, "field %" PRIu32 ", %s, ", bit, vrt49_field_name(bit));
+    fprintf(out, "at word %" PRIu32 " of the packet, %s of the recording)", VRT49_PLACE(refusal),
+            word);
+}
+
+void put_refusal(FILE *out, uint32_t refusal, const char *word)
+{
+    fprintf(out, "refused %" PRIu32 " %s: %s", VRT49_NUMBER(refusal), vrt49_name(refusal),
+            reason(refusal));
+    put_where(out, refusal, word);
 }
 
 /* ---- lines */
@@ -253,21 +281,34 @@ static void put_samples(const vrt49_survey *samples)
            vrt49_item_bits(samples->first), item_name(samples->first), samples->second + 1);
 }
 
-/* What was refused, and why. */
-static void line_refused(const packet *at, uint32_t number)
+/* Which packet is of no declared stream: its identifier, or its type where it has none. */
+static void put_stranger(const packet *at)
 {
-    vrt49_packet read;
+    vrt49_survey read;
+    read_at(at, &read);
+    if (has_identifier(&read.packet))
+        printf("identifier 0x%08" PRIX32 " is not declared", read.packet.identifier);
+    else
+        printf("type %" PRIu32 ", %s", read.packet.type, TYPES[read.packet.type]);
+}
+
+/* What was refused, why and where. */
+static void line_refused(const packet *at, uint32_t refusal)
+{
+    const char *word = ungrouped((at ? at->place : 0) + VRT49_PLACE(refusal));
     if (at)
         put_front(at);
     else
         printf("at 0");
-    printf(" refused %" PRIu32 " %s: ", number, vrt49_name(number));
-    if (number != VRT49_STREAM || vrt49_read(at->words, at->words_n, &read) != VRT49_OK)
-        printf("%s\n", reason(number));
-    else if (has_identifier(&read))
-        printf("identifier 0x%08" PRIX32 " is not declared\n", read.identifier);
-    else
-        printf("type %" PRIu32 " (%s)\n", read.type, TYPES[read.type]);
+    printf(" ");
+    if (VRT49_NUMBER(refusal) == VRT49_STREAM) {
+        printf("refused %" PRIu32 " %s: ", VRT49_NUMBER(refusal), vrt49_name(refusal));
+        put_stranger(at);
+        put_where(stdout, refusal, word);
+    } else {
+        put_refusal(stdout, refusal, word);
+    }
+    puts("");
 }
 
 /* ---- rows of CSV */
@@ -276,7 +317,8 @@ void tell_columns(const survey *all)
 {
     printf("packet,word,event,stream,identifier,type,missing,unsure_since,refusal,name,changed,"
          "in_doubt,tsi,seconds,tsf,fraction,rf_hz,if_hz,rf_offset_hz,if_band_offset_hz,"
-         "bandwidth_hz,sample_rate_hz,level_dbm,gain_1_db,gain_2_db,temperature_c,state%s\n",
+         "bandwidth_hz,sample_rate_hz,level_dbm,gain_1_db,gain_2_db,temperature_c,state%s,place,"
+         "bit\n",
            all->chosen_n != 0 ? ",items,format,vector" : "");
 }
 
@@ -317,6 +359,19 @@ static void put_samples_cells(const packet *at, const vrt49_survey *samples)
     printf(",%" PRIu32 ",%s %" PRIu32 " bits %s,%" PRIu32, samples->items,
            samples->first >> 29 & 3 ? "complex" : "real", vrt49_item_bits(samples->first),
            item_name(samples->first), samples->second + 1);
+}
+
+/* The place of the word that is refused, in the packet, and of FIELD the field's bit: place,bit.
+   Nothing where no packet is refused. */
+static void put_place_cells(const packet *at)
+{
+    uint32_t refusal = at ? vrt49_entry_refusal(at->said) : VRT49_OK;
+    putchar(',');
+    if (refusal != VRT49_OK)
+        printf("%" PRIu32, VRT49_PLACE(refusal));
+    putchar(',');
+    if (VRT49_NUMBER(refusal) == VRT49_FIELD)
+        printf("%" PRIu32, VRT49_BIT(refusal));
 }
 
 /* Where it stands and what it is: packet,word,event,stream,identifier,type. */
@@ -372,6 +427,7 @@ static void row(const survey *all, const stream *of, const packet *at, const cha
     put_state_cell(of);
     if (all->chosen_n != 0)
         put_samples_cells(at, &read);
+    put_place_cells(at);
     puts("");
 }
 
@@ -453,14 +509,14 @@ void tell_samples(const survey *all, const stream *of, const packet *at)
     put_samples(&of->samples);
 }
 
-void tell_refused(const survey *all, const packet *at, uint32_t number)
+void tell_refused(const survey *all, const packet *at, uint32_t refusal)
 {
     char what[80];
-    snprintf(what, sizeof what, ",,%" PRIu32 ",%s,", number, vrt49_name(number));
+    snprintf(what, sizeof what, ",,%" PRIu32 ",%s,", VRT49_NUMBER(refusal), vrt49_name(refusal));
     if (all->manner == CSV)
         row(all, NULL, at, "refused", what);
     if (all->manner == LINES)
-        line_refused(at, number);
+        line_refused(at, refusal);
 }
 
 /* ---- the summary */
@@ -549,8 +605,11 @@ void tell_summary(const survey *all, const recording *from)
         printf(" (Context %s)", grouped(all->contexts_missing));
     printf(", refused %s\n", grouped(all->refused));
     put_strangers(all);
-    if (all->stopped_by != VRT49_OK)
-        printf("stopped: refused %" PRIu32 " %s: %s\n", all->stopped_by,
-               vrt49_name(all->stopped_by), reason(all->stopped_by));
+    if (all->stopped_by != VRT49_OK) {
+        printf("stopped: ");
+        put_refusal(stdout, all->stopped_by,
+                    ungrouped(all->stopped_at + VRT49_PLACE(all->stopped_by)));
+        puts("");
+    }
     printf("end %" PRIu64 " tail %d\n", all->stopped_at, tail_of(from));
 }

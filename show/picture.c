@@ -381,6 +381,12 @@ static void put_name(FILE *out, const char *name)
     }
 }
 
+/* The word that was refused where the recording ended. */
+static const char *stopped_word(const survey *all)
+{
+    return grouped(all->stopped_at + VRT49_PLACE(all->stopped_by));
+}
+
 /* The title, what happened in all, and what the signs mean. */
 static void draw_head(const sheet *on, const char *name)
 {
@@ -394,13 +400,13 @@ static void draw_head(const sheet *on, const char *name)
     if (all->contexts_missing != 0)
         fprintf(on->out, " (Context %s)", grouped(all->contexts_missing));
     fprintf(on->out, ", refused %s; ", grouped(all->refused));
-    if (all->stopped_by == VRT49_OK)
-        fputs("played to the end</text>\n", on->out);
-    else
-        fprintf(on->out, "stopped at word %s, refused %" PRIu32 " %s: %s</text>\n",
-                grouped(all->stopped_at), all->stopped_by, vrt49_name(all->stopped_by),
-                reason(all->stopped_by));
-    fprintf(on->out, "<g transform='translate(%d 76)'>%s", LEFT, LEGEND);
+    if (all->stopped_by == VRT49_OK) {
+        fputs("played to the end", on->out);
+    } else {
+        fputs("stopped: ", on->out);
+        put_refusal(on->out, all->stopped_by, stopped_word(all));
+    }
+    fprintf(on->out, "</text>\n<g transform='translate(%d 76)'>%s", LEFT, LEGEND);
 }
 
 /* Where a refusal ended the recording: a line through all rows. */
@@ -410,8 +416,10 @@ static void draw_stop(const sheet *on)
     if (all->stopped_by == VRT49_OK || all->packets == 0)
         return;
     fprintf(on->out, "<path class='stop' d='M%.1f %dV%.1f'><title>packet %s: ended by refusal "
-            "%" PRIu32 " %s</title></path>\n", x_of(on, all->packets - 1), TOP, on->top + 20,
-            grouped(all->packets - 1), all->stopped_by, vrt49_name(all->stopped_by));
+            "%" PRIu32 " %s", x_of(on, all->packets - 1), TOP, on->top + 20,
+            grouped(all->packets - 1), VRT49_NUMBER(all->stopped_by), vrt49_name(all->stopped_by));
+    put_where(on->out, all->stopped_by, stopped_word(all));
+    fputs("</title></path>\n", on->out);
 }
 
 /* The row of refused packets. */

@@ -23,7 +23,8 @@ void accepted(uint32_t number, const char *call)
 {
     if (number == VRT49_OK)
         return;
-    fprintf(stderr, "vrtshow: %s refused %u %s\n", call, (unsigned)number, vrt49_name(number));
+    fprintf(stderr, "vrtshow: %s refused %u %s\n", call, (unsigned)VRT49_NUMBER(number),
+            vrt49_name(number));
     abort();
 }
 
@@ -276,13 +277,14 @@ static void count_stranger(survey *all, const packet *at)
 /* A packet that was refused. */
 static void refuse(survey *all, const packet *at)
 {
+    uint32_t refusal = vrt49_entry_refusal(at->said);
     all->refused_in[column_now(all)]++;
     all->refused++;
-    if (at->said->number == VRT49_STREAM)
+    if (VRT49_NUMBER(refusal) == VRT49_STREAM)
         count_stranger(all, at);
     else
-        all->stopped_by = at->said->number;
-    tell_refused(all, at, at->said->number);
+        all->stopped_by = refusal;
+    tell_refused(all, at, refusal);
 }
 
 /* ---- all of it */

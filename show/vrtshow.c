@@ -245,9 +245,10 @@ static void tell_likeness(uint32_t first)
 /* Says on standard error why the recording ended before its end. */
 static void tell_end(void)
 {
-    fprintf(stderr, "vrtshow: %s: stopped at word %" PRIu64 ": refused %" PRIu32 " %s: %s\n", name,
-            all.stopped_at, all.stopped_by, vrt49_name(all.stopped_by), reason(all.stopped_by));
-    if (all.stopped_by == VRT49_LIST && from.have != 0)
+    fprintf(stderr, "vrtshow: %s: stopped at word %" PRIu64 ": ", name, all.stopped_at);
+    put_refusal(stderr, all.stopped_by, ungrouped(all.stopped_at + VRT49_PLACE(all.stopped_by)));
+    fputs("\n", stderr);
+    if (VRT49_NUMBER(all.stopped_by) == VRT49_LIST && from.have != 0)
         tell_likeness(from.words[0]);
 }
 

@@ -105,7 +105,7 @@ typedef struct {
     uint64_t packets;                /* that were looked at so far, refused ones too */
     uint64_t missing, contexts_missing;
     uint64_t refused;                /* packets that were refused */
-    uint32_t stopped_by;             /* the number of the refusal that ended it, or 0 */
+    uint32_t stopped_by;             /* the refusal that ended it, with its place, or 0 */
     uint64_t stopped_at;             /* the word that it stopped at */
     uint64_t unnamed;                /* packets without an identifier */
     uint64_t others;                 /* packets of undeclared identifiers that are not listed: */
@@ -179,7 +179,8 @@ void note_unsure(survey *all, stream *of);
 
 /* ---- what is printed */
 
-/* The first line of CSV: the names of the columns, three more where 49A was chosen. */
+/* The first line of CSV: the names of the columns, three more where 49A was chosen. The place of a
+   refusal and its bit stand last, so that no older column has moved. */
 void tell_columns(const survey *all);
 
 /* That the fields of the set bits changed; before: what the panel showed until now. */
@@ -198,16 +199,24 @@ void tell_trusted(const survey *all, const stream *of, const packet *at);
 void tell_samples(const survey *all, const stream *of, const packet *at);
 
 /* That the packet is refused; or the list, where there is no packet. */
-void tell_refused(const survey *all, const packet *at, uint32_t number);
+void tell_refused(const survey *all, const packet *at, uint32_t refusal);
 
 /* What each stream did, and where the recording ended. */
 void tell_summary(const survey *all, const recording *from);
 
-/* Why a number is given. */
-const char *reason(uint32_t number);
+/* A refusal, why it is given, and where; word: the refused word's place in the recording, as
+   text. */
+void put_refusal(FILE *out, uint32_t refusal, const char *word);
+
+/* Where alone: of FIELD the field, by its bit and its name, then the word, in the packet and in the
+   recording. Nothing of LIST, which is of no packet. */
+void put_where(FILE *out, uint32_t refusal, const char *word);
 
 /* A count with commas, in a buffer that is used again after eight. */
 const char *grouped(uint64_t number);
+
+/* A number without commas, in a buffer that is used again. */
+const char *ungrouped(uint64_t number);
 
 /* ---- the picture */
 

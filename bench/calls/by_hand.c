@@ -17,7 +17,8 @@ static inline struct places places_of(u32 h) {
     p.required = p.body + trailed + (kind == 4);
     return p;
 }
-u32 c_read(const u32 *w, size_t n, u32 *a) {
+// Reads a packet: 0, or the number of a refusal alone.
+static inline u32 read_plain(const u32 *w, size_t n, u32 *a) {
     if (!n)
         return EMPTY;
     u32 h = w[0], kind = h >> 28, size = h & 0xffff, tsi = h >> 22 & 3, tsf = h >> 20 & 3;
@@ -62,6 +63,10 @@ u32 c_read(const u32 *w, size_t n, u32 *a) {
     a[16] = length;
     a[17] = trailed ? w[size - 1] : 0;
     return 0;
+}
+u32 c_read(const u32 *w, size_t n, u32 *a) {
+    u32 refused = read_plain(w, n, a);
+    return refused ? refusal_of(refused, w) : 0;
 }
 u32 c_write(const u32 *q, const u32 *body, size_t n, u32 *out, size_t room, size_t at, size_t *written) {
     u32 kind = q[0], classed = q[1], trailed = q[2], tsm = q[3], tsi = q[4], tsf = q[5];
@@ -114,10 +119,10 @@ u32 c_play(u32 *t, size_t tn, const u32 *w, size_t n, u32 *a) {
         return TABLE;
     refused = read_packet(t, w, n, &p);
     if (refused)
-        return refused;
+        return refusal_of(refused, w);
     long s = hear(&p, &missing);
     if (s < 0)
-        return STREAM;
+        return refusal_of(STREAM, w);
     a[0] = w[0] & 0xffff;
     a[1] = p.kind;
     a[2] = s;

@@ -59,6 +59,8 @@ static size_t context(u32 *w, u32 identifier, size_t size, const u32 *body) {
 }
 // Fields 29, 27, 24, 23, 21 and 18, whose first words are small.
 static const u32 small[] = {1u << 29 | 1 << 27 | 1 << 24 | 1 << 23 | 1 << 21 | 1 << 18, 1, 2, 3, 4, 0xff80, 6, 7, 8, 0xffe0};
+// The same, but that the last breaks its rule: a temperature of more than 16 bits.
+static const u32 broken[] = {1u << 29 | 1 << 27 | 1 << 24 | 1 << 23 | 1 << 21 | 1 << 18, 1, 2, 3, 4, 0xff80, 6, 7, 8, 0x1ffe0};
 // Fields 29, 27, 23, 21, 20 and 19, whose first words are all 2^16 or more.
 static const u32 large[] = {1u << 29 | 1 << 27 | 1 << 23 | 1 << 21 | 1 << 20 | 1 << 19, 0x10001, 2, 0xfff20003, 4, 0x7fff0001, 0x01000007, 8, 0x00010009, 10, 0xff80ff80};
 // All 21 fields of bits 30 to 10, of which 22 is not held. Their words are their own places, but for the format's, 16 bits in fields of 16, and the
@@ -77,8 +79,8 @@ static u64 sum(u64 x, const u32 *w, size_t n) {
     return x;
 }
 int main(int argc, char **argv) {
-    // CALL(read write read_survey write_survey play save put_back reading readings held_words) KIND(data survey context large all) SIZE TIMES: SIZE is
-    // body words of a data packet, or streams of a table; all holds 20 fields of each stream, else six are held; 49A is chosen where KIND is survey
+    // CALL(read write read_survey write_survey play save put_back reading readings held_words) KIND(data survey context large broken all) SIZE TIMES: SIZE
+    // is body words of a data packet, or streams of a table; all holds 20 fields of each stream, else six are held; 49A is chosen where KIND is survey
     if (argc != 5)
         return 2;
     const char *kind = argv[2];
@@ -101,7 +103,11 @@ int main(int argc, char **argv) {
     }
     r |= CALL(save)(t, tn, page, LONGEST, &pn);
     u32 last = 0x1000 + streams - 1;
-    n = survey ? surveyed(w, last, words) : !strcmp(kind, "data") ? data(w, last, words) : !strcmp(kind, "context") ? context(w, last, 15, small) : context(w, last, 16, large);
+    n = survey ? surveyed(w, last, words)
+        : !strcmp(kind, "data") ? data(w, last, words)
+        : !strcmp(kind, "context") ? context(w, last, 15, small)
+        : !strcmp(kind, "broken") ? context(w, last, 15, broken)
+        : context(w, last, 16, large);
     r |= survey ? CALL(read_survey)(w, n, a) : CALL(read)(w, n, a);
     for (int i = 0; i < 7; i++)
         parts[i] = a[i];

@@ -13,6 +13,7 @@ for call in read write; do
     row $call context 1 'context packet of 6 fields'
     row $call large 1 'context packet, large first words'
 done
+row read broken 1 'context of 6 fields, last refused' $((10 + 256 * 18 + 65536 * 14)) # FIELD, bit 18, word 14
 for call in read_survey write_survey; do
     row $call survey 1 '49A data packet, 1 body word'
     row $call survey 64 '49A data packet, 64 body words'

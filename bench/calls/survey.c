@@ -9,6 +9,12 @@ enum { BITS = 3, SHORT, CUT, TIME = 7, VALUE = 14, SIZE, PAD = 20, ROOM = 13, MO
 #define TIME_LIMIT 1000000000000u
 u32 c_read(const u32 *, size_t, u32 *);
 u32 c_write(const u32 *, const u32 *, size_t, u32 *, size_t, size_t, size_t *);
+// A refusal of a 49A data packet with header h as the library gives it: its number, and from bit 16 on the place of its word. TIME is at the fraction, PAD at the
+// class, which is at 2, or at the header where there is none. Not inlined, so that accepted packets do not pay for its registers.
+static __attribute__((noinline)) u32 survey_refusal(u32 number, u32 h) {
+    u32 class_words = h >> 26 & 2;
+    return number | (number == PAD ? class_words : 2 + class_words + ((h >> 22 & 3) != 0)) << 16;
+}
 // a: the eighteen values of a packet, the pad count, the two words of the payload's format, and n.
 u32 c_read_survey(const u32 *w, size_t n, u32 *a) {
     if (!n || w[0] >> 28 != 1) {
@@ -27,12 +33,12 @@ u32 c_read_survey(const u32 *w, size_t n, u32 *a) {
         return CUT;
     u32 high = tsf ? w[fraction] : 0, low = tsf ? w[fraction + 1] : 0;
     if (tsf == 2 && ((u64)high << 32 | low) >= TIME_LIMIT)
-        return TIME;
+        return survey_refusal(TIME, h);
     if ((h >> 26 & 3) != 3)
-        return PAD;
+        return survey_refusal(PAD, h);
     u32 oui = w[2], codes = w[3], length = size - body - 1, pad = oui >> 27;
     if (pad_bad(oui, codes, length))
-        return PAD;
+        return survey_refusal(PAD, h);
     u32 type = codes >> 16 & 15, power = ITEM_BITS >> 4 * type & 15, most = (1u << power) - 1;
     a[0] = a[1] = a[2] = 1;
     a[3] = 0;

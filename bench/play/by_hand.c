@@ -28,6 +28,21 @@ static inline u32 fields_bad(const u32 *f, u32 bits, int held) {
     }
     return bad;
 }
+// The highest of these fields that breaks its rule, and its bit, which is 0 where none does.
+static inline const u32 *highest_bad(const u32 *f, u32 bits, u32 *bad) {
+    bits &= FIXED;
+    while (bits & RULED) {
+        u32 bit = __builtin_clz(bits) ^ 31;
+        if (RULED >> bit & 1 && broken(bit, f, 0)) {
+            *bad = bit;
+            return f;
+        }
+        f += 1 + (TWO >> bit & 1);
+        bits ^= 1u << bit;
+    }
+    *bad = 0;
+    return f;
+}
 // The ones of n words.
 static inline u32 any(const u32 *w, size_t n) {
     u32 all = 0;

@@ -14,6 +14,20 @@ static inline u32 fields_bad(const u32 *f, u32 bits, int held) {
         }
     return bad;
 }
+// The highest of these fields that breaks its rule, and its bit, which is 0 where none does.
+static inline const u32 *highest_bad(const u32 *f, u32 bits, u32 *bad) {
+    UNROLLED
+    for (u32 bit = 30; bit >= 15; bit--)
+        if (bits >> bit & 1) {
+            if (broken(bit, f, 0)) {
+                *bad = bit;
+                return f;
+            }
+            f += size_of(bit);
+        }
+    *bad = 0;
+    return f;
+}
 // The ones of n words, two words at a time.
 static inline u64 any(const u32 *w, size_t n) {
     u64 all = n & 1 ? w[n - 1] : 0, two;

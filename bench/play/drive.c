@@ -82,6 +82,8 @@ static size_t stated(u32 *w, u32 s, u32 count) {
     w[n++] = word() & 0xff0ff0ff;
     return n;
 }
+// A data packet of no declared stream: there are at most 32.
+static size_t strange(u32 *w, u32 s, u32 count) { return data(w, 32 + s, count); }
 // A packet of any type with any parts and fields; in one of three, a bit or the size is changed, so that some
 // are refused for each reason.
 static size_t mixed(u32 *w, u32 s, u32 count) {
@@ -146,7 +148,8 @@ static u64 sum(u64 x, const u32 *w, size_t n) {
     return x;
 }
 int main(int argc, char **argv) {
-    // MODE KIND(0 data 1 context 2 mixed 3 context with state 4 data of 49A) STREAMS PACKETS; of mixed packets every second stream is by 49A
+    // MODE KIND(0 data 1 context 2 mixed 3 context with state 4 data of 49A 5 data of no declared stream) STREAMS PACKETS; of mixed packets every second
+    // stream is by 49A
     // modes: 0 no call, 1 a run of 0 packets, 2 a run of all, 3 a run of all and then one of 0 packets,
     // 4 a run from each packet, and after it one of 0 packets over a table with a bit changed
     if (argc != 5)
@@ -162,12 +165,13 @@ int main(int argc, char **argv) {
         t[1 + RECORD * s] = identifier(s);
         t[1 + RECORD * s + CHOICE] = kind == 4 || (kind == 2 && s % 2 == 0);
     }
+    static size_t (*const make[])(u32 *, u32, u32) = {data, context, mixed, stated, surveyed, strange};
     size_t n = 0;
     for (size_t i = 0; i < packets; i++) {
         u32 s = i % streams;
         last[s] = (last[s] + (any(8) ? 1 : 3)) % 16;
         places[i] = n;
-        n += (kind == 0 ? data : kind == 1 ? context : kind == 2 ? mixed : kind == 3 ? stated : surveyed)(w + n, s, last[s]);
+        n += make[kind](w + n, s, last[s]);
     }
     u64 r = 0, x = 0;
     if (mode == 1)

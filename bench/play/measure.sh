@@ -38,8 +38,8 @@ row() { # WHAT STREAMS PARTS C PROVED RESULTS
     awk -v w="$1" -v s="$2" -v n="$3" -v c="$4" -v r="$5" -v e="$6" 'BEGIN { printf "%-36s %6d %9.2f %8.2f  %.3f  %s\n", w, s, c / n, r / n, r / c, e }'
 }
 echo 'call                                 streams C by hand   proved  ratio  results'
-for k in 0 4 1 3; do
-    case $k in 0) what=data ;; 4) what='49A data' ;; 1) what='context of 6 fields' ;; *) what='6 fields, 22 and 16 too' ;; esac
+for k in 0 4 1 3 5; do
+    case $k in 0) what=data ;; 4) what='49A data' ;; 1) what='context of 6 fields' ;; 3) what='6 fields, 22 and 16 too' ;; *) what='data, refused: STREAM' ;; esac
     for s in 1 32; do
         row "a packet: $what" $s $n "$(between "$work/c" 2 1 $k $s)" "$(between "$work/r" 2 1 $k $s)" "$(compared 2 $k $s)"
     done

@@ -1,4 +1,5 @@
-// A run of packets over a table of streams, for both ways of C by hand. UNROLLED, copy, fields_bad and slots_bad are those of the file that includes this.
+// A run of packets over a table of streams, for both ways of C by hand. UNROLLED, copy, fields_bad, highest_bad and slots_bad are those of the file that
+// includes this. The checks give the number of a refusal; where it is, is worked out by refusal_of where a packet is refused, and not before.
 #include "../pad.h"
 typedef uint8_t u8;
 enum { EMPTY = 1, TYPE, BITS, SHORT, CUT, CLASS, TIME, INDICATOR, LAYOUT, FIELD, STREAM, TABLE = 18, PAD = 20 };
@@ -37,6 +38,34 @@ static __attribute__((noinline)) u32 check_context(const u32 *body, size_t n) {
     if (at != n)
         return LAYOUT;
     return bad | fields_bad(body + 1, bits, 0) ? FIELD : 0;
+}
+// FIELD of a context body that stands at a place of its packet: the highest field that breaks its rule, its bit and its place.
+static inline u32 field_refusal(const u32 *body, u32 place) {
+    u32 bits = body[0], bit;
+    const u32 *f = highest_bad(body + 1, bits, &bit);
+    if (!bit) {
+        f = body + 1 + words(bits);
+        bit = bits >> 9 & 1 && f[0] >> 24 ? 9 : 8;
+        if (bit == 8 && bits >> 9 & 1)
+            f += 2 + (size_t)f[1];
+    }
+    return FIELD | bit << 8 | (place + (u32)(f - body)) << 16;
+}
+// A refusal of the packet w as the library gives it: its number, of FIELD the field's bit from bit 8 on, and the place of its word from bit 16 on. Not inlined, so
+// that accepted packets do not pay for its registers.
+static __attribute__((noinline)) u32 refusal_of(u32 number, const u32 *w) {
+    if (number <= CUT)
+        return number;
+    u32 h = w[0], streamed = 0x3a >> (h >> 28) & 1, class = 1 + streamed;
+    u32 fraction = class + (h >> 26 & 2) + ((h >> 22 & 3) != 0), body = fraction + (h >> 20 & 3 ? 2 : 0);
+    switch (number) {
+    case CLASS: return CLASS | class << 16;
+    case TIME: return TIME | fraction << 16;
+    case FIELD: return field_refusal(w + body, body);
+    case STREAM: return STREAM | streamed << 16;
+    case PAD: return PAD | (h >> 27 & 1 ? class : 0) << 16;
+    default: return number | body << 16; // INDICATOR and LAYOUT
+    }
 }
 // The record of an identifier, and its stream; none where it is not declared.
 static inline u32 *seek(u32 *t, u32 identifier, long *stream) {
@@ -152,6 +181,15 @@ static inline long hear(const struct packet *p, u32 *missing) {
     *missing = more;
     return p->stream;
 }
+// The entry of a packet whose refusal ends the run.
+static __attribute__((noinline)) void enter_refusal(u32 *e, u32 number, const u32 *w) {
+    u32 refusal = refusal_of(number, w);
+    e[0] = number;
+    e[1] = 0;
+    e[2] = refusal >> 16;
+    e[3] = refusal >> 8 & 255;
+    e[4] = 0;
+}
 u64 c_play_run(u32 *t, size_t lt, const u32 *w, size_t n, size_t from, u32 *answers, size_t la) {
     if (!table_good(t, lt))
         return 0xffffffff00000000 | TABLE;
@@ -161,8 +199,7 @@ u64 c_play_run(u32 *t, size_t lt, const u32 *w, size_t n, size_t from, u32 *answ
         u32 *e = answers + ENTRY * done++;
         u32 refused = read_packet(t, w + at, n - at, &p), missing;
         if (refused) {
-            e[0] = refused;
-            e[1] = e[2] = e[3] = e[4] = 0;
+            enter_refusal(e, refused, w + at);
             break;
         }
         u32 size = w[at] & 0xffff;
@@ -170,7 +207,8 @@ u64 c_play_run(u32 *t, size_t lt, const u32 *w, size_t n, size_t from, u32 *answ
         e[1] = size;
         if (s < 0) {
             e[0] = STREAM;
-            e[2] = e[3] = e[4] = 0;
+            e[2] = 0x3a >> (w[at] >> 28) & 1;
+            e[3] = e[4] = 0;
         } else {
             e[0] = 0;
             e[2] = p.kind;

@@ -26,45 +26,45 @@ static size_t read_words(uint32_t *to, size_t most)
     return n;
 }
 
-/* Plays the packets that are there. `at` is the place after them. The number is that of the refusal
-   that ended the run, or VRT49_OK. */
+/* Plays the packets that are there. `at` is the place after them. Gives the refusal that ended the
+   run, with its place in the packet, or VRT49_OK. */
 static uint32_t play_words(size_t layout, size_t have, size_t *at)
 {
     size_t packets, i;
-    uint32_t number;
+    uint32_t refusal;
     do {
-        number = vrt49_play_entries(table, layout, words, have, *at, entries, ENTRIES, &packets,
-                                    at);
-        for (i = 0; number == VRT49_OK && i < packets; i++) {
+        refusal = vrt49_play_entries(table, layout, words, have, *at, entries, ENTRIES, &packets,
+                                     at);
+        for (i = 0; refusal == VRT49_OK && i < packets; i++) {
             if (entries[i].number == VRT49_OK) {
                 packets_of[entries[i].stream]++;
                 missing_of[entries[i].stream] += entries[i].missing;
             } else if (entries[i].number == VRT49_STREAM) {
                 undeclared++;
             } else {
-                number = entries[i].number;
+                refusal = vrt49_entry_refusal(&entries[i]);
             }
         }
-    } while (number == VRT49_OK && packets == ENTRIES);
-    return number;
+    } while (refusal == VRT49_OK && packets == ENTRIES);
+    return refusal;
 }
 
 /* Plays all that comes; `chunk` is how many words are asked for at a time. */
 static uint32_t play_stream(size_t layout, size_t chunk)
 {
     size_t have = 0, at, more;
-    uint32_t number;
+    uint32_t refusal;
     do {
         more = read_words(words + have, chunk);
         have += more;
         at = 0;
-        number = play_words(layout, have, &at);
-        if (number != VRT49_OK && number != VRT49_CUT)
-            return number;
+        refusal = play_words(layout, have, &at);
+        if (refusal != VRT49_OK && VRT49_NUMBER(refusal) != VRT49_CUT)
+            return refusal;
         have -= at;
         memmove(words, words + at, have * sizeof words[0]);
     } while (more == chunk);
-    return number; /* CUT here: the recording ends inside a packet */
+    return refusal; /* CUT here: the recording ends inside a packet */
 }
 
 static void print_streams(const uint32_t *ids, size_t streams, size_t layout)
@@ -85,18 +85,21 @@ static void print_streams(const uint32_t *ids, size_t streams, size_t layout)
 int main(int argc, char **argv)
 {
     size_t chunk = argc > 1 ? strtoul(argv[1], NULL, 10) : VRT49_PACKET_WORDS, layout;
-    uint32_t ids[VRT49_STREAMS_MAX], streams = 0, number = VRT49_LIST;
+    uint32_t ids[VRT49_STREAMS_MAX], streams = 0, refusal = VRT49_LIST;
     if (chunk < 1 || chunk > VRT49_PACKET_WORDS) /* a start of a packet and a chunk fit the words */
         return 2;
     if (read_words(&streams, 1) == 1 && streams <= VRT49_STREAMS_MAX &&
         read_words(ids, streams) == streams)
-        number = vrt49_start(ids, streams, plain, streams, table, sizeof table / sizeof table[0],
-                             &layout);
-    if (number == VRT49_OK) {
-        number = play_stream(layout, chunk);
+        refusal = vrt49_start(ids, streams, plain, streams, table, sizeof table / sizeof table[0],
+                              &layout);
+    if (refusal == VRT49_OK) {
+        refusal = play_stream(layout, chunk);
         print_streams(ids, streams, layout);
     }
-    if (number != VRT49_OK)
-        fprintf(stderr, "refused: %s\n", vrt49_name(number));
-    return number != VRT49_OK;
+    if (refusal == VRT49_LIST)
+        fputs("refused: LIST\n", stderr);
+    else if (refusal != VRT49_OK)
+        fprintf(stderr, "refused: %s, word %u of its packet\n", vrt49_name(refusal),
+                VRT49_PLACE(refusal));
+    return refusal != VRT49_OK;
 }

@@ -1,11 +1,24 @@
 /* tuning <RECORDING: what each stream is tuned to, at every packet that says it. A recording is
-   big-endian words, here 4 MB at most: the number of streams, their identifiers, packets. */
+   big-endian words, here 4 MB at most: the number of streams, their identifiers, packets. Where it
+   is refused, it says which word of which packet is at fault, and of FIELD which field. */
 #include <arpa/inet.h>
 #include <stdio.h>
 #include "vrt49.h"
 
 static uint32_t words[1 << 20], table[VRT49_TABLE_WORDS(VRT49_STREAMS_MAX)];
 static const uint32_t plain[VRT49_STREAMS_MAX] = {VRT49_PLAIN}; /* of each stream */
+
+/* What was refused at a word of the recording. LIST is of no packet, and has no place in one. */
+static void print_refusal(size_t at, uint32_t refusal)
+{
+    fprintf(stderr, "at word %zu refused: %s", at, vrt49_name(refusal));
+    if (VRT49_NUMBER(refusal) == VRT49_FIELD)
+        fprintf(stderr, " %u, %s", VRT49_BIT(refusal), vrt49_field_name(VRT49_BIT(refusal)));
+    if (VRT49_NUMBER(refusal) != VRT49_LIST)
+        fprintf(stderr, ", word %u of the packet, %zu of the recording", VRT49_PLACE(refusal),
+                at + VRT49_PLACE(refusal));
+    fputs("\n", stderr);
+}
 
 int main(void)
 {
@@ -37,6 +50,6 @@ int main(void)
         puts("");
     }
     if (number != VRT49_OK)
-        fprintf(stderr, "at word %zu refused: %s\n", at, vrt49_name(number));
+        print_refusal(at, number);
     return number != VRT49_OK;
 }
