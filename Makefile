@@ -86,6 +86,7 @@ vectors: python
 	python3 -B tools/reference/page_vectors.py crates/page_vectors/stdin crates/page_vectors/stdout
 	python3 -B tools/reference/panel_vectors.py crates/panel_vectors/stdin crates/panel_vectors/stdout
 	python3 -B tools/reference/streams_vectors.py crates/streams_vectors/stdin crates/streams_vectors/stdout
+	python3 -B tools/reference/index_vectors.py crates/index_vectors/stdin crates/index_vectors/stdout
 	python3 -B tools/reference/sample_packets.py samples/packets
 	python3 -B tools/reference/recordings.py samples/recordings
 endif

@@ -61,3 +61,6 @@ PAGE = 19
 
 abbrev pub PAD : ℕ
 PAD = 20
+
+abbrev pub PLACE : ℕ
+PLACE = 21

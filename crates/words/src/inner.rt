@@ -16,5 +16,6 @@ pub use powers::ones;
 pub use powers::power;
 pub use reads::high_first;
 pub use reads::word_at;
+pub use reads::word_inside;
 pub use tests::both_of;
 pub use tests::when_so;

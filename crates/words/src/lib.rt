@@ -14,6 +14,7 @@ pub use numbers::LAYOUT;
 pub use numbers::LIST;
 pub use numbers::PAD;
 pub use numbers::PAGE;
+pub use numbers::PLACE;
 pub use numbers::ROOM;
 pub use numbers::SHORT;
 pub use numbers::SIZE;

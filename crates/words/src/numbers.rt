@@ -59,3 +59,6 @@ pub const PAGE: u32 = 19;
 
 // 49A: class or trailer absent, a class that does not fit its table, or a payload that is not padding and whole sample vectors.
 pub const PAD: u32 = 20;
+
+// Jumping: a packet number above the packets that the index has taken in.
+pub const PLACE: u32 = 21;

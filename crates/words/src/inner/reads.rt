@@ -1,5 +1,5 @@
 // Words read: the one at a place, and two as one number.
-ghost use Rattle.words.specs.Kit.{_≡_, getD};
+ghost use Rattle.words.specs.Kit.{_≡_, _<_, length, getD};
 ghost use Rattle.words.specs.Word.{highFirst};
 
 // The word at a place, and 0 past the end.
@@ -7,6 +7,14 @@ pub fn word_at(ws: &[u32], i: usize) -> u32
     ensures { λ r. ⌜ r ≡ getD (now (ws .entry)) i 0 ⌝ }
 {
     if i < ws.len() { ws[i] } else { 0 }
+}
+
+// The word at a place that is inside.
+pub fn word_inside(ws: &[u32], i: usize) -> u32
+    requires { ⌜ i < length (now ws) ⌝ }
+    ensures { λ r. ⌜ r ≡ getD (now (ws .entry)) i 0 ⌝ }
+{
+    ws[i]
 }
 
 // Two words as one number, high first.

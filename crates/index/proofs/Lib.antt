@@ -1,0 +1,10 @@
+-- The laws of an index, each beside its kin.
+
+-- words of an entry
+pub mod ReadLaws
+-- words that are written into the contents
+pub mod WriteLaws
+-- a page saved into an index
+pub mod EnterLaws
+-- when contents are well made
+pub mod GoodLaws

@@ -1,0 +1,36 @@
+-- What the functions inside promise of a packet that is taken in, on a table and an index that are known to be well made.
+use Rattle.words.specs.Kit.{_≡_, ℕ, Bool, true, false, List}
+use Rattle.words.specs.Tests.{pick}
+use Rattle.words.specs.Outcome.{refused, accepted, saidOf, leftOf}
+use Rattle.words.specs.Told.{Told}
+use Rattle.table.specs.Well.{wellMade}
+use Rattle.play.specs.declared.Heard.{Heard}
+use Rattle.index.specs.Layout.{entriesIn, pagesEnd, withEntry}
+use Rattle.index.specs.Good.{indexGood}
+use Rattle.index_grow.specs.declared.Taken.{Taken}
+use Rattle.index_grow.specs.declared.Taken.the-variants.{Declared}
+use Rattle.index_grow.specs.declared.Grown.{Grown}
+use Rattle.index_grow.specs.Grow.{takenAs, entryLacks, tableTaken, growTold, grownPaper}
+
+-- both are well made
+pub record Ready (t ix : List ℕ) : Type 0 where
+  pub table : wellMade t ≡ true
+  pub index : indexGood ix ≡ true
+
+-- the answer r, and the table and the index afterwards. Where a page does not fit behind a packet that was played, the table is not as it was: the one that is
+-- played on there is a copy
+pub record GrownOn (t ws ix : List ℕ) (r : Grown) (left leftIndex : List ℕ) : Type 0 where
+  pub answer : grownPaper r ≡ saidOf (growTold t ws ix)
+  pub table : left ≡ tableTaken t ws
+  pub index : leftIndex ≡ leftOf (growTold t ws ix) (t, ix) .1
+
+-- what growing answers, by what play says and whether the recording goes on
+abbrev pub answerBy : Told Heard → Bool → ℕ → Told Taken
+answerBy (accepted h) continues size = accepted (Declared h)
+answerBy (refused r) true size = accepted (takenAs (refused r) size)
+answerBy (refused r) false size = refused r
+
+-- an entry of the table t is asked for behind a place: whether there was one more, and the index afterwards
+pub record EntryMade (t : List ℕ) (place : ℕ) (ix : List ℕ) (made : Bool) (left : List ℕ) : Type 0 where
+  pub fits : made ≡ pick (entryLacks t ix) false true
+  pub index : left ≡ pick made (withEntry (entriesIn ix) place (pagesEnd ix) t ix) ix

@@ -1,0 +1,72 @@
+// A packet taken in behind which the index keeps a page. It is played on a copy of the table, since the page may not fit: then nothing has changed, and nothing
+// is undone.
+ghost use Rattle.words.specs.Kit.{_≡_, true};
+ghost use Rattle.words.specs.Outcome.{Meets};
+ghost use Rattle.index.specs.Layout.{pagesEnd};
+ghost use Rattle.index.specs.Good.{indexGood};
+ghost use Rattle.index_grow.specs.Grow.{reachesEntry, growTold, grownPaper};
+ghost use Rattle.index_grow.specs.inner.Steps.{Ready, GrownOn, EntryMade};
+use crate::Grown;
+
+// The words of the longest table.
+const MOST_TABLE: usize = 2849;
+
+// Where the pages of an index end.
+fn pages_end(index: &[u32]) -> usize
+    requires { ⌜ indexGood (now index) ≡ true ⌝ }
+    ensures { λ r. ⌜ r ≡ pagesEnd (now (index .entry)) ⌝ }
+{
+    let last = index::inner::entries_in(index) - 1;
+    index::inner::entry_offset(index, last) + index::inner::entry_length(index, last)
+}
+
+// Makes the next entry of an index, of a table, and tells whether there was room for it.
+fn add_entry(table: &[u32], index: &mut [u32], place: u64) -> bool
+    requires { ⌜ Ready (now table) (now index) ⌝ }
+    ensures { λ r. ⌜ EntryMade (now (table .entry)) place (now (index .entry)) r (now (index .exit)) ⌝ }
+{
+    let j = index::inner::entries_in(index);
+    if index::inner::MOST_ENTRIES <= j {
+        return false;
+    }
+    let offset = pages_end(index);
+    if 0xFFFF_FFFF < offset {
+        return false;
+    }
+    match index::inner::make_entry(table, index, j, place, offset) {
+        words::Length::Accepted(_) => true,
+        words::Length::Refused(_) => false,
+    }
+}
+
+// Takes the packet in on a table that may be changed.
+fn grow_copy(table: &mut [u32], given: &[u32], index: &mut [u32]) -> Grown
+    requires { ⌜ Ready (now table) (now index) × (reachesEntry (now index) ≡ true) ⌝ }
+    ensures { λ r. ⌜ GrownOn (now (table .entry)) (now (given .entry)) (now (index .entry)) r (now (table .exit)) (now (index .exit)) ⌝ }
+{
+    let s = crate::packets::play_next(table, given);
+    if s.continues {
+        let n = index::inner::packets_taken(index) + 1;
+        let place = index::inner::place_reached(index) + s.next as u64;
+        if !add_entry(table, index, place) {
+            return crate::packets::refuse(words::ROOM);
+        }
+        index::inner::write_reached(index, n, place);
+    }
+    crate::packets::answer_of(s.answer, s.continues, s.next)
+}
+
+// Takes the packet in: on a copy of the table's layout, which is copied back where it is accepted.
+pub fn grow_to_entry(table: &mut [u32], given: &[u32], index: &mut [u32]) -> Grown
+    requires { ⌜ Ready (now table) (now index) × (reachesEntry (now index) ≡ true) ⌝ }
+    ensures { λ r. ⌜ Meets grownPaper (growTold (now (table .entry)) (now (given .entry)) (now (index .entry))) (now (table .entry), now (index .entry)) r (now (table .exit), now (index .exit)) ⌝ }
+{
+    let mut space = [0u32; MOST_TABLE];
+    let length = table::inner::layout_words(table::inner::streams(table));
+    words::inner::copy_part(&mut space, 0, table, 0, length);
+    let answer = grow_copy(&mut space[0..length], given, index);
+    if let Grown::Accepted(_) = answer {
+        words::inner::copy_part(table, 0, &space, 0, length);
+    }
+    answer
+}

@@ -1,0 +1,73 @@
+// A packet taken in: played, and counted.
+ghost use Rattle.words.specs.Kit.{_≡_, true, false};
+ghost use Rattle.words.specs.declared.Where.the-variants.{Nowhere};
+ghost use Rattle.words.specs.Outcome.{refused};
+ghost use Rattle.words.specs.Told.{refusal};
+ghost use Rattle.table.specs.Well.{wellMade};
+ghost use Rattle.play.specs.Play.{playedPaper};
+ghost use Rattle.play.specs.Run.{Stepped};
+ghost use Rattle.index_grow.specs.Grow.{reachesEntry, grownPaper};
+ghost use Rattle.index_grow.specs.inner.Steps.{Ready, GrownOn, answerBy};
+use crate::Grown;
+use crate::Stranger;
+use crate::Taken;
+
+// A refusal that has no place.
+pub fn refuse(number: u32) -> Grown
+    ensures { λ r. ⌜ grownPaper r ≡ refused (refusal number Nowhere) ⌝ }
+{
+    Grown::Refused(words::Refusal {
+        number,
+        place: words::Where::Nowhere,
+    })
+}
+
+// Plays the packet at the front of the words on a table that is known to be well made.
+pub fn play_next(table: &mut [u32], given: &[u32]) -> play::inner::Happened
+    requires { ⌜ wellMade (now table) ≡ true ⌝ }
+    ensures { λ r. ⌜ Stepped (now (table .entry)) (now (given .entry)) 0 r (now (table .exit)) ⌝ }
+{
+    if given.len() == 0 {
+        return play::inner::Happened {
+            answer: play::Played::Refused(words::Refusal {
+                number: words::EMPTY,
+                place: words::Where::Word(0),
+            }),
+            continues: false,
+            next: 0,
+        };
+    }
+    play::inner::step(table, given, 0)
+}
+
+// What growing answers, from play's answer: the refusal where reading refuses the packet, and else what is said of it.
+pub fn answer_of(answer: play::Played, continues: bool, size: usize) -> Grown
+    ensures { λ r. ⌜ grownPaper r ≡ answerBy (playedPaper answer) continues size ⌝ }
+{
+    match answer {
+        play::Played::Accepted(h) => Grown::Accepted(Taken::Declared(h)),
+        play::Played::Refused(r) => {
+            if continues {
+                return Grown::Accepted(Taken::Undeclared(Stranger {
+                    size,
+                    place: words::inner::word_of(r.place),
+                }));
+            }
+            Grown::Refused(r)
+        }
+    }
+}
+
+// Takes a packet in behind which there is no entry.
+pub fn grow_on(table: &mut [u32], given: &[u32], index: &mut [u32]) -> Grown
+    requires { ⌜ Ready (now table) (now index) × (reachesEntry (now index) ≡ false) ⌝ }
+    ensures { λ r. ⌜ GrownOn (now (table .entry)) (now (given .entry)) (now (index .entry)) r (now (table .exit)) (now (index .exit)) ⌝ }
+{
+    let s = play_next(table, given);
+    if s.continues {
+        let n = index::inner::packets_taken(index) + 1;
+        let place = index::inner::place_reached(index) + s.next as u64;
+        index::inner::write_reached(index, n, place);
+    }
+    answer_of(s.answer, s.continues, s.next)
+}

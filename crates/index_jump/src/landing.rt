@@ -1,0 +1,76 @@
+// A landing in words of its own: the entry's page put back there, and the packets from its boundary on.
+ghost use Rattle.words.specs.Kit.{_≡_, true, _≤_, _<_, length};
+ghost use Rattle.table.specs.Well.{wellMade};
+ghost use Rattle.index.specs.Layout.{packetsTaken, entriesIn, pageIn};
+ghost use Rattle.index.specs.Good.{indexGood};
+ghost use Rattle.index_jump.specs.Onward.{behindPackets};
+ghost use Rattle.index_jump.specs.inner.Steps.{WalkedTo, LandedIn};
+use crate::Jumped;
+use crate::Landed;
+
+// The words of the longest table.
+pub const MOST_TABLE: usize = 2849;
+
+// Plays n packets from a place on, on a table that is known to be well made, and gives the place behind them; PAGE where the recording ends before.
+fn walk(table: &mut [u32], given: &[u32], from: usize, n: usize) -> words::Length
+    requires { ⌜ wellMade (now table) ≡ true ⌝ }
+    ensures { λ r. ⌜ WalkedTo (behindPackets n (now (given .entry)) from (now (table .entry))) r (now (table .exit)) ⌝ }
+{
+    let mut at = from;
+    let mut i = 0;
+    while i < n {
+        if given.len() <= at {
+            return words::Length::Refused(words::PAGE);
+        }
+        let s = play::inner::step(table, given, at);
+        if !s.continues {
+            return words::Length::Refused(words::PAGE);
+        }
+        at = s.next;
+        i += 1;
+    }
+    words::Length::Accepted(at)
+}
+
+// The page of entry j.
+fn page_in(index: &[u32], j: usize) -> &[u32]
+    requires { ⌜ (indexGood (now index) ≡ true) × (j < entriesIn (now index)) ⌝ }
+    ensures { λ r. ⌜ now r ≡ pageIn (now (index .entry)) j ⌝ }
+{
+    let at = index::inner::entry_offset(index, j);
+    let end = at + index::inner::entry_length(index, j);
+    &index[at..end]
+}
+
+// Lands just before packet n in the words that are lent, which have room for the longest table; tells the layout's length, and the word place in the recording.
+pub fn land(given: &[u32], first: u64, index: &[u32], n: usize, space: &mut [u32]) -> Jumped
+    requires { ⌜ (indexGood (now index) ≡ true) × (n ≤ packetsTaken (now index)) × (length (now space) ≡ 2849) ⌝ }
+    ensures { λ r. ⌜ LandedIn (now (given .entry)) first (now (index .entry)) n r (now (space .exit)) ⌝ }
+{
+    let j = n / index::inner::SPACING;
+    let back = page::put_back(page_in(index, j), space);
+    let words::Length::Accepted(length) = back else {
+        return Jumped::Refused(words::PAGE);
+    };
+    let place = index::inner::entry_place(index, j);
+    if place < first {
+        return Jumped::Refused(words::PAGE);
+    }
+    if (given.len() as u64) < place - first {
+        return Jumped::Refused(words::PAGE);
+    }
+    let from = (place - first) as usize;
+    let reached = walk(
+        &mut space[0..length],
+        given,
+        from,
+        n % index::inner::SPACING,
+    );
+    let words::Length::Accepted(at) = reached else {
+        return Jumped::Refused(words::PAGE);
+    };
+    Jumped::Accepted(Landed {
+        length,
+        place: first + at as u64,
+    })
+}
