@@ -1251,6 +1251,11 @@ def full_contents():
         ({2052: 8}, False), ({2052: 0, 2053: ONES}, True),
     ):
         probe(stores, good)
+    # The first words of the pages as an entry more, which would be right.
+    back = hold(CONTENTS, 0, 0, end_of_pages(m.index), 0)
+    probe({0: 1025, 1: 1048576}, False, 1023 * 1024, PAGE)
+    probe({0: 1024, 1: 1048575}, True, 1023 * 1024, ACCEPTED)
+    poke(*back)
 
 
 # Entries and recordings that are not as they were.
