@@ -4,6 +4,8 @@
 pub mod BodyLaws
 -- the page of some bodies, and the table of some records
 pub mod LayoutLaws
+-- words past a table's layout
+pub mod AloneLaws
 -- when contents are right
 pub mod ContentsLaws
 -- save and put back undo each other, and the tests accept exactly the pages that are saved

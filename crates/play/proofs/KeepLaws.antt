@@ -21,6 +21,7 @@ use Rattle.table.proofs.RecordLaws.{record-length, record-identifier, record-wi
 use Rattle.table.proofs.WellLaws.{well-whole, well-record, layout-has, list-with, well-with}
 use Rattle.play.specs.declared.Heard.{Heard}
 use Rattle.play.specs.Play.{heardOf, tableAfter, tableList, chosen, stepOf, playOf, playTold}
+use Rattle.play.specs.Run.{leftAt}
 use Rattle.play.specs.inner.Steps.{soughtOf}
 use Rattle.play.proofs.StreamLaws.{sought-below}
 use Rattle.play.proofs.PlayLaws.{step-read, play-step, play-refuses}
@@ -151,6 +152,11 @@ play-kept t ws =
 pub play-keeps : (t ws : List ℕ) → Kept t (leftOf (playTold t ws) t)
 unfolding playTold
 play-keeps t ws = rw (told-left (whereOf ws) (playOf t ws) t) (play-kept t ws)
+
+-- of the packet at a place
+pub kept-at : (t ws : List ℕ) (at : ℕ) → Kept t (leftAt t ws at)
+unfolding leftAt
+kept-at t ws at = play-keeps t (drop at ws)
 
 -- an accepted packet was read and has a stream, and the table was well made
 pub play-taken : (t ws : List ℕ) (d : Done Heard (List ℕ)) → playTold t ws ≡ accepted d → (wellMade t ≡ true) × Taken t ws d

@@ -6,6 +6,10 @@ pub mod StreamLaws
 pub mod PlayLaws
 -- what play keeps
 pub mod KeepLaws
+-- words past a table's layout
+pub mod AloneLaws
+-- words behind a packet
+pub mod BeyondLaws
 -- what the checks of the table and of a packet found
 pub mod CheckedLaws
 -- the entry of one packet, and the answers that are made of it

@@ -35,7 +35,7 @@ use Rattle.play.specs.Run.{Walk, ended, before, walkOf, wholeWalk, reach
 use Rattle.packet.specs.inner.Steps.{Placeable}
 use Rattle.play.specs.inner.Entered.{Entered, Noted, unreadEntry}
 use Rattle.play.proofs.PlayLaws.{made-well}
-use Rattle.play.proofs.KeepLaws.{Kept, nothing-changed, play-keeps}
+use Rattle.play.proofs.KeepLaws.{Kept, nothing-changed, kept-at}
 use Rattle.play.proofs.EntryLaws.{unread, noted-on, noted-placeable, noted-stopped, entered-rest, entered-lent, size-next, size-on}
 
 -- ---- an entry
@@ -147,8 +147,7 @@ module _ (most from at n : ℕ) (ws t₀ buffer₀ t buffer : List ℕ) (p : Run
   module _ (less : n < most) (room : most ≡ length buffer₀ / entryWords) (there : at < length ws) (x : Entry) (left written : List ℕ)
       (entered : Entered t ws at x left) (w : written ≡ put (entryWords * n) entryWords (wordsOfEntry x) buffer) where
     kept : Kept t left
-    unfolding leftAt
-    kept = rw (entered .table) (play-keeps t (drop at ws))
+    kept = rw (entered .table) (kept-at t ws at)
 
     abbrev more : Walk
     more = pick (goesOn (saidAt t ws at)) (walkOf (most - (n + 1)) ws (nextOf t ws at) (leftAt t ws at)) (ended (nextOf t ws at) (leftAt t ws at))
@@ -276,10 +275,6 @@ kept-then {a} {b} {c} p q = record {
   past = ap (λ (n : ℕ). drop (base n) c) (sym (p .streams)) ∙ q .past ∙ ap (λ (n : ℕ). drop (base n) b) (p .streams) ∙ p .past;
 }
 
-left-kept : (t ws : List ℕ) (at : ℕ) → Kept t (leftAt t ws at)
-unfolding leftAt
-left-kept t ws at = play-keeps t (drop at ws)
-
 -- a table stays well made, with its length, its list and the words past its layout
 pub walk-keeps : (n : ℕ) (ws : List ℕ) (at : ℕ) (t : List ℕ) → Kept t (walkOf n ws at t .table)
 unfolding walkOf
@@ -291,5 +286,5 @@ walk-keeps (suc n) ws at t =
   where
     on-kept : (g : Bool) → Kept (leftAt t ws at) (walkOf n ws (nextOf t ws at) (leftAt t ws at) .table)
         → Kept t (pick g (walkOf n ws (nextOf t ws at) (leftAt t ws at)) (ended (nextOf t ws at) (leftAt t ws at)) .table)
-    on-kept true k = kept-then (left-kept t ws at) k
-    on-kept false k = left-kept t ws at
+    on-kept true k = kept-then (kept-at t ws at) k
+    on-kept false k = kept-at t ws at

@@ -10,5 +10,7 @@ pub mod ListLaws
 pub mod WellLaws
 -- a stream's number, and whether 49A is chosen for an identifier
 pub mod StreamLaws
+-- words past a table's layout
+pub mod AloneLaws
 -- a fresh table
 pub mod StartLaws
