@@ -1,5 +1,5 @@
 /* vrt49.h: the calls of libvrt49: VITA 49.0 packets, and the data packets of 49A, payloads, tables,
-   pages and readings.
+   pages, indexes and readings.
 
    The rules are those of document 01, the scope that the owner of this project wrote, as the change
    requests of document 02 have changed it: docs/PACKET.md, docs/LAYOUT.md and docs/MANUAL.md say
@@ -7,9 +7,9 @@
 
    A call answers a number: VRT49_OK, which is 0, where it is accepted, and only there; else the
    number of the first refusal that applies (enum vrt49_refusal). vrt49_field_count and
-   vrt49_well_made refuse nothing and answer their value. What vrt49_read, vrt49_read_survey and
-   vrt49_play answer says besides which word of the packet is refused: VRT49_NUMBER, VRT49_PLACE and
-   VRT49_BIT take it apart. A refusal changes nothing that was handed over.
+   vrt49_well_made refuse nothing and answer their value. What vrt49_read, vrt49_read_survey,
+   vrt49_play and vrt49_grow answer says besides which word of the packet is refused: VRT49_NUMBER,
+   VRT49_PLACE and VRT49_BIT take it apart. A refusal changes nothing that was handed over.
 
    Words are numbers of 32 bits in the host's own order: a recording's bytes are put into that order
    before a call sees them (examples/c/tuning.c does it). A buffer is a pointer and its number of
@@ -24,9 +24,10 @@
    vrt49_save, vrt49_put_back, vrt49_reading, vrt49_readings, vrt49_held_words, vrt49_identity,
    vrt49_counts and vrt49_own_table test a whole table each time, 270 to 530 instructions for each
    stream that holds six fields, and vrt49_changed tests two; of a stream's fields vrt49_readings
-   gives all for one test. vrt49_play_run is the fast one: it tests the table once, and then takes
-   109 instructions for a sample packet, 212 for one of 49A, and 6 for each stream before its own
-   (docs/SPEED.md).
+   gives all for one test. vrt49_start_index tests a table too, vrt49_grow a table and the contents
+   of an index, which have up to 1,024 entries, and vrt49_jump these contents. vrt49_play_run is the
+   fast one: it tests the table once, and then takes 109 instructions for a sample packet, 212 for
+   one of 49A, and 6 for each stream before its own (docs/SPEED.md).
 
    What a caller owes: every pointer is valid, and aligned as its type asks; a buffer has as many
    entries as its number says, and an array of a fixed length, such as levels[2], has them all; a
@@ -41,7 +42,7 @@
 #include <stdint.h>
 
 #define VRT49_VERSION_MAJOR 0
-#define VRT49_VERSION_MINOR 16
+#define VRT49_VERSION_MINOR 17
 #define VRT49_VERSION_PATCH 0
 
 #ifdef __cplusplus
@@ -66,21 +67,24 @@ enum vrt49_refusal {
     VRT49_STREAM = 11,   /* no identifier, one not declared, or a stream number not in the table */
     VRT49_LIST = 12,     /* 0 or over 32 identifiers, or one twice; or choices that are not one for
                             each, or are not 0 or 1 */
-    VRT49_ROOM = 13,     /* a buffer to be written is too short */
+    VRT49_ROOM = 13,     /* a buffer to be written is too short, or an index is full */
     VRT49_VALUE = 14,    /* a number does not fit its bits, type or range; a bit is not 30 to 10 */
     VRT49_SIZE = 15,     /* a packet to be written, or a page, exceeds 65,535 words */
     VRT49_FORMAT = 16,   /* the payload format is refused, or an item width is outside 1 to 64 */
     VRT49_COUNT = 17,    /* wrong number of items, which come in whole groups, or of words */
     VRT49_TABLE = 18,    /* table not well made */
-    VRT49_PAGE = 19,     /* page not well made */
-    VRT49_PAD = 20       /* 49A: class or trailer absent, a class that does not fit its table, or a
+    VRT49_PAGE = 19,     /* page not well made; or an index: its contents, or an entry, not well
+                            made, or one from which the recording does not reach the packet */
+    VRT49_PAD = 20,      /* 49A: class or trailer absent, a class that does not fit its table, or a
                             payload that is not whole sample vectors and its padding */
+    VRT49_PLACE = 21     /* a packet's number is above those that the index has taken in */
 };
 
-/* A refusal as vrt49_read, vrt49_read_survey and vrt49_play give it: its number, in bits 7-0; of
-   FIELD the bit of the field, in bits 15-8, which are 0 of every other; and the place of the word
-   that is refused, in bits 31-16: from the packet's header on, whose place is 0. Each macro gives
-   one of them, and evaluates the refusal once. Of VRT49_OK all three are 0.
+/* A refusal as vrt49_read, vrt49_read_survey, vrt49_play and vrt49_grow give it: its number, which
+   stands in bits 7-0; of FIELD the bit of the field, in bits 15-8, which are 0 of every other; and
+   the place of the word that is refused, in bits 31-16: from the packet's header on, whose place is
+   0. Each macro gives one of them, and evaluates the refusal once. Of VRT49_OK all three are 0. The
+   name VRT49_PLACE without brackets is none of them: it is the refusal 21.
 
        uint32_t refusal = vrt49_read(words, n, &packet);
        if (VRT49_NUMBER(refusal) == VRT49_FIELD)
@@ -126,6 +130,7 @@ static inline const char *vrt49_name(uint32_t number)
     case VRT49_TABLE: return "TABLE";
     case VRT49_PAGE: return "PAGE";
     case VRT49_PAD: return "PAD";
+    case VRT49_PLACE: return "PLACE";
     default: return "?";
     }
 }
@@ -138,6 +143,14 @@ static inline const char *vrt49_name(uint32_t number)
 #define VRT49_TABLE_WORDS(s) (1 + 89 * (s))  /* the layout of a table of s streams */
 #define VRT49_PAGE_WORDS(s) (2 + 90 * (s))   /* a page of s streams, at most */
 #define VRT49_ITEMS_MAX 2097120              /* items that are packed or unpacked at once */
+
+/* Of an index: the words of its contents, the entries that they have room for, the packets from an
+   entry to the next, and the words of an index of so many entries of s streams, at most. A full one
+   has taken in 1,048,575 packets. */
+#define VRT49_INDEX_CONTENTS 4100
+#define VRT49_INDEX_ENTRIES 1024
+#define VRT49_INDEX_SPACING 1024
+#define VRT49_INDEX_WORDS(s, entries) (VRT49_INDEX_CONTENTS + (entries) * VRT49_PAGE_WORDS(s))
 
 /* How the data packets of a stream, of type 1, are read: a word for each identifier of a list. */
 enum vrt49_choice {
@@ -389,8 +402,9 @@ typedef struct vrt49_heard {
     uint32_t missing; /* counts passed over before it, 0 to 15 */
 } vrt49_heard;
 
-/* What a run says of each packet. Where it is refused, the members type and stream have the place
-   and the bit of the refusal; vrt49_entry_refusal gives all three in one. */
+/* What a run says of each packet, and vrt49_grow of the one that it takes in. Where it is refused,
+   the members type and stream have the place and the bit of the refusal; vrt49_entry_refusal gives
+   all three in one. */
 typedef struct vrt49_entry {
     uint32_t number;  /* 0, or the number of a refusal alone */
     uint32_t size;    /* words that the run goes on by; 0 where a refusal ends it */
@@ -569,6 +583,42 @@ uint32_t vrt49_save(const uint32_t *table, size_t table_n, uint32_t *page, size_
 uint32_t vrt49_put_back(const uint32_t *page, size_t page_n, uint32_t *table, size_t table_n,
                         size_t *length);
 
+/* ---- the index beside a recording
+
+   An index has an entry for packet 0 and one for every 1,024th packet behind it: the packet's word
+   place, and the page of the table just before it. So the table just before any packet is played
+   from an entry on, over 1,023 packets at most.
+
+   Packets are numbered from 0, as vrt49_play_run goes on over them: one of no declared stream has a
+   number, and any other refusal ends the recording. Word places count from packet 0 on. A list in
+   front of it, such as S and the identifiers of a recording's file, is not among them. An index is
+   good for the recording, the list and the choices that it was grown over. */
+
+/* Starts an index beside a recording, of the table just before packet 0: TABLE, ROOM. Other words
+   of the index stay. length: the words that the index takes, VRT49_INDEX_CONTENTS and those of the
+   table's page; vrt49_index_words gives them of one that has grown. */
+uint32_t vrt49_start_index(const uint32_t *table, size_t table_n, uint32_t *index, size_t index_n,
+                           size_t *length);
+
+/* Takes the recording's next packet in: TABLE, PAGE (of the contents), EMPTY to FIELD (as in
+   reading), PAD, ROOM. A refusal has its place, as that of vrt49_play; TABLE, PAGE and ROOM have
+   none. The table is the one that the last packet left, and is played on. words: the recording's
+   from the packet on, its own alone or any that stand behind them too; where none is left it is
+   EMPTY. answer: the packet's entry, as vrt49_entry names it; a packet of no declared stream is
+   taken in, with VRT49_STREAM in its entry. vrt49_grow_entry takes the entry by name. ROOM is given
+   where the page of the next entry does not fit, so that the index goes on when it is moved into a
+   longer buffer; and where all entries are there. */
+uint32_t vrt49_grow(uint32_t *table, size_t table_n, const uint32_t *words, size_t words_n,
+                    uint32_t *index, size_t index_n, uint32_t answer[5]);
+
+/* Gives the table just before packet n, which is 0 to the packets taken in: PAGE (of the contents),
+   PLACE, PAGE (of the entry), ROOM. words: the recording's from the word place first on; those from
+   vrt49_index_from to vrt49_index_to are enough. Words past the layout stay. length: the layout's
+   words. place: the word place of packet n. */
+uint32_t vrt49_jump(const uint32_t *words, size_t words_n, uint64_t first, const uint32_t *index,
+                    size_t index_n, uint64_t n, uint32_t *table, size_t table_n, size_t *length,
+                    uint64_t *place);
+
 /* ---- readings for the panel */
 
 /* What the panel shows of a stream's field: TABLE, STREAM, VALUE. vrt49_shown says what each value
@@ -724,6 +774,59 @@ static inline uint32_t vrt49_entry_refusal(const vrt49_entry *entry)
     if (entry->number == VRT49_OK)
         return VRT49_OK;
     return entry->number | entry->stream << 8 | entry->type << 16;
+}
+
+/* vrt49_grow with an entry: TABLE, PAGE (of the contents), EMPTY to FIELD (as in reading), PAD,
+   ROOM. */
+static inline uint32_t vrt49_grow_entry(uint32_t *table, size_t table_n, const uint32_t *words,
+                                        size_t words_n, uint32_t *index, size_t index_n,
+                                        vrt49_entry *answer)
+{
+    return vrt49_grow(table, table_n, words, words_n, index, index_n, (uint32_t *)answer);
+}
+
+/* What the contents of an index say: of one that vrt49_start_index or vrt49_grow has left, or that
+   vrt49_jump has accepted. Nothing is tested, and nothing is refused.
+
+   The entries, and the packets that were taken in. */
+static inline uint64_t vrt49_index_entries(const uint32_t *index)
+{
+    return index[0];
+}
+
+static inline uint64_t vrt49_index_packets(const uint32_t *index)
+{
+    return index[1];
+}
+
+/* The word place behind the last packet that was taken in: there the next one stands, which
+   vrt49_grow asks for. */
+static inline uint64_t vrt49_index_reached(const uint32_t *index)
+{
+    return (uint64_t)index[2] << 32 | index[3];
+}
+
+/* The words that a jump to packet n plays lie from the first of these word places, the entry's, up
+   to the second, the next entry's or the place reached. n is at most the packets taken in. */
+static inline uint64_t vrt49_index_from(const uint32_t *index, uint64_t n)
+{
+    const uint32_t *entry = index + 4 + 4 * (n / VRT49_INDEX_SPACING);
+    return (uint64_t)entry[0] << 32 | entry[1];
+}
+
+static inline uint64_t vrt49_index_to(const uint32_t *index, uint64_t n)
+{
+    uint64_t next = n / VRT49_INDEX_SPACING + 1;
+    if (next < vrt49_index_entries(index))
+        return vrt49_index_from(index, VRT49_INDEX_SPACING * next);
+    return vrt49_index_reached(index);
+}
+
+/* The words that the index takes: its contents, and its pages. */
+static inline size_t vrt49_index_words(const uint32_t *index)
+{
+    const uint32_t *last = index + 4 * (size_t)vrt49_index_entries(index);
+    return (size_t)last[2] + last[3];
 }
 
 /* vrt49_reading into a struct: TABLE, STREAM, VALUE. */

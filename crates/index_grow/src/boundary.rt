@@ -1,11 +1,11 @@
 // A packet taken in behind which the index keeps a page. It is played on a copy of the table, since the page may not fit: then nothing has changed, and nothing
 // is undone.
-ghost use Rattle.words.specs.Kit.{_≡_, true};
+ghost use Rattle.words.specs.Kit.{_≡_, true, _^_, _<_};
 ghost use Rattle.words.specs.Outcome.{Meets};
 ghost use Rattle.index.specs.Layout.{pagesEnd};
 ghost use Rattle.index.specs.Good.{indexGood};
 ghost use Rattle.index_grow.specs.Grow.{reachesEntry, growTold, grownPaper};
-ghost use Rattle.index_grow.specs.inner.Steps.{Ready, GrownOn, EntryMade};
+ghost use Rattle.index_grow.specs.inner.Steps.{Ready, GrownOn, EntryMade, EntryTaken};
 use crate::Grown;
 
 // The words of the longest table.
@@ -20,8 +20,8 @@ fn pages_end(index: &[u32]) -> usize
     index::inner::entry_offset(index, last) + index::inner::entry_length(index, last)
 }
 
-// Makes the next entry of an index, of a table, and tells whether there was room for it.
-fn add_entry(table: &[u32], index: &mut [u32], place: u64) -> bool
+// Makes the next entry of an index, of a table at a word place, and tells whether there was room for it.
+fn make_next(table: &[u32], index: &mut [u32], place: u64) -> bool
     requires { ⌜ Ready (now table) (now index) ⌝ }
     ensures { λ r. ⌜ EntryMade (now (table .entry)) place (now (index .entry)) r (now (index .exit)) ⌝ }
 {
@@ -39,21 +39,34 @@ fn add_entry(table: &[u32], index: &mut [u32], place: u64) -> bool
     }
 }
 
+// Makes the next entry, of a table behind a packet of so many words, and counts the packet; tells whether there was room.
+fn take_entry(table: &[u32], index: &mut [u32], size: usize) -> bool
+    requires { ⌜ Ready (now table) (now index) × (size < 2 ^ 16) ⌝ }
+    ensures { λ r. ⌜ EntryTaken (now (table .entry)) size (now (index .entry)) r (now (index .exit)) ⌝ }
+{
+    let n = index::inner::packets_taken(index) + 1;
+    let place = index::inner::place_reached(index) + size as u64;
+    if !make_next(table, index, place) {
+        return false;
+    }
+    index::inner::write_reached(index, n, place);
+    true
+}
+
 // Takes the packet in on a table that may be changed.
 fn grow_copy(table: &mut [u32], given: &[u32], index: &mut [u32]) -> Grown
     requires { ⌜ Ready (now table) (now index) × (reachesEntry (now index) ≡ true) ⌝ }
     ensures { λ r. ⌜ GrownOn (now (table .entry)) (now (given .entry)) (now (index .entry)) r (now (table .exit)) (now (index .exit)) ⌝ }
 {
     let s = crate::packets::play_next(table, given);
-    if s.continues {
-        let n = index::inner::packets_taken(index) + 1;
-        let place = index::inner::place_reached(index) + s.next as u64;
-        if !add_entry(table, index, place) {
-            return crate::packets::refuse(words::ROOM);
-        }
-        index::inner::write_reached(index, n, place);
+    let answer = s.answer;
+    if !s.continues {
+        return crate::packets::answer_of(answer, false, 0);
     }
-    crate::packets::answer_of(s.answer, s.continues, s.next)
+    if !take_entry(table, index, s.next) {
+        return crate::packets::refuse(words::ROOM);
+    }
+    crate::packets::answer_of(answer, true, s.next)
 }
 
 // Takes the packet in: on a copy of the table's layout, which is copied back where it is accepted.

@@ -1,13 +1,14 @@
 // A packet taken in: played, and counted.
-ghost use Rattle.words.specs.Kit.{_≡_, true, false};
+ghost use Rattle.words.specs.Kit.{_≡_, true, false, _^_, _<_};
 ghost use Rattle.words.specs.declared.Where.the-variants.{Nowhere};
 ghost use Rattle.words.specs.Outcome.{refused};
 ghost use Rattle.words.specs.Told.{refusal};
 ghost use Rattle.table.specs.Well.{wellMade};
 ghost use Rattle.play.specs.Play.{playedPaper};
 ghost use Rattle.play.specs.Run.{Stepped};
+ghost use Rattle.index.specs.Good.{indexGood};
 ghost use Rattle.index_grow.specs.Grow.{reachesEntry, grownPaper};
-ghost use Rattle.index_grow.specs.inner.Steps.{Ready, GrownOn, answerBy};
+ghost use Rattle.index_grow.specs.inner.Steps.{Ready, GrownOn, answerBy, countedIn};
 use crate::Grown;
 use crate::Stranger;
 use crate::Taken;
@@ -40,22 +41,38 @@ pub fn play_next(table: &mut [u32], given: &[u32]) -> play::inner::Happened
     play::inner::step(table, given, 0)
 }
 
-// What growing answers, from play's answer: the refusal where reading refuses the packet, and else what is said of it.
+// What growing answers of a packet that play refuses: where the recording goes on, that it is of no declared stream.
+fn answer_unheard(r: words::Refusal, continues: bool, size: usize) -> Grown
+    ensures { λ k. ⌜ grownPaper k ≡ answerBy (refused r) continues size ⌝ }
+{
+    if continues {
+        let place = r.place;
+        return Grown::Accepted(Taken::Undeclared(Stranger {
+            size,
+            place: words::inner::word_of(place),
+        }));
+    }
+    Grown::Refused(r)
+}
+
+// What growing answers, from play's answer.
 pub fn answer_of(answer: play::Played, continues: bool, size: usize) -> Grown
     ensures { λ r. ⌜ grownPaper r ≡ answerBy (playedPaper answer) continues size ⌝ }
 {
     match answer {
         play::Played::Accepted(h) => Grown::Accepted(Taken::Declared(h)),
-        play::Played::Refused(r) => {
-            if continues {
-                return Grown::Accepted(Taken::Undeclared(Stranger {
-                    size,
-                    place: words::inner::word_of(r.place),
-                }));
-            }
-            Grown::Refused(r)
-        }
+        play::Played::Refused(r) => answer_unheard(r, continues, size),
     }
+}
+
+// Counts a packet of so many words.
+pub fn count_packet(index: &mut [u32], size: usize)
+    requires { ⌜ (indexGood (now index) ≡ true) × (size < 2 ^ 16) ⌝ }
+    ensures { λ _. ⌜ now (index .exit) ≡ countedIn size (now (index .entry)) ⌝ }
+{
+    let n = index::inner::packets_taken(index) + 1;
+    let place = index::inner::place_reached(index) + size as u64;
+    index::inner::write_reached(index, n, place);
 }
 
 // Takes a packet in behind which there is no entry.
@@ -64,10 +81,10 @@ pub fn grow_on(table: &mut [u32], given: &[u32], index: &mut [u32]) -> Grown
     ensures { λ r. ⌜ GrownOn (now (table .entry)) (now (given .entry)) (now (index .entry)) r (now (table .exit)) (now (index .exit)) ⌝ }
 {
     let s = play_next(table, given);
-    if s.continues {
-        let n = index::inner::packets_taken(index) + 1;
-        let place = index::inner::place_reached(index) + s.next as u64;
-        index::inner::write_reached(index, n, place);
+    let answer = s.answer;
+    if !s.continues {
+        return answer_of(answer, false, 0);
     }
-    answer_of(s.answer, s.continues, s.next)
+    count_packet(index, s.next);
+    answer_of(answer, true, s.next)
 }

@@ -1,16 +1,16 @@
 -- What the functions inside promise of a packet that is taken in, on a table and an index that are known to be well made.
-use Rattle.words.specs.Kit.{_≡_, ℕ, Bool, true, false, List}
+use Rattle.words.specs.Kit.{_≡_, ℕ, _+_, Bool, true, false, not, List}
 use Rattle.words.specs.Tests.{pick}
 use Rattle.words.specs.Outcome.{refused, accepted, saidOf, leftOf}
 use Rattle.words.specs.Told.{Told}
 use Rattle.table.specs.Well.{wellMade}
 use Rattle.play.specs.declared.Heard.{Heard}
-use Rattle.index.specs.Layout.{entriesIn, pagesEnd, withEntry}
+use Rattle.index.specs.Layout.{entriesIn, placeReached, pagesEnd, withReached, withEntry}
 use Rattle.index.specs.Good.{indexGood}
 use Rattle.index_grow.specs.declared.Taken.{Taken}
 use Rattle.index_grow.specs.declared.Taken.the-variants.{Declared}
 use Rattle.index_grow.specs.declared.Grown.{Grown}
-use Rattle.index_grow.specs.Grow.{takenAs, entryLacks, tableTaken, growTold, grownPaper}
+use Rattle.index_grow.specs.Grow.{takenAs, packetsThen, entryLacks, tableTaken, growTold, grownPaper}
 
 -- both are well made
 pub record Ready (t ix : List ℕ) : Type 0 where
@@ -30,7 +30,19 @@ answerBy (accepted h) continues size = accepted (Declared h)
 answerBy (refused r) true size = accepted (takenAs (refused r) size)
 answerBy (refused r) false size = refused r
 
--- an entry of the table t is asked for behind a place: whether there was one more, and the index afterwards
+-- the index with a packet of so many words counted
+unfoldable pub countedIn : ℕ → List ℕ → List ℕ
+countedIn size ix = withReached (packetsThen ix) (placeReached ix + size) ix
+
+-- the next entry is asked for, of the table t at a word place: whether there was one, and the index afterwards
+abbrev pub withNext : List ℕ → ℕ → List ℕ → List ℕ
+withNext t place ix = withEntry (entriesIn ix) place (pagesEnd ix) t ix
+
 pub record EntryMade (t : List ℕ) (place : ℕ) (ix : List ℕ) (made : Bool) (left : List ℕ) : Type 0 where
-  pub fits : made ≡ pick (entryLacks t ix) false true
-  pub index : left ≡ pick made (withEntry (entriesIn ix) place (pagesEnd ix) t ix) ix
+  pub fits : made ≡ not (entryLacks t ix)
+  pub index : left ≡ pick made (withNext t place ix) ix
+
+-- the same behind a packet of so many words, which is counted
+pub record EntryTaken (t : List ℕ) (size : ℕ) (ix : List ℕ) (made : Bool) (left : List ℕ) : Type 0 where
+  pub fits : made ≡ not (entryLacks t ix)
+  pub index : left ≡ pick made (withReached (packetsThen ix) (placeReached ix + size) (withNext t (placeReached ix + size) ix)) ix

@@ -1,0 +1,10 @@
+-- The laws of growing, each beside its kin.
+
+-- what an index that is well made has
+pub mod ReadyLaws
+-- the next entry of an index
+pub mod EntryLaws
+-- a packet that is played
+pub mod PacketLaws
+-- what growing answers and leaves
+pub mod GrowLaws
