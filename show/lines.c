@@ -313,13 +313,14 @@ static void line_refused(const packet *at, uint32_t refusal)
 
 /* ---- rows of CSV */
 
+const char VALUE_COLUMNS[] = "rf_hz,if_hz,rf_offset_hz,if_band_offset_hz,bandwidth_hz,"
+                             "sample_rate_hz,level_dbm,gain_1_db,gain_2_db,temperature_c,state";
+
 void tell_columns(const survey *all)
 {
     printf("packet,word,event,stream,identifier,type,missing,unsure_since,refusal,name,changed,"
-         "in_doubt,tsi,seconds,tsf,fraction,rf_hz,if_hz,rf_offset_hz,if_band_offset_hz,"
-         "bandwidth_hz,sample_rate_hz,level_dbm,gain_1_db,gain_2_db,temperature_c,state%s,place,"
-         "bit\n",
-           all->chosen_n != 0 ? ",items,format,vector" : "");
+           "in_doubt,tsi,seconds,tsf,fraction,%s%s,place,bit\n",
+           VALUE_COLUMNS, all->chosen_n != 0 ? ",items,format,vector" : "");
 }
 
 /* The value of a row's field, of a gain both; nothing where it is absent or there is no stream. */
@@ -346,6 +347,14 @@ static void put_state_cell(const stream *of)
     putchar(',');
     if (of && holds_state(of))
         printf("0x%08" PRIX32, of->state);
+}
+
+void put_cells(const stream *of)
+{
+    size_t i;
+    for (i = 0; i < VALUES_N; i++)
+        put_cell(of, VALUES[i].bit);
+    put_state_cell(of);
 }
 
 /* The items of a row's packet, what they are, and the vector size: items,format,vector. Nothing
@@ -416,15 +425,12 @@ static void row(const survey *all, const stream *of, const packet *at, const cha
 {
     vrt49_survey read;
     int good = at && read_at(at, &read);
-    size_t i;
     put_who(all, of, at, good ? &read.packet : NULL, event);
     printf(",%s,", what);
     if (of)
         printf("0x%08" PRIX32, of->doubt.fields);
     put_when(good ? &read.packet : NULL);
-    for (i = 0; i < VALUES_N; i++)
-        put_cell(of, VALUES[i].bit);
-    put_state_cell(of);
+    put_cells(of);
     if (all->chosen_n != 0)
         put_samples_cells(at, &read);
     put_place_cells(at);
@@ -521,10 +527,17 @@ void tell_refused(const survey *all, const packet *at, uint32_t refusal)
 
 /* ---- the summary */
 
-/* Packets that were seen and missing, of each type that is counted. */
-static void put_counts(const survey *all, const stream *of)
+void put_heads(void)
+{
+    printf("\n%-17s%24s%24s%24s%24s\n%-17s%24s%24s%24s%24s\n", "", "data (1)",
+           "extension data (3)", "Context (4)", "extension Context (5)", "stream identifier",
+           "seen   missing", "seen   missing", "seen   missing", "seen   missing");
+}
+
+void put_packets(const survey *all, const stream *of)
 {
     size_t i;
+    printf("%6d 0x%08" PRIX32, (int)(of - all->streams), of->identifier);
     for (i = 0; i < COUNTED_N; i++) {
         vrt49_count count = counted(all, of, COUNTED[i]);
         if (count.started)
@@ -548,11 +561,10 @@ static void put_strangers(const survey *all)
         printf("not declared: no identifier, packets %s\n", grouped(all->unnamed));
 }
 
-/* What a stream holds at the end: its last tuning, and its state where it has one. */
-static void put_last(const stream *of)
+void put_held(const stream *of, const char *what)
 {
     uint32_t held = of->held & VALUE_FIELDS;
-    printf("       last tuning: ");
+    printf("       %s: ", what);
     if (held != 0)
         put_fields(of, NULL, held);
     else
@@ -579,10 +591,9 @@ static void put_survey(const stream *of)
    and where it had no tuning or one that cannot be trusted. */
 static void put_summary(const survey *all, const stream *of)
 {
-    printf("%6d 0x%08" PRIX32, (int)(of - all->streams), of->identifier);
-    put_counts(all, of);
+    put_packets(all, of);
     put_survey(of);
-    put_last(of);
+    put_held(of, "last tuning");
     if (of->untuned != 0)
         printf("       without a tuning: %s data packets\n", grouped(of->untuned));
     if (of->doubt.total == 0 && of->doubt.fields == 0)
@@ -595,9 +606,7 @@ void tell_summary(const survey *all, const recording *from)
 {
     const stream *of;
     if (all->streams_n != 0)
-        printf("\n%-17s%24s%24s%24s%24s\n%-17s%24s%24s%24s%24s\n", "", "data (1)",
-               "extension data (3)", "Context (4)", "extension Context (5)", "stream identifier",
-               "seen   missing", "seen   missing", "seen   missing", "seen   missing");
+        put_heads();
     for (of = all->streams; of < all->streams + all->streams_n; of++)
         put_summary(all, of);
     printf("\npackets %s, missing %s", grouped(all->packets), grouped(all->missing));

@@ -52,9 +52,39 @@ void refill(recording *from)
     from->ended = got <= 0;
     used += got > 0 ? (size_t)got : 0;
     from->bytes += got > 0 ? (uint64_t)got : 0;
+    if (!from->live && from->size < from->bytes)
+        from->size = from->bytes; /* it has grown */
     from->have = used / 4;
     from->loose = used % 4;
     (from->little ? from_little : from_big)(from->words + left, from->have - left);
+}
+
+void seek_to(recording *from, uint64_t word)
+{
+    from->before = word;
+    from->bytes = 4 * word;
+    from->have = from->at = from->loose = 0;
+    from->ended = 0;
+    from->failed = 0;
+    if (lseek(from->file, (off_t)(from->start + from->bytes), SEEK_SET) < 0)
+        from->failed = errno;
+}
+
+size_t read_words(recording *from, uint64_t word, uint32_t *into, size_t n)
+{
+    unsigned char *bytes = (unsigned char *)into;
+    size_t used = 0;
+    ssize_t got = 1;
+    while (used < 4 * n && got != 0) {
+        got = pread(from->file, bytes + used, 4 * n - used,
+                    (off_t)(from->start + 4 * word + used));
+        if (got < 0 && errno != EINTR)
+            break;
+        used += got > 0 ? (size_t)got : 0;
+    }
+    from->failed = got < 0 ? errno : 0;
+    (from->little ? from_little : from_big)(into, used / 4);
+    return used / 4;
 }
 
 int tail_of(const recording *from)

@@ -84,8 +84,7 @@ static void show(stream *of)
                               &length), "vrt49_held_words");
 }
 
-/* Starts the own tables of the streams from the table of all. */
-static void start_streams(survey *all)
+void take_streams(survey *all)
 {
     size_t s, length;
     for (s = 0; s < all->streams_n; s++) {
@@ -124,8 +123,7 @@ static void note_unlisted(survey *all, const uint32_t *ids, size_t n)
     }
 }
 
-/* Starts the tables from the list at the front: 0 or LIST. */
-static uint32_t start(survey *all, recording *from)
+uint32_t start(survey *all, recording *from)
 {
     uint32_t number, choices[VRT49_STREAMS_MAX];
     do
@@ -140,7 +138,7 @@ static uint32_t start(survey *all, recording *from)
         return number;
     note_unlisted(all, from->words + 1, from->words[0]);
     all->streams_n = from->words[0];
-    start_streams(all);
+    take_streams(all);
     from->at = 1 + all->streams_n;
     return VRT49_OK;
 }

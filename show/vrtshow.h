@@ -1,7 +1,9 @@
 /* vrtshow.h: what the files of vrtshow share. recording.c hands over a recording's words, survey.c
    plays them and sees what happens, doubt.c knows which fields of a tuning are in doubt, columns.c
    gathers it all for the picture, lines.c says it as lines, as CSV and as a summary, picture.c
-   draws it, and vrtshow.c is the program. Nothing is allocated: all memory is fixed. */
+   draws it, and vrtshow.c is the program. index.c keeps an index beside the recording, in a file
+   that store.c reads and writes; jump.c finds the table just before a packet, and table.c says it.
+   All memory is fixed, but for the words that a jump plays: these are asked for then. */
 #ifndef VRTSHOW_H
 #define VRTSHOW_H
 #include <stdint.h>
@@ -20,7 +22,8 @@ typedef struct {
     int failed;         /* errno of a read that failed, or 0 */
     int live;           /* 1 where its bytes may come slowly: it is no regular file */
     int shown;          /* 1 where it is shown how far it is */
-    uint64_t size;      /* the bytes of a regular file, from where it is read; else 0 */
+    uint64_t start;     /* the byte of a regular file from which it is read; else 0 */
+    uint64_t size;      /* the bytes of a regular file, from there on; else 0 */
     uint64_t bytes;     /* that were read so far */
     uint64_t before;    /* words that came before words[0] */
     size_t have;        /* words that are there, */
@@ -31,6 +34,12 @@ typedef struct {
 
 /* Moves the words that were not played to the front, and reads what there is behind them. */
 void refill(recording *from);
+
+/* Goes to a word of a regular file: what is read next begins there. */
+void seek_to(recording *from, uint64_t word);
+
+/* Reads words of a regular file from a place on: gives how many, fewer where it ends before. */
+size_t read_words(recording *from, uint64_t word, uint32_t *into, size_t n);
 
 /* How many bytes stand behind the recording's last whole word, 0 to 3. Of a regular file that was
    not read to its end its size says it; else those that were read. */
@@ -127,6 +136,12 @@ typedef struct {
     size_t words_n;
 } packet;
 
+/* Starts the tables from the list at the front of the recording: 0 or LIST. */
+uint32_t start(survey *all, recording *from);
+
+/* Takes what the streams hold from the table of all. */
+void take_streams(survey *all);
+
 /* Plays the whole recording, and prints what happens in the survey's manner. Where a read fails it
    ends there, and no refusal is printed; it does not begin where an identifier that was chosen for
    49A is not in the list. */
@@ -204,6 +219,19 @@ void tell_refused(const survey *all, const packet *at, uint32_t refusal);
 /* What each stream did, and where the recording ended. */
 void tell_summary(const survey *all, const recording *from);
 
+/* The heads of the columns that count packets; and a stream under them: its number, its identifier,
+   and its packets. */
+void put_heads(void);
+void put_packets(const survey *all, const stream *of);
+
+/* What a stream holds of the values, in one line, and of the state, in another where it has one. */
+void put_held(const stream *of, const char *what);
+
+/* The values of a stream as cells of CSV, with a comma before each, and the names of their columns;
+   the state last. */
+void put_cells(const stream *of);
+extern const char VALUE_COLUMNS[];
+
 /* A refusal, why it is given, and where; word: the refused word's place in the recording, as
    text. */
 void put_refusal(FILE *out, uint32_t refusal, const char *word);
@@ -217,6 +245,61 @@ const char *grouped(uint64_t number);
 
 /* A number without commas, in a buffer that is used again. */
 const char *ungrouped(uint64_t number);
+
+/* ---- the table just before a packet */
+
+/* Plays packets up to number n, and says nothing: all->packets is n then, or fewer where the
+   recording ends before, by all->stopped_by or at its end. */
+void play_to(survey *all, recording *from, uint64_t n);
+
+/* Says the table, of a packet and its word in the recording, as lines or as CSV. */
+void tell_table(const survey *all, uint64_t number, uint64_t place);
+
+/* ---- the index beside a recording */
+
+enum { INDEX_ROOM = VRT49_INDEX_WORDS(VRT49_STREAMS_MAX, VRT49_INDEX_ENTRIES) };
+
+typedef struct {
+    const char *path;  /* its file */
+    int there;         /* 1 where the file is there */
+    uint64_t front;    /* the words of the recording before packet 0 */
+    uint32_t ended_by; /* what the packet behind it was refused with; 0 where none was tried */
+    uint32_t words[INDEX_ROOM];
+} index_file;
+
+/* Takes the index from its file, or starts one where there is none; the survey was started. Where
+   the file has no index, or not one of this recording's list, it says so, and ends. */
+void take_index(index_file *kept, const survey *all, const recording *from);
+
+/* Takes in what the recording has behind the packets that were taken in, and writes the file. The
+   survey has the table behind them then, and the recording goes on there. */
+void grow_index(index_file *kept, survey *all, recording *from);
+
+/* Gives the survey the table just before packet n, which was taken in; and its word in the
+   recording. */
+uint64_t jump_to(const index_file *kept, survey *all, recording *from, uint64_t n);
+
+/* How many packets were taken in, and where the recording or the index ended. */
+void tell_index(const index_file *kept, const recording *from);
+
+/* ---- files of words, big-endian */
+
+/* Reads the words of a regular file: gives how many. -1: there is none; -2: it has no whole words,
+   or more than so many. Where it cannot be read it says so, and ends. */
+long load_words(const char *path, uint32_t *into, size_t most);
+
+/* Writes words into a file beside it, which takes its place when it is whole. */
+void store_words(const char *path, const uint32_t *words, size_t n);
+
+/* ---- the end */
+
+/* Says what is wrong with a file, by the system, and ends; and the same in the program's words. */
+enum { REFUSED = 1, TROUBLE = 2 };
+void trouble(const char *file, const char *what);
+void wrong_file(const char *file, const char *what);
+
+/* Takes how far it is from the terminal. */
+void end_progress(void);
 
 /* ---- the picture */
 

@@ -9,13 +9,16 @@ worked out twice: packet by packet, and for each field and each loss by itself; 
 the same.  The picture is parsed: every column with packets missing, with Context packets
 missing, with packets refused, and every span whose tuning cannot be trusted must have its
 mark, with the right packets and number, and nothing else has one; the bands and the centres
-must be those of the reference, and its head must say what was refused, and where.  The first
-difference ends the program with status 1.
+must be those of the reference, and its head must say what was refused, and where.  The table
+just before a packet must be that of table.py, with an index and without one, and the file of an
+index have the words that index.py gives.  The first difference ends the program with status 1.
 """
 
+import copy
 import os
 import pty
 import re
+import resource
 import subprocess
 import sys
 import tempfile
@@ -32,7 +35,9 @@ HERE = Path(__file__).resolve().parent
 ROOT = HERE.parent.parent
 sys.path.insert(0, str(HERE.parent / "reference"))
 
+import index
 import make_survey
+import page
 import panel
 import table
 import vrt49
@@ -864,6 +869,187 @@ def recording_of(ids, *packets):
     return to_bytes([len(ids), *ids, *(word for words in packets for word in words)])
 
 
+# Tables just before a packet, and indexes.
+
+EVERY, MOST_TAKEN = 1024, 1_048_575
+
+
+class Walk:
+    """The packets of a recording as an index numbers them: the word in the file and, for the
+    numbers asked for, the table just before each; and how it ends."""
+
+    def __init__(self, data, chosen=(), wanted=None):
+        words = vrtplay.words_of(data)
+        self.table, self.front = vrtplay.started(words) or [], 1 + words[0]
+        for stream in self.table:
+            stream["choice"] = int(stream["identifier"] in chosen)
+        self.places, self.tables = [self.front], {0: copy.deepcopy(self.table)}
+        self.refused, at = None, self.front
+        while at < len(words):
+            answer = table.play(self.table, words[at : at + max(1, vrt49.size_of(words[at]))])
+            if answer[0] == "refused" and answer[1] != STREAM:
+                _, number, offset, bit = answer
+                self.refused = Event("refused", None, at, refusal=number, offset=offset, bit=bit)
+                break
+            at += vrt49.size_of(words[at])
+            self.places.append(at)
+            number = len(self.places) - 1
+            if wanted is None or number in wanted or number % EVERY == 0:
+                self.tables[number] = copy.deepcopy(self.table)
+        self.packets, self.end, self.tail = len(self.places) - 1, at, len(data) % 4
+        self.tables[self.packets] = self.table
+
+    def index(self):
+        """The words of its index: contents, of which those that are not used are 0, and pages."""
+        entries = range(0, self.packets + 1, EVERY)
+        made = [len(entries), self.packets, *index.two_words(self.places[-1] - self.front)]
+        pages = []
+        for number in entries:
+            saved = page.page_of(self.tables[number])
+            place = index.two_words(self.places[number] - self.front)
+            made += [*place, index.CONTENTS_WORDS + len(pages), len(saved)]
+            pages += saved
+        return made + [0] * (index.CONTENTS_WORDS - len(made)) + pages
+
+    def index_line(self):
+        size = len(self.index())
+        text = f"packets {self.packets:,}, entries {self.packets // EVERY + 1:,}, words {size:,}; "
+        if self.refused:
+            return f"{text}stopped at word {self.end}: {self.refused.why()}"
+        return f"{text}end {self.end} tail {self.tail}"
+
+
+def heads():
+    named = ("data (1)", "extension data (3)", "Context (4)", "extension Context (5)")
+    yield ""
+    yield " " * 17 + "".join(f"{head:>24}" for head in named)
+    yield "stream identifier" + f"{'seen   missing':>24}" * 4
+
+
+def table_lines(found, number, place):
+    said = [f"at {place} packet {number}: the table just before it", *heads()]
+    for at, stream in enumerate(found):
+        line = f"{at:>6} 0x{stream['identifier']:08X}"
+        for kind in COUNTED_TYPES:
+            count = stream["counts"][kind]
+            started = count["last"] is not None
+            pair = (f"{count['seen']:,}", f"{count['missing']:,}") if started else ("-", "-")
+            line += f"{pair[0]:>14} {pair[1]:>9}"
+        held = stream["held"]
+        tuning = [f"{VALUES[b][0]} {shown(held, b)} {VALUES[b][1]}" for b in VALUES if b in held]
+        said += [line, *["       49A"] * stream["choice"]]
+        said.append(f"       tuning: {', '.join(tuning) or 'none'}")
+        if 16 in held:
+            said.append(f"       state: {state_text(held)}")
+    return said
+
+
+TABLE_HEAD = "packet,word,stream,identifier,choice,held," + CSV_HEAD.split(",fraction,")[1]
+TABLE_HEAD += "".join(f",seen_{kind},missing_{kind},last_{kind}" for kind in COUNTED_TYPES)
+
+
+def table_rows(found, number, place):
+    said = [TABLE_HEAD]
+    for at, stream in enumerate(found):
+        held = stream["held"]
+        row = [number, place, at, f"0x{stream['identifier']:08X}", stream["choice"], mask(held)]
+        for bit in VALUES:
+            blank = [""] * (2 if bit == 23 else 1)
+            row += [exact(value) for value in values_of(held, bit)] if bit in held else blank
+        row.append(f"0x{held[16][0]:08X}" if 16 in held else "")
+        for kind in COUNTED_TYPES:
+            count = stream["counts"][kind]
+            started = count["last"] is not None
+            row += [count["seen"], count["missing"], count["last"]] if started else [""] * 3
+        said.append(",".join(map(str, row)))
+    return said
+
+
+def says(what, done, wanted, errors=(), status=0):
+    """What a run prints, line by line, on standard error too, and its status."""
+    for out, lines in ((done.stdout, wanted), (done.stderr, errors)):
+        for number, (one, two) in enumerate(zip_longest(lines, out.decode().splitlines())):
+            if one != two:
+                differs(what, f"line {number}", f"expected {one}", f"printed  {two}")
+    if done.returncode != status:
+        differs(what, f"status {done.returncode}, not {status}")
+    tried["runs"] += 1
+
+
+def fewer(walk, number, name):
+    """What is said where a recording has not so many packets."""
+    many = f"it has {walk.packets:,} packets, to word {walk.end}"
+    yield f"vrtshow: {name}: packet {number} refused 21 PLACE: {many}"
+    if walk.refused:
+        yield f"vrtshow: {name}: stopped at word {walk.end}: {walk.refused.why()}"
+
+
+def hold_table(what, walk, number, arguments, name, **given):
+    """The table just before a packet, as lines and as CSV."""
+    for option, wanted in ([], table_lines), (["--csv"], table_rows):
+        done = run("--at", number, *option, *arguments, **given)
+        if number > walk.packets:
+            says(what, done, [], fewer(walk, number, name), 1)
+        else:
+            says(what, done, wanted(walk.tables[number], number, walk.places[number]))
+        tried["tables"] += 1
+
+
+def hold_index(what, walk, path):
+    """The words of the file of an index."""
+    wanted, found = to_bytes(walk.index()), path.read_bytes() if path.exists() else b""
+    if wanted != found:
+        pairs = enumerate(zip_longest(wanted, found))
+        at = next(at for at, (one, two) in pairs if one != two)
+        differs(what, f"{len(found)} bytes, not {len(wanted)}; they differ at word {at // 4}")
+    alone(what, path)
+    tried["indexes"] += 1
+
+
+def alone(what, path):
+    """Nothing is left beside the file of an index."""
+    if left := [file.name for file in path.parent.glob(path.name + ".*")]:
+        differs(what, f"left beside it: {left}")
+
+
+def fresh(name="index"):
+    path = Path(folder.name, name)
+    path.unlink(missing_ok=True)
+    return path
+
+
+def hold_tables(what, data, numbers, chosen=(), orders=("big", "little")):
+    """Tables of a recording without an index, with one that is made at the first of them, and
+    with one that was made before."""
+    walk = Walk(data, chosen, set(numbers))
+    choices = ["--survey", ",".join(map(str, chosen))] if chosen else []
+    for order in orders:
+        path, kept = file_of(data if order == "big" else little(data)), fresh()
+        options = [*choices, *["-l"] * (order == "little")]
+        known = f"{what}, {order}"
+        for number in numbers:
+            hold_table(f"{known}, --at {number}", walk, number, [*options, path], path)
+            more = [*options, "--index", kept, path]
+            hold_table(f"{known}, --at {number}, index", walk, number, more, path)
+        hold_index(known, walk, kept)
+        kept = fresh()
+        stopped = [f"vrtshow: {path}: stopped at word {walk.end}: {walk.refused.why()}"] if walk.refused else []
+        for again in (1, 2):
+            done = run("--index", kept, path, *options)
+            says(f"{known}, --index", done, [walk.index_line()], stopped, bool(stopped))
+            hold_index(known, walk, kept)
+    given = [*choices, "-"]
+    hold_table(f"{what}, by a pipe", walk, numbers[-1], given, "standard input", data=data)
+    return walk
+
+
+def around_of(packets):
+    """Numbers of packets around the boundaries that an index has, and around the end."""
+    edges = {0, 1, packets // 2, packets - 1, packets, packets + 1, packets + EVERY}
+    edges |= {at + by for at in range(EVERY, packets + 1, EVERY) for by in (-1, 0, 1)}
+    return sorted(edge for edge in edges if edge >= 0)
+
+
 # The groups.
 
 
@@ -1392,6 +1578,20 @@ def outside():
         (["--survey"], "--survey: has no identifiers behind it"),
         ([survey, "--survey"], "--survey: has no identifiers behind it"),
         (["--survey", "7", survey, "--survey", "7"], "--survey: one too many"),
+        (["--at"], "--at: has no packet behind it"), (["--at", 1, "--at", 1], "--at: one too many"),
+        (["--index"], "--index: has no index file behind it"),
+        (["--index", never, survey, "--index", never], "--index: one too many"),
+        (["--at", 1, "--svg", never, survey], "--svg: not with --at or --index"),
+        (["--index", never, "--svg", never, survey], "--svg: not with --at or --index"),
+        (["--at", 1, "-a", survey], "-a: not with --at or --index"),
+        (["--index", never, "-a", survey], "-a: not with --at or --index"),
+        (["-q", "--at", 1, survey], "-q: not with --at or --index"),
+        (["--index", never, survey, "-q"], "-q: not with --at or --index"),
+        (["--index", never, survey, "--csv"], "--csv: not with --index alone"),
+        *(
+            (["--at", text, survey], f"{text}: is not the number of a packet")
+            for text in ("", "x", "1x", "-1", "+1", " 1", "1 ", "0x1", "1.0", "18446744073709551616")
+        ),
         *(
             (["--survey", text, survey], f"{text}: is not a list of 1 to 32 identifiers")
             for text in (
@@ -1601,6 +1801,207 @@ def tails():
         tried["runs"] += 1
 
 
+def tables():
+    """The table just before packets of the samples, and of surveys with all that there is."""
+    for path in sorted((ROOT / "samples" / "recordings").glob("*.vrt")):
+        data = path.read_bytes()
+        if vrtplay.started(vrtplay.words_of(data)):
+            packets = Walk(data).packets
+            numbers = sorted({0, 1, packets // 2, packets, packets + 1})
+            hold_tables(path.name, data, numbers[::-1], orders=("big",))
+            continue
+        story, named, kept = Story(data), file_of(data), fresh()
+        error = f"vrtshow: {named}: stopped at word 0: {story.stopped.why()}"
+        for more in ([], ["--index", kept], ["--csv"]):
+            done = run("--at", 0, *more, named)
+            if done.stdout or done.returncode != 1 or done.stderr.decode().splitlines()[0] != error:
+                differs(f"{path.name}, no list", done)
+            tried["runs"] += 1
+        if kept.exists():
+            differs(f"{path.name}, no list", "an index is written")
+    for streams, packets, sparing, seed in ((1, 2049, 0, 31), (3, 3100, 2, 32), (32, 1500, 9, 33)):
+        data = make_survey.survey(packets, streams, seed, 9, 2, loss=0.02, sparing=sparing)
+        hold_tables(f"survey of {streams} streams", data, around_of(packets))
+    for end in make_survey.ENDS:
+        data = make_survey.survey(1026, 4, 34, 10, payload=3, loss=0.02, end=end)
+        numbers = [1030, 1026, 1025, 1024, 1023, 3]
+        hold_tables(f"survey that ends with {end}", data, numbers, orders=("big",))
+    mixed = [surveyed(7, 1 + i % 13, i % 2, 1 + i % 5, 1 + i % 3, i) for i in range(40)]
+    plain_ones = [packet(1, [i], identifier=9, count=i % 16) for i in range(30)]
+    data = recording_of([9, 7], *mixed, *plain_ones, surveyed(7, 3)[:-1])
+    hold_tables("49A", data, [0, 1, 39, 40, 41, 69, 70, 71], chosen=[7])
+    hold_tables("49A, not chosen", data, [0, 1, 2], orders=("big",))
+
+
+def indexes():
+    """The file of an index: made, gone on with, left alone, and what is said of others."""
+    data = make_survey.survey(2600, 3, 41, 12, 2, loss=0.02, sparing=1)
+    words = vrtplay.words_of(data)
+    whole = Walk(data)
+    # a recording that grows, cut at packets, inside words and inside packets
+    kept, path = fresh(), Path(folder.name, "growing")
+    cuts = [0, 1, 700, 1023, 1024, 1025, 1999, 2047, 2048, 2049, 2600]
+    for number, extra in [(at, by) for at in cuts for by in (0, 3, 4)]:
+        path.write_bytes(data[: 4 * whole.places[number] + extra])
+        walk, done = Walk(path.read_bytes()), run("--index", kept, path)
+        errors = [f"vrtshow: {path}: stopped at word {walk.end}: {walk.refused.why()}"] if walk.refused else []
+        says(f"grown to {number}, {extra}", done, [walk.index_line()], errors, bool(errors))
+        hold_index(f"grown to {number}, {extra}", walk, kept)
+    # packets of every length, more of them than are read at once
+    sizes = [65535, 3, 65534, 2, 40000, 65535, 65535, 65535, 65535, 1000, 65535]
+    long = [packet(1, [i] * (size - 2), identifier=7, count=i % 16) for i, size in enumerate(sizes)]
+    hold_tables("long packets", recording_of([7], *long), [11, 10, 5, 0], orders=("big",))
+    # one whose index does not reach the packet goes on, and one that does stays
+    kept = fresh()
+    path.write_bytes(data[: 4 * whole.places[1500]])
+    run("--index", kept, path)
+    short = kept.read_bytes()
+    path.write_bytes(data)
+    hold_table("in reach", whole, 1024, ["--index", kept, path], path)
+    if kept.read_bytes() != short:
+        differs("in reach", "the index is written")
+    hold_table("out of reach", whole, 2048, ["--index", kept, path], path)
+    hold_index("out of reach", whole, kept)
+    good = kept.read_bytes()
+    # by a link, which stays one; with the rights that it had
+    link = fresh("link")
+    link.symlink_to(kept)
+    kept.write_bytes(short)
+    kept.chmod(0o640)
+    says("a link", run("--index", link, path), [whole.index_line()])
+    hold_index("a link", whole, kept)
+    if not link.is_symlink() or kept.stat().st_mode & 0o777 != 0o640:
+        differs("a link", "it is none any more, or its file has other rights")
+
+    def left(what, content, text, *more, name=path):
+        kept.write_bytes(content)
+        for asked in ([], ["--at", 2100], ["--at", 3]):
+            done = run(*asked, "--index", kept, *more, name)
+            says(f"{what} {asked}", done, [], [f"vrtshow: {text}"], 2)
+            if kept.read_bytes() != content:
+                differs(what, "it is written over")
+            alone(what, kept)
+
+    # a disk that is full leaves the old one
+    kept.write_bytes(short)
+    command = [*COMMAND, "--index", str(kept), str(path)]
+    least = (resource.RLIMIT_FSIZE, (8192, 8192))
+    done = subprocess.run(
+        command, capture_output=True, restore_signals=False,
+        preexec_fn=lambda: resource.setrlimit(*least),
+    )
+    says("a full disk", done, [], [f"vrtshow: {kept}: cannot be written: File too large"], 2)
+    alone("a full disk", kept)
+    if kept.read_bytes() != short:
+        differs("a full disk", "the old index is not there any more")
+
+    # what is no index, and damaged contents
+    no_index = f"{kept}: refused 19 PAGE: it is no index, or a damaged one: not written over"
+    for what, content in (
+        ("nothing", b""), ("a text", b"text"), ("the recording's words", data), ("zeros", bytes(20000)),
+        ("a byte too few", good[:-1]), ("a word too few", good[:-4]), ("a word more", good + bytes(4)),
+        ("a byte more", good + b"1"), ("no page", good[: 4 * 4100]), ("contents cut", good[: 4 * 4099]),
+        ("the other order", little(good)), ("too long", good + bytes(12_000_000)),
+    ):
+        left(what, content, no_index)
+    for place in (0, 1, 4, 5, 6, 7, 10, 11, 14, 15, 4100, 4101):
+        bent = bytearray(good)
+        bent[4 * place + 3] ^= 0xFF if place == 1 else 1
+        bent[4 * place + 2] ^= 0x08 if place == 1 else 0
+        left(f"word {place} bent", bytes(bent), no_index)
+    # an entry that is damaged: it alone is not served
+    bent = bytearray(good)
+    offset = whole.index()[4 + 4 + 2]
+    bent[4 * offset + 3] ^= 0x40
+    kept.write_bytes(bytes(bent))
+    entry = f"vrtshow: {kept}: refused 19 PAGE: its entry 1 is damaged, or the recording is not the one that it was grown over"
+    for number in (1024, 1025, 2047):
+        says(f"a damaged page, {number}", run("--at", number, "--index", kept, path), [], [entry], 2)
+    for number in (0, 1023, 2048, 2600):
+        hold_table(f"beside a damaged page, {number}", whole, number, ["--index", kept, path], path)
+    # places that do not lie in the recording, or are those of other packets
+    for what, place, value, numbers in (
+        ("a place too far", 9, 0x3FFF000, (1024, 1500)), ("a place inside a packet", 9, words[0], (1500,)),
+    ):
+        bent = bytearray(good)
+        bent[4 * place : 4 * place + 4] = value.to_bytes(4, "big")
+        kept.write_bytes(bytes(bent))
+        for number in numbers:
+            done = run("--at", number, "--index", kept, path)
+            if done.returncode != 2 or done.stdout or b"vrtshow: " not in done.stderr:
+                differs(what, done)
+            tried["runs"] += 1
+    # of another list, of another choice, of a longer recording
+    other = f"{kept}: is the index of another recording: its list, or its choice of 49A, is not this one's"
+    swapped = to_bytes([3, *words[3:0:-1]]) + data[16:]
+    left("another order of the list", good, other, name=file_of(swapped, "other"))
+    left("two of its streams", good, other, name=file_of(to_bytes([2, *words[1:3]]) + data[16:], "other"))
+    left("another choice", good, other, "--survey", f"{words[1]}")
+    longer = f"{kept}: has taken in more than the recording has"
+    left("a recording that is cut", good, longer, name=file_of(data[:-4], "other"))
+    left("a recording of a list alone", good, longer, name=file_of(data[:16], "other"))
+    # in the recording's place, in a folder that is none, and no regular files
+    for arguments, text in (
+        ([path, "--index", path], f"{path}: is the recording: not written over"),
+        (["--index", folder.name, path], f"{folder.name}: is not a regular file"),
+        (["--index", "/dev/null", path], "/dev/null: is not a regular file"),
+        (["--index", "nothing/there", path], "nothing/there: cannot be written: No such file or directory"),
+        (["--index", fresh("never"), "/dev/null"], "/dev/null: is not a regular file: it has no index"),
+    ):
+        says(f"{arguments}", run(*arguments), [], [f"vrtshow: {text}"], 2)
+    if path.read_bytes() != data or Path(folder.name, "never").exists():
+        differs("--index", "a file is written")
+    done = run("--index", fresh("never"), data=data)
+    says("by a pipe", done, [], ["vrtshow: standard input: is not a regular file: it has no index"], 2)
+    # standard input that is a file, from a byte on
+    shifted = file_of(b"skip it" + data, "shifted")
+    for number in (0, 1025, 2600):
+        done = run("--at", number, "--index", fresh("shifted index"), file=shifted, skip=7)
+        says("from a byte on", done, table_lines(whole.tables[number], number, whole.places[number]))
+
+
+def full():
+    """An index that is full: packets behind it are played."""
+    tuned = {}
+    for turn, number in enumerate((0, 5, 1023, 500_000, 1_048_574, 1_048_575, 1_048_576, 1_048_600)):
+        tuned[number] = context(0x08000000, [turn, 1 << 20], identifier=7, count=turn)
+    empty, parts = to_bytes(packet(0, [])), []
+    packets = 1_048_700
+    for number in range(packets):
+        parts.append(to_bytes(tuned[number]) if number in tuned else empty)
+    path, kept = file_of(to_bytes([1, 7]) + b"".join(parts)), fresh()
+    more = len(tuned[0]) - 1
+
+    def place_of(number):
+        return 2 + number + more * sum(at < number for at in tuned)
+
+    def table_of(number):
+        made = table.table_of(table.layout(vrtplay.started([1, 7])))
+        for at in tuned:
+            if at < number:
+                table.play(made, tuned[at])
+        return made
+
+    is_full = f"vrtshow: {kept}: refused 13 ROOM: the index is full after {MOST_TAKEN:,} packets"
+    done = run("--index", kept, path)
+    size = kept.stat().st_size // 4
+    line = f"packets {MOST_TAKEN:,}, entries 1,024, words {size:,}; "
+    line += f"stopped at word {place_of(MOST_TAKEN)}: refused 13 ROOM: the index is full"
+    says("a full index", done, [line], [is_full], 1)
+    before = kept.stat().st_mtime_ns
+    for number in (0, 6, 1024, 999_999, 1_048_574, MOST_TAKEN, MOST_TAKEN + 1, 1_048_577, 1_048_601, packets):
+        done = run("--at", number, "--index", kept, path)
+        told = [is_full] if number > MOST_TAKEN else []
+        says(f"a full index, --at {number}", done, table_lines(table_of(number), number, place_of(number)), told)
+        done = run("--at", number, "--csv", path)
+        says(f"no index, --at {number}", done, table_rows(table_of(number), number, place_of(number)))
+    many = f"it has {packets:,} packets, to word {place_of(packets)}"
+    error = f"vrtshow: {path}: packet {packets + 1} refused 21 PLACE: {many}"
+    says("a full index, too far", run("--at", packets + 1, "--index", kept, path), [], [is_full, error], 1)
+    if kept.stat().st_mtime_ns != before:
+        differs("a full index", "it is written again")
+
+
 def progress():
     """How far it is, on a terminal, of a large recording; nothing of a small one."""
     one = to_bytes(packet(1, [0] * 65000, identifier=7))
@@ -1628,7 +2029,8 @@ GROUPS = {
     group.__name__: group
     for group in (
         samples, pictures, surveys, columns, million, values, seams, doubts, states, refusals,
-        surveys_49a, pieces, cut, live, outside, behind, kept, failing, captures, tails, progress,
+        surveys_49a, pieces, cut, live, outside, behind, kept, failing, captures, tails, tables,
+        indexes, full, progress,
     )
 }
 

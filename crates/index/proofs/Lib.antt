@@ -8,3 +8,5 @@ pub mod WriteLaws
 pub mod EnterLaws
 -- when contents are well made
 pub mod GoodLaws
+-- what stands in an index after words were written into it
+pub mod WrittenLaws

@@ -1,20 +1,25 @@
 -- The next entry of an index. The idea: each return is a row of `entryLacks`, and the last is what making the entry answers.
 use Rattle.words.proofs.Kit.{_≡_, refl, sym, ap, _∙_, Bool, true, false, not, ⊎-elim, List, ℕ, _+_, _^_, _≤_, _<_, arith, le-leb, lt-leb, le-ltb, lt-ltb}
 use Rattle.words.proofs.Kit.{ltb-false, not-true, not-false, leb, ltb, length}
+use borrow.Author.Tests.{leb-false}
+use Rattle.words.specs.Part.{put}
 use Rattle.words.specs.declared.Length.{Length}
 use Rattle.words.specs.declared.Length.the-variants.{Accepted, Refused}
 use Rattle.words.specs.Tests.{pick, either}
 use Rattle.words.specs.Outcome.{accepted, refused, measured, Done, leftOf, Meets}
 use Rattle.words.proofs.Cases.{le-or-lt, accepted-same}
-use Rattle.words.proofs.RefusalLaws.{first-passed, none-given}
+use Rattle.words.proofs.RefusalLaws.{first-passed, none-given, either-passed}
+use Rattle.words.proofs.PartLaws.{put-length}
 use Rattle.words.proofs.MeetLaws.{meets-accepted, said-refused}
 use Rattle.table.specs.Well.{wellMade}
-use Rattle.page.specs.Layout.{pageLength}
-use Rattle.index.specs.Layout.{mostEntries, indexContents, entriesIn, packetsTaken, placeReached, pagesEnd, withReached, withEntry}
+use Rattle.page.specs.Layout.{pageOf, pageLength}
+use Rattle.page.proofs.Bounds.{page-whole}
+use Rattle.index.specs.Layout.{mostEntries, entryFrom, indexContents, entriesIn, packetsTaken, placeReached, pagesEnd, withReached, withEntry}
 use Rattle.index.specs.Good.{indexGood}
 use Rattle.index.specs.inner.Entered.{enterList, enteredAt}
 use Rattle.index_grow.specs.Grow.{entryLacks}
 use Rattle.index_grow.specs.inner.Steps.{Ready, EntryMade, EntryTaken}
+use Rattle.index_grow.proofs.ReadyLaws.{ready-whole}
 
 module _ (t ix : List ℕ) (place j : ℕ) (i : (j ≡ entriesIn ix) × (j < 2 ^ 32)) where
   e : j ≡ entriesIn ix
@@ -55,25 +60,38 @@ module _ (t ix : List ℕ) (place j : ℕ) (i : (j ≡ entriesIn ix) × (j < 2 ^
           let no : enteredAt t j place offset ix ≡ refused n = said-refused (enteredAt t j place offset ix) n (sym (m .answer) ∙ ap measured y) in
           ⊎-elim
           (λ (h : offset + pageLength t ≤ length ix).
-          let yes = none-given (enterList t offset ix) _ (rw (w .table), (le-ltb (length ix) (offset + pageLength t) h, tt)) in
+          let yes : enteredAt t j place offset ix ≡ accepted (record { says = pageLength t; leaves = withEntry j place offset t ix }) =
+          none-given (enterList t offset ix) _ (rw (w .table), (le-ltb (length ix) (offset + pageLength t) h, tt)) in
           let z : _≡_ {A = ℕ} 0 1 = cc (yes, no) in
           absurd (omega arith))
           (λ (h : length ix < offset + pageLength t).
           record { fits = rw (lacks-is, lt-ltb (length ix) (offset + pageLength t) h); index = m .buffer ∙ ap (λ o. leftOf o ix) no })
           (le-or-lt (offset + pageLength t) (length ix))
 
+-- the index stays as long
+pub made-whole : (t ix mid : List ℕ) (place : ℕ) (made : Bool) → Ready t ix → EntryMade t place ix made mid → not made ≡ false → indexContents ≤ length mid
+unfolding withEntry entryLacks
+made-whole t ix mid place made q m i =
+    let yes : made ≡ true = not-false made i in
+    let n = either-passed (leb mostEntries (entriesIn ix)) _ (not-true (entryLacks t ix) (sym (m .fits) ∙ yes)) in
+    let room : pagesEnd ix + pageLength t ≤ length ix = ltb-false _ _ (either-passed (leb (2 ^ 32) (pagesEnd ix)) _ (n .1) .1) in
+    let page : length (put (pagesEnd ix) (pageLength t) (pageOf t) ix) ≡ length ix =
+    put-length (pagesEnd ix) (pageLength t) (pageOf t) ix room (page-whole t (q .table)) in
+    let few : entriesIn ix < mostEntries = leb-false mostEntries (entriesIn ix) (n .0) in
+    let whole = ready-whole ix (q .index) in
+    let long : length mid ≡ length ix =
+    ap length (m .index) ∙ rw yes (put-length (entryFrom (entriesIn ix)) 4 _ _ (omega (arith, page, whole, few)) refl ∙ page) in
+    omega (arith, long, whole)
+
 -- ---- and the packet counted, of so many words: n packets were taken in before it, and it stands at the word place p
 
-module _ (t ix : List ℕ) (size n p : ℕ) (made : Bool) (mid : List ℕ) (e : (n ≡ packetsTaken ix) × (n < 2 ^ 32)) (f : p ≡ placeReached ix)
-    (m : EntryMade t (p + size) ix made mid) where
-  -- the index stays as long
-  pub made-whole : Ready t ix → not made ≡ false → indexContents ≤ length mid
-  made-whole q i = ?
+pub taken-full : (t ix mid : List ℕ) (size place : ℕ) (made : Bool) → EntryMade t place ix made mid → not made ≡ true → EntryTaken t size ix false mid
+taken-full t ix mid size place made m i =
+    let no : made ≡ false = not-true made i in
+    record { fits = sym no ∙ m .fits; index = m .index ∙ rw no }
 
-  pub taken-full : not made ≡ true → EntryTaken t size ix false mid
-  taken-full i = let no : made ≡ false = not-true made i in record { fits = sym no ∙ m .fits; index = m .index ∙ rw no }
-
-  pub taken-made : (last : List ℕ) → not made ≡ false → last ≡ withReached (n + 1) (p + size) mid → EntryTaken t size ix true last
-  taken-made last i g =
-      let yes : made ≡ true = not-false made i in
-      record { fits = sym yes ∙ m .fits; index = g ∙ rw (m .index, yes, e .0, f) }
+pub taken-made : (t ix mid last : List ℕ) (size n p : ℕ) (made : Bool) → (n ≡ packetsTaken ix) × (n < 2 ^ 32) → p ≡ placeReached ix
+    → EntryMade t (p + size) ix made mid → not made ≡ false → last ≡ withReached (n + 1) (p + size) mid → EntryTaken t size ix true last
+taken-made t ix mid last size n p made e f m i g =
+    let yes : made ≡ true = not-false made i in
+    record { fits = sym yes ∙ m .fits; index = g ∙ rw (m .index, yes, e .0, f) }

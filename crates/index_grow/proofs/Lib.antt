@@ -8,3 +8,7 @@ pub mod EntryLaws
 pub mod PacketLaws
 -- what growing answers and leaves
 pub mod GrowLaws
+-- a packet taken in on a copy of the table's layout
+pub mod CopyLaws
+-- what growing keeps of an index
+pub mod KeptLaws

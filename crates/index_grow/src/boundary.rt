@@ -1,11 +1,11 @@
 // A packet taken in behind which the index keeps a page. It is played on a copy of the table, since the page may not fit: then nothing has changed, and nothing
 // is undone.
-ghost use Rattle.words.specs.Kit.{_≡_, true, _^_, _<_};
+ghost use Rattle.words.specs.Kit.{_≡_, true, _^_, _≤_, _<_, length};
 ghost use Rattle.words.specs.Outcome.{Meets};
 ghost use Rattle.index.specs.Layout.{pagesEnd};
 ghost use Rattle.index.specs.Good.{indexGood};
 ghost use Rattle.index_grow.specs.Grow.{reachesEntry, growTold, grownPaper};
-ghost use Rattle.index_grow.specs.inner.Steps.{Ready, GrownOn, EntryMade, EntryTaken};
+ghost use Rattle.index_grow.specs.inner.Steps.{Ready, GrownOn, EntryMade, EntryTaken, layoutIn, givenBack};
 use crate::Grown;
 
 // The words of the longest table.
@@ -69,17 +69,41 @@ fn grow_copy(table: &mut [u32], given: &[u32], index: &mut [u32]) -> Grown
     crate::packets::answer_of(answer, true, s.next)
 }
 
-// Takes the packet in: on a copy of the table's layout, which is copied back where it is accepted.
+// Copies a table back that a packet was taken in on; where it was refused the lent table stays.
+fn give_back(answer: Grown, table: &mut [u32], copy: &[u32])
+    requires { ⌜ length (now copy) ≤ length (now table) ⌝ }
+    ensures { λ _. ⌜ now (table .exit) ≡ givenBack answer (now (copy .entry)) (now (table .entry)) ⌝ }
+{
+    if let Grown::Accepted(_) = answer {
+        words::inner::copy_part(table, 0, copy, 0, copy.len());
+    }
+}
+
+// Takes the packet in on a copy of the table's layout.
+fn grow_given(copy: &mut [u32], table: &mut [u32], given: &[u32], index: &mut [u32]) -> Grown
+    requires { ⌜ Ready (now table) (now index) × (reachesEntry (now index) ≡ true) × (now copy ≡ layoutIn (now table)) ⌝ }
+    ensures { λ r. ⌜ Meets grownPaper (growTold (now (table .entry)) (now (given .entry)) (now (index .entry))) (now (table .entry), now (index .entry)) r (now (table .exit), now (index .exit)) ⌝ }
+{
+    let answer = grow_copy(copy, given, index);
+    give_back(answer, table, copy);
+    answer
+}
+
+// Takes the packet in, with words that have room for the longest table.
+fn grow_in(space: &mut [u32], table: &mut [u32], given: &[u32], index: &mut [u32]) -> Grown
+    requires { ⌜ Ready (now table) (now index) × (reachesEntry (now index) ≡ true) × (length (now space) ≡ 2849) ⌝ }
+    ensures { λ r. ⌜ Meets grownPaper (growTold (now (table .entry)) (now (given .entry)) (now (index .entry))) (now (table .entry), now (index .entry)) r (now (table .exit), now (index .exit)) ⌝ }
+{
+    let size = table::inner::layout_words(table::inner::streams(table));
+    words::inner::copy_part(space, 0, table, 0, size);
+    grow_given(&mut space[0..size], table, given, index)
+}
+
+// Takes the packet in.
 pub fn grow_to_entry(table: &mut [u32], given: &[u32], index: &mut [u32]) -> Grown
     requires { ⌜ Ready (now table) (now index) × (reachesEntry (now index) ≡ true) ⌝ }
     ensures { λ r. ⌜ Meets grownPaper (growTold (now (table .entry)) (now (given .entry)) (now (index .entry))) (now (table .entry), now (index .entry)) r (now (table .exit), now (index .exit)) ⌝ }
 {
     let mut space = [0u32; MOST_TABLE];
-    let length = table::inner::layout_words(table::inner::streams(table));
-    words::inner::copy_part(&mut space, 0, table, 0, length);
-    let answer = grow_copy(&mut space[0..length], given, index);
-    if let Grown::Accepted(_) = answer {
-        words::inner::copy_part(table, 0, &space, 0, length);
-    }
-    answer
+    grow_in(&mut space, table, given, index)
 }

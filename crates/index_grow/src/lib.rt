@@ -35,8 +35,7 @@ pub fn grow(table: &mut [u32], given: &[u32], index: &mut [u32]) -> Grown
     if !index::inner::index_good(index) {
         return packets::refuse(words::PAGE);
     }
-    let n = index::inner::packets_taken(index) + 1;
-    if n % index::inner::SPACING == 0 {
+    if packets::reaches_entry(index) {
         return boundary::grow_to_entry(table, given, index);
     }
     packets::grow_on(table, given, index)

@@ -1,14 +1,14 @@
 // A packet taken in: played, and counted.
 ghost use Rattle.words.specs.Kit.{_≡_, true, false, _^_, _<_};
 ghost use Rattle.words.specs.declared.Where.the-variants.{Nowhere};
-ghost use Rattle.words.specs.Outcome.{refused};
+ghost use Rattle.words.specs.Outcome.{refused, Meets};
 ghost use Rattle.words.specs.Told.{refusal};
 ghost use Rattle.table.specs.Well.{wellMade};
 ghost use Rattle.play.specs.Play.{playedPaper};
 ghost use Rattle.play.specs.Run.{Stepped};
 ghost use Rattle.index.specs.Good.{indexGood};
-ghost use Rattle.index_grow.specs.Grow.{reachesEntry, grownPaper};
-ghost use Rattle.index_grow.specs.inner.Steps.{Ready, GrownOn, answerBy, countedIn};
+ghost use Rattle.index_grow.specs.Grow.{reachesEntry, growTold, grownPaper};
+ghost use Rattle.index_grow.specs.inner.Steps.{Ready, answerBy, countedIn};
 use crate::Grown;
 use crate::Stranger;
 use crate::Taken;
@@ -65,6 +65,14 @@ pub fn answer_of(answer: play::Played, continues: bool, size: usize) -> Grown
     }
 }
 
+// Whether the boundary behind the next packet has an entry.
+pub fn reaches_entry(index: &[u32]) -> bool
+    requires { ⌜ indexGood (now index) ≡ true ⌝ }
+    ensures { λ r. ⌜ r ≡ reachesEntry (now (index .entry)) ⌝ }
+{
+    (index::inner::packets_taken(index) + 1) % index::inner::SPACING == 0
+}
+
 // Counts a packet of so many words.
 pub fn count_packet(index: &mut [u32], size: usize)
     requires { ⌜ (indexGood (now index) ≡ true) × (size < 2 ^ 16) ⌝ }
@@ -78,7 +86,7 @@ pub fn count_packet(index: &mut [u32], size: usize)
 // Takes a packet in behind which there is no entry.
 pub fn grow_on(table: &mut [u32], given: &[u32], index: &mut [u32]) -> Grown
     requires { ⌜ Ready (now table) (now index) × (reachesEntry (now index) ≡ false) ⌝ }
-    ensures { λ r. ⌜ GrownOn (now (table .entry)) (now (given .entry)) (now (index .entry)) r (now (table .exit)) (now (index .exit)) ⌝ }
+    ensures { λ r. ⌜ Meets grownPaper (growTold (now (table .entry)) (now (given .entry)) (now (index .entry))) (now (table .entry), now (index .entry)) r (now (table .exit), now (index .exit)) ⌝ }
 {
     let s = play_next(table, given);
     let answer = s.answer;

@@ -1,8 +1,10 @@
 -- What the functions inside promise of a packet that is taken in, on a table and an index that are known to be well made.
-use Rattle.words.specs.Kit.{_≡_, ℕ, _+_, Bool, true, false, not, List}
+use Rattle.words.specs.Kit.{_≡_, ℕ, _+_, Bool, true, false, not, List, length, take}
 use Rattle.words.specs.Tests.{pick}
 use Rattle.words.specs.Outcome.{refused, accepted, saidOf, leftOf}
 use Rattle.words.specs.Told.{Told}
+use Rattle.words.specs.Part.{put}
+use Rattle.table.specs.Layout.{streamsOf, layoutWords}
 use Rattle.table.specs.Well.{wellMade}
 use Rattle.play.specs.declared.Heard.{Heard}
 use Rattle.index.specs.Layout.{entriesIn, placeReached, pagesEnd, withReached, withEntry}
@@ -10,6 +12,7 @@ use Rattle.index.specs.Good.{indexGood}
 use Rattle.index_grow.specs.declared.Taken.{Taken}
 use Rattle.index_grow.specs.declared.Taken.the-variants.{Declared}
 use Rattle.index_grow.specs.declared.Grown.{Grown}
+use Rattle.index_grow.specs.declared.Grown.the-variants.{Accepted, Refused}
 use Rattle.index_grow.specs.Grow.{takenAs, packetsThen, entryLacks, tableTaken, growTold, grownPaper}
 
 -- both are well made
@@ -46,3 +49,12 @@ pub record EntryMade (t : List ℕ) (place : ℕ) (ix : List ℕ) (made : Bool) 
 pub record EntryTaken (t : List ℕ) (size : ℕ) (ix : List ℕ) (made : Bool) (left : List ℕ) : Type 0 where
   pub fits : made ≡ not (entryLacks t ix)
   pub index : left ≡ pick made (withReached (packetsThen ix) (placeReached ix + size) (withNext t (placeReached ix + size) ix)) ix
+
+-- the layout of a table, of which a copy is made
+abbrev pub layoutIn : List ℕ → List ℕ
+layoutIn t = take (layoutWords (streamsOf t)) t
+
+-- a table that a copy is given back to where the packet was taken in
+abbrev pub givenBack : Grown → List ℕ → List ℕ → List ℕ
+givenBack (Refused r) copy t = t
+givenBack (Accepted x) copy t = put 0 (length copy) copy t

@@ -1,9 +1,9 @@
 -- What the functions inside promise: of packets that are walked over, and of a landing in words of its own.
-use Rattle.words.specs.Kit.{_≡_, ℕ, true, not, List, [], _∷_, length, take}
+use Rattle.words.specs.Kit.{_≡_, ℕ, _+_, true, not, List, [], _∷_, take}
 use Rattle.words.specs.Numbers.{PAGE}
 use Rattle.words.specs.declared.Length.{Length}
-use Rattle.words.specs.Outcome.{Outcome, accepted, refused, measured}
-use Rattle.words.specs.Refusals.{Refusals, firstGiven}
+use Rattle.words.specs.Outcome.{Outcome, accepted, measured}
+use Rattle.words.specs.Refusals.{firstGiven}
 use Rattle.index_jump.specs.declared.Landed.{Landed}
 use Rattle.index_jump.specs.declared.Jumped.{Jumped}
 use Rattle.index_jump.specs.Onward.{Behind}

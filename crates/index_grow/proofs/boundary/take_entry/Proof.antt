@@ -10,4 +10,5 @@ take-entry-spec =
     tie.close
     (tie.spec
     (λ c κs. search ready-whole) (λ c. search needs) (λ c κs. search ready-whole) (λ c. search ready-further) (λ c κs. search needs) (λ c. search needs)
-    (λ c. search taken-full) (λ c κs. search (needs, made-whole, ready-more)) (λ c. search needs) (λ c. search taken-made))
+    (λ c. search taken-full)
+    (λ c κs. let made : tie.After-make-next = search in (search (made-whole, made .make-next .ensures), search (needs, ready-more))) (λ c. search needs) (λ c. search taken-made))

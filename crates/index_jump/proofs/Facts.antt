@@ -1,0 +1,30 @@
+-- What document 02 says of a jump. The idea: of the refusals in their order only the second has the number PLACE, and a rest is below what it was divided by.
+use Rattle.words.proofs.Kit.{_≡_, refl, true, List, ℕ, _≤_, _<_, arith, lt-ltb, not-false}
+use mathlib.Core.Logic.{_↔_}
+use native.Mathlib.Nat.{mod-lt}
+use borrow.Author.Tests.{ltb-true}
+use Rattle.words.specs.Numbers.{PLACE}
+use Rattle.words.specs.Outcome.{refused}
+use Rattle.words.proofs.RefusalLaws.{row-given, _else_}
+use Rattle.index.specs.Layout.{spacing, packetsTaken}
+use Rattle.index.specs.Good.{indexGood}
+use Rattle.index_jump.specs.Jump.{packetsFrom, jumpList, landedDone, jumpOf}
+
+-- "21 PLACE exactly for N above that number"
+pub place-exact : (ws : List ℕ) (first : ℕ) (ix : List ℕ) (n : ℕ) (t : List ℕ)
+    → (jumpOf ws first ix n t ≡ refused PLACE) ↔ ((indexGood ix ≡ true) × (packetsTaken ix < n))
+unfolding jumpOf
+place-exact ws first ix n t = (
+  λ e.
+      row-given (λ (k : ℕ). k ≡ PLACE → (indexGood ix ≡ true) × (packetsTaken ix < n)) (jumpList ws first ix n t) (landedDone ws first ix n t) PLACE
+      ((λ _ z. absurd (omega (arith, z)))
+      else λ good. (λ past _. (not-false (indexGood ix) good, ltb-true (packetsTaken ix) n past))
+      else λ _. (λ _ z. absurd (omega (arith, z)))
+      else λ _. (λ _ z. absurd (omega (arith, z)))
+      else λ _. tt) e refl,
+  λ h. rw (h .0, lt-ltb (packetsTaken ix) n (h .1)),
+)
+
+-- "A jump plays at most 1,023 packets"
+pub plays-at-most : (n : ℕ) → packetsFrom n ≤ 1023
+plays-at-most n = let less : packetsFrom n < spacing = mod-lt n (omega arith) in omega (arith, less)

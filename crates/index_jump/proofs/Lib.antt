@@ -1,0 +1,16 @@
+-- The laws of a jump, each beside its kin.
+
+-- packets one after the other
+pub mod BehindLaws
+-- how the walk over them goes
+pub mod WalkLaws
+-- an entry's page in an index
+pub mod PageLaws
+-- a landing in words of its own
+pub mod LandLaws
+-- what a jump answers
+pub mod JumpLaws
+-- when PLACE is given, and how many packets a jump plays
+pub mod Facts
+-- two answers that meet a promise are equal
+pub mod Uniqueness
