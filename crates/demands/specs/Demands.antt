@@ -44,6 +44,7 @@ use Rattle.demands.specs.PanelShows.{changedBy, PanelShows}
 use Rattle.demands.specs.OwnRight.{OwnRight}
 use Rattle.demands.specs.Resumed.{Saves, Resumes, Stop, Day, DayRight}
 use Rattle.demands.specs.Recording.{Runs}
+use Rattle.demands.specs.Jumped.{StartsIndex, Grows, Jumps, JumpsRight, PlaceExact}
 use Rattle.demands.specs.PastUnread.{IsLayout, PastUnread}
 use Rattle.demands.specs.Altered.{Altered, ownAnswers, RefusedApart}
 
@@ -175,6 +176,13 @@ pub record Demand3 (P : Program) : Type 0 where
   -- and so all day, with any number of stops: "every answer and the final table equal those of the unbroken play", and so does every page
   pub days : (list : Listing) (first packets : List (List ℕ)) (t last : List ℕ) (answers : List (Told Heard)) (stops : List Stop) → Right list first t
       → Day P [] t packets answers stops last → DayRight P list first t packets answers stops last
+  -- document 02, C-16: "Demand 3's resuming now speaks of jumps both ways". An index is started with well-made contents, and growing is play; a jump to any packet
+  -- taken in leaves the table of playing all earlier packets on the first, and where that one was right, a right one; PLACE is given exactly above them
+  pub starts-index : StartsIndex P
+  pub grows : Grows P
+  pub jumps : Jumps P
+  pub jumps-right : JumpsRight P
+  pub place-exact : PlaceExact P
   -- "With the list unchanged, other streams' packets may be altered at will, none becoming this stream's, without altering this stream's answers or record."
   pub apart : (list : Listing) (t u : List ℕ) (d e : Done ℕ (List ℕ)) → P .start (list .ids) (list .choices) t ≡ accepted d
       → P .start (list .ids) (list .choices) u ≡ accepted e → (s : ℕ) → s < streamsIn list

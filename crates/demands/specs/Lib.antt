@@ -22,6 +22,8 @@ pub mod Survey
 pub mod OwnRight
 -- stopping and resuming, any number of times
 pub mod Resumed
+-- jumps to a packet of a recording
+pub mod Jumped
 -- words past a table's layout
 pub mod PastUnread
 -- other streams' packets altered

@@ -24,6 +24,11 @@ use Rattle.play.specs.Play.{playTold}
 use Rattle.play.specs.Run.{runOf}
 use Rattle.page.specs.Save.{lengthOf, saveOf}
 use Rattle.page.specs.PutBack.{putBackOf}
+use Rattle.index.specs.Start.{startIndexOf}
+use Rattle.index_grow.specs.declared.Taken.{Taken}
+use Rattle.index_grow.specs.Grow.{growTold}
+use Rattle.index_jump.specs.declared.Landed.{Landed}
+use Rattle.index_jump.specs.Jump.{jumpOf}
 use Rattle.panel.specs.AllReadings.{readingsOf}
 use Rattle.panel.specs.HeldWords.{heldWordsOf}
 use Rattle.panel.specs.Readings.{Reading, readingOf}
@@ -54,6 +59,9 @@ pub record Program : Type 0 where
   pub pageLength : (table : List ℕ) → Outcome ℕ
   pub save : (table page : List ℕ) → Outcome (Done ℕ (List ℕ))
   pub putBack : (page table : List ℕ) → Outcome (Done ℕ (List ℕ))
+  pub startIndex : (table index : List ℕ) → Outcome (Done ℕ (List ℕ))
+  pub grow : (table words index : List ℕ) → Told (Done Taken (List ℕ × List ℕ))
+  pub jump : (words : List ℕ) (first : ℕ) (index : List ℕ) (n : ℕ) (table : List ℕ) → Outcome (Done Landed (List ℕ))
   pub reading : (table : List ℕ) (stream bit : ℕ) → Outcome Reading
   pub readings : (table : List ℕ) (stream : ℕ) → Outcome (List Reading)
   pub heldWords : (table : List ℕ) (stream bit : ℕ) (out : List ℕ) → Outcome (Done ℕ (List ℕ))
@@ -84,6 +92,9 @@ ours = record {
   pageLength = lengthOf;
   save = saveOf;
   putBack = putBackOf;
+  startIndex = startIndexOf;
+  grow = growTold;
+  jump = jumpOf;
   reading = readingOf;
   readings = readingsOf;
   heldWords = heldWordsOf;
