@@ -11,7 +11,7 @@ else
 fi
 tools/from_debian 'make speed' $needed
 make -s lib
-for part in calls small play payload; do
+for part in calls small play index payload; do
     echo
     echo "bench/$part/measure.sh"
     "bench/$part/measure.sh"
@@ -20,7 +20,7 @@ export LIBRARY=target/staticlib/libvrt49.a
 echo
 echo 'bench/play/measure.sh, of the whole library'
 bench/play/measure.sh
-for part in calls small play; do
+for part in calls small play index; do
     echo
     echo "bench/$part/measure.sh, of the whole library, against C with its loops over fields unrolled"
     BY_HAND=by_hand_tighter.c "bench/$part/measure.sh"
@@ -29,4 +29,4 @@ echo
 echo 'bench/uhd/measure.sh'
 bench/uhd/measure.sh
 echo
-echo 'counted: each call of the library; play_run and the table test; unpack and pack by width; reading a header by UHD'
+echo 'counted: each call of the library; play_run and the table test; an index grown and jumped in; unpack and pack by width; reading a header by UHD'

@@ -1,4 +1,4 @@
-# For bench/calls and bench/small, which source it with `here` set to their folder: builds its drive.c with C by hand and with libvrt49.a, counts the
+# For bench/calls, bench/small and bench/index, which source it with `here` set to their folder: builds its drive.c with C by hand and with libvrt49.a, counts the
 # instructions of a call on both sides, and compares what they answer. BY_HAND=by_hand_tighter.c takes the tighter C of bench/play.
 CC=${CC:-x86_64-linux-gnu-gcc}
 INSNCOUNT=${INSNCOUNT:-tools/insncount}

@@ -1,5 +1,10 @@
 // What the calls of an index are measured against: starting, growing and jumping in C by hand, with the same checks in the same order and the same words left.
 // The tests of tables, pages and packets, and what a packet does to a table, are those of the play bench, of its file BY_HAND.
+#include <stddef.h>
+#include <stdint.h>
+// Many functions here read packets; where packets are played one after the other, reading is to be inlined as in the play bench.
+#define INLINED __attribute__((flatten))
+INLINED uint64_t c_play_run(uint32_t *, size_t, const uint32_t *, size_t, size_t, uint32_t *, size_t);
 #include "../small/by_hand.c"
 enum { PLACE = 21, CONTENTS = 4100, ENTRIES = 1024, SPACING = 1024, MOST_TABLE = 1 + 32 * RECORD };
 // a number of two words, the high one first
@@ -72,7 +77,7 @@ u32 c_start_index(const u32 *t, size_t tn, u32 *ix, size_t n, size_t *length) {
     return 0;
 }
 // Plays a packet on a table that is well made; its answer is an entry. One of no declared stream has one too.
-static inline u32 step(u32 *t, const u32 *w, size_t n, u32 *a) {
+static INLINED u32 step(u32 *t, const u32 *w, size_t n, u32 *a) {
     struct packet p;
     u32 refused = read_packet(t, w, n, &p), missing = 0;
     if (refused)
@@ -119,25 +124,34 @@ u32 c_grow(u32 *t, size_t tn, const u32 *w, size_t n, u32 *ix, size_t in, u32 *a
         count_packet(ix, a[1]);
     return refused;
 }
+// Plays so many packets from a place on: 1, and the place behind them; or 0 where one of them does not go on.
+static INLINED int play_on(u32 *t, const u32 *w, size_t n, u32 packets, size_t *place) {
+    size_t at = *place;
+    for (; packets; packets--) {
+        struct packet p;
+        u32 missing;
+        if (read_packet(t, w + at, n - at, &p))
+            return 0;
+        hear(&p, &missing);
+        at += w[at] & 0xffff;
+    }
+    *place = at;
+    return 1;
+}
 u32 c_jump(const u32 *w, size_t n, u64 first, const u32 *ix, size_t in, u64 number, u32 *t, size_t tn, size_t *length, u64 *place) {
     if (!index_good(ix, in))
         return PAGE;
     if (number > ix[1])
         return PLACE;
-    u32 made[MOST_TABLE], missing;
+    u32 made[MOST_TABLE];
     const u32 *e = ix + entry_of(number / SPACING);
     u64 from = two_of(e);
     size_t layout;
     if (c_put_back(ix + e[2], e[3], made, MOST_TABLE, &layout) || from < first || from - first > n)
         return PAGE;
     size_t at = from - first;
-    for (u32 left = number % SPACING; left; left--) {
-        struct packet p;
-        if (read_packet(made, w + at, n - at, &p))
-            return PAGE;
-        hear(&p, &missing);
-        at += w[at] & 0xffff;
-    }
+    if (!play_on(made, w, n, number % SPACING, &at))
+        return PAGE;
     if (tn < layout)
         return ROOM;
     memcpy(t, made, layout * 4);

@@ -9,6 +9,7 @@ the number, and the entries afterwards of the buffers that change.  What documen
 from array import array
 from collections import namedtuple
 
+import index
 import making
 import page
 import panel
@@ -712,6 +713,129 @@ def put_back(r):
     return Case(args, 0, {1: array("I", after), 2: put(length, [what])})
 
 
+# Indexes.
+
+
+def index_of(r, pages, packets, places, room=0):
+    """The words of an index with these pages, one for each entry: so many packets, the word
+    places of its entries and of the boundary reached, noise in the entries that are not used,
+    and room behind the pages."""
+    made = [len(pages), packets, *index.two_words(places[-1])]
+    offset = index.CONTENTS_WORDS
+    for place, one in zip(places, pages):
+        made += [*index.two_words(place), offset, len(one)]
+        offset += len(one)
+    made += noisy(r, index.CONTENTS_WORDS - len(made)).entries
+    return [*made, *(word for one in pages for word in one), *noisy(r, room).entries]
+
+
+def some_index(r, pages, left=None):
+    """An index of some entries, all of them of one of these pages; left: the packets from the
+    last entry to the boundary reached."""
+    entries = r.choice((1, 1, 2, 3, 5, r.randrange(1, 40)))
+    packets = index.EVERY * (entries - 1)
+    places = [r.randrange(index.MOST_PACKET_WORDS * index.EVERY * entry + 1) for entry in range(entries)]
+    packets += r.choice((0, 1, 2, 700, 1022, 1023, r.randrange(1024))) if left is None else left
+    places.append(r.randrange(index.MOST_PACKET_WORDS * packets + 1))
+    return index_of(r, [r.choice(pages) for _ in range(entries)], packets, places, r.choice((0, 0, 1, 50)))
+
+
+def bent_index(r, words):
+    """One word of the contents changed, or the words cut."""
+    bent = list(words)
+    if r.randrange(6) == 0:
+        return bent[: r.choice((0, 4, 4099, len(bent) - 1, r.randrange(len(bent))))]
+    place = r.choice((0, 1, 2, 3, *(4 + 4 * r.randrange(bent[0]) + k for k in range(4))))
+    bent[place] = r.choice((bent[place] + 1, bent[place] - 1, bent[place] ^ 1 << r.randrange(32), 0)) % 2**32
+    return bent
+
+
+def start_index_of(r, lent, room):
+    out, length = noisy(r, room), length_place(r)
+    args = [given(lent), out, length]
+    (said, what), after = index.start_index(lent, list(out.entries))
+    if said == "refused":
+        return refused(args, what)
+    return Case(args, 0, {1: array("I", after), 2: put(length, [what])})
+
+
+def start_index(r):
+    lent = lent_table(r)
+    said, needed = page.page_length(lent)
+    room = index.CONTENTS_WORDS + (100 if said == "refused" else needed)
+    room = around(r, room) if r.randrange(3) == 0 else room + r.choice((0, 0, 1, 50))
+    return start_index_of(r, lent, r.choice((room, room, room, 0)) if r.randrange(20) == 0 else room)
+
+
+def grow_of(r, lent, words, kept):
+    answer = noisy(r, 5)
+    args = [given(lent), given(words), given(kept), answer]
+    said, table_after, after = index.grow(lent, words, kept)
+    if said[0] == "refused":
+        return refused_at(args, said)
+    entry = [0, *said[1:]] if said[0] == "heard" else [table.STREAM, *said[1:], 0, 0]
+    return Case(args, 0, {0: array("I", table_after), 2: array("I", after), 3: put(answer, entry)})
+
+
+def grow(r):
+    lent = lent_table(r)
+    good = table.well_made(lent)
+    own = page.page_of(table.table_of(lent)) if good else page.page_of(making.some_streams(r, 1))
+    kept = some_index(r, [own], r.choice((None, None, 1023)))
+    # at a boundary the page behind the packet fits, or just does not, mostly
+    if r.randrange(2):
+        kept += noisy(r, len(own) + r.choice((-1, 0, 0, 1, 20, 80))).entries
+    if r.randrange(8) == 0:
+        kept = bent_index(r, kept)
+    if r.randrange(60) == 0:
+        kept = []
+    kind = r.choice((0, 1, 1, 1, 2, 3, 4, 4, 4, 5))
+    made = (making.packet, making.survey) if r.randrange(3) else (making.some_packet, making.some_survey)
+    words = sent(r, lent, kind, *made)
+    if r.randrange(60) == 0:
+        words = []
+    return grow_of(r, lent, words, kept)
+
+
+def jump_of(r, words, first, kept, n, room):
+    lent, length, place = noisy(r, room), length_place(r), noisy(r, 1, "Q")
+    args = [given(words), first, given(kept), n, lent, length, place]
+    said, after = index.jump(words, first, kept, n, list(lent.entries))
+    if said[0] == "refused":
+        return refused(args, said[1])
+    return Case(args, 0, {4: array("I", after), 5: put(length, said[1:2]), 6: put(place, said[2:])})
+
+
+def jump(r):
+    """A jump over few packets, from an entry that stands somewhere in a recording."""
+    streams = making.some_streams(r)
+    lent, words = table.layout(streams), []
+    for _ in range(r.choice((0, 1, 2, 3, 5, 8))):
+        made = sent(r, lent, r.choice((0, 1, 1, 1, 3, 4, 4, 5, 2)))
+        words += making.bent_packet(r, made) if r.randrange(25) == 0 else made
+    kept = some_index(r, [page.page_of(streams)])
+    entry = r.randrange(kept[0])
+    n = index.EVERY * entry + r.choice((0, 0, 1, 2, 3, 5, 8))
+    place = index.place_of(kept, entry)
+    first = max(0, place - r.choice((0, 0, 0, 1, 30)))
+    words = making.words(r, place - first) + words
+    if r.randrange(3) == 0 and kept[1] < n <= index.EVERY * kept[0]:
+        kept[1] = n if n < index.EVERY * kept[0] else kept[1]
+    if r.randrange(10) == 0:
+        first = r.choice((0, first + 1, place + len(words), place + len(words) + 1, 2**64 - 1, 2**32))
+    if r.randrange(10) == 0:
+        n = r.choice((kept[1], kept[1] + 1, 2**32, 2**32 + n, 2**64 - 1))
+    if r.randrange(10) == 0:
+        kept = bent_index(r, kept)
+    if r.randrange(10) == 0 and len(kept) > index.CONTENTS_WORDS:
+        kept[r.randrange(index.CONTENTS_WORDS, len(kept))] ^= 1 << r.randrange(32)
+    if r.randrange(60) == 0:
+        words, kept = r.choice((([], kept), (words, [])))
+    room = table.layout_length(len(streams))
+    room = around(r, room) if r.randrange(6) == 0 else room + r.choice((0, 1, making.RECORD))
+    return jump_of(r, words, first, kept, n, 0 if r.randrange(60) == 0 else room)
+
+
 # The panel.
 
 
@@ -887,7 +1011,7 @@ def changed(r):
 # are in PLACED, FIELD must occur for every field that has a rule.  SIZE does not occur
 # for a page: it has at most 2,882 words.
 
-PLACED = ("vrt49_read", "vrt49_read_survey", "vrt49_play")
+PLACED = ("vrt49_read", "vrt49_read_survey", "vrt49_play", "vrt49_grow")
 
 Call = namedtuple("Call", "name takes make cases occur")
 
@@ -914,6 +1038,9 @@ CALLS = (
     Call("vrt49_page_length", "iL", page_length, 6000, (0, 18)),
     Call("vrt49_save", "iIL", save, 10000, (0, 13, 18)),
     Call("vrt49_put_back", "iIL", put_back, 20000, (0, 13, 19)),
+    Call("vrt49_start_index", "iIL", start_index, 2000, (0, 13, 18)),
+    Call("vrt49_grow", "IiII", grow, 10000, (*range(11), 13, 18, 19, 20)),
+    Call("vrt49_jump", "iqiqILL", jump, 8000, (0, 13, 19, 21)),
     Call("vrt49_reading", "iqwIILI", reading, 30000, (0, 11, 14, 18)),
     Call("vrt49_readings", "iqIILII", readings, 20000, (0, 11, 18)),
     Call("vrt49_held_words", "iqwIL", held_words, 15000, (0, 11, 13, 14, 18)),

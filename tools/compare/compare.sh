@@ -40,6 +40,13 @@ every_call() {
     $run "$work/survey_cpp" | diff "$work/survey.txt" - && echo 'every call once, in C and in C++: as expected'
 }
 
+# the vectors of an index: what the reference expects of them
+index_vectors() {
+    $run "$work/index" <crates/index_vectors/stdin | diff crates/index_vectors/stdout - | head -10 >"$work/differs"
+    [ ! -s "$work/differs" ] || { cat "$work/differs"; return 1; }
+    echo "an index started, grown and jumped in: $(wc -l <crates/index_vectors/stdout) operations, as the reference says"
+}
+
 step 'header and source' tools/check_header
 step 'spoilt headers and manuals' python3 $here/test_header.py
 step 'lists of calls and source' tools/check_calls
@@ -50,6 +57,7 @@ if [ -z "${LIBRARY:-}" ]; then
     rt staticlib vrt49 >"$work/said" 2>&1 || { tail -20 "$work/said"; exit 1; }
 fi
 $cc -O2 -Wall -Wextra -static -Iinclude $here/drive.c "$library" -o "$work/drive"
+$cc -O2 -Wall -Wextra -static -Iinclude $here/index.c "$library" -o "$work/index"
 strict='-O2 -Wall -Wextra -Wshadow -pedantic -Werror'
 $cc -std=c99 $strict -static -Iinclude $here/survey.c "$library" -o "$work/survey"
 $cxx -x c++ -std=c++11 $strict -Iinclude -c $here/survey.c -o "$work/survey.o"
@@ -59,6 +67,7 @@ g++ -O1 -Wall -Wextra $here/uhd_pack.cpp -o "$work/uhd_pack" -luhd
 step 'every call once' every_call
 step 'stack of every call' tools/stack --check "$library"
 step 'spoilt words of the stack' python3 -B $here/test_stack.py "$library"
+step 'operations on an index' index_vectors
 step 'cases of every call, some minutes' python3 $here/cases.py -- $run "$work/drive"
 step 'packets of UHD' python3 $here/peers.py uhd "$work/uhd_packets" -- $run "$work/drive"
 step 'packets for tshark' python3 $here/peers.py tshark "$work" -- $run "$work/drive"

@@ -38,6 +38,9 @@ static const struct {
     {"vrt49_page_length", "iL", {"table", "length"}},
     {"vrt49_save", "iIL", {"table", "page", "length"}},
     {"vrt49_put_back", "iIL", {"page", "table", "length"}},
+    {"vrt49_start_index", "iIL", {"table", "index", "length"}},
+    {"vrt49_grow", "IiII", {"table", "words", "index", "answer"}},
+    {"vrt49_jump", "iqiqILL", {"words", "index", "table", "length", "place"}},
     {"vrt49_reading", "iqwIILI", {"table", "kind", "parts", "hertz", "levels"}},
     {"vrt49_readings", "iqIILII", {"table", "kinds", "parts", "hertz", "first", "second"}},
     {"vrt49_held_words", "iqwIL", {"table", "out", "length"}},
@@ -88,12 +91,15 @@ static uint32_t call(uint32_t which) {
     case 19: return vrt49_page_length(B(0), P(1));
     case 20: return vrt49_save(B(0), B(1), P(2));
     case 21: return vrt49_put_back(B(0), B(1), P(2));
-    case 22: return vrt49_reading(B(0), s[0], s[1], P(1), P(2), P(3), P(4));
-    case 23: return vrt49_readings(B(0), s[0], P(1), P(2), P(3), P(4), P(5));
-    case 24: return vrt49_held_words(B(0), s[0], s[1], B(1), P(2));
-    case 25: return vrt49_identity(B(0), s[0], P(1), P(2), P(3));
-    case 26: return vrt49_counts(B(0), s[0], s[1], P(1));
-    case 27: return vrt49_own_table(B(0), s[0], B(1), P(2));
+    case 22: return vrt49_start_index(B(0), B(1), P(2));
+    case 23: return vrt49_grow(B(0), B(1), B(2), P(3));
+    case 24: return vrt49_jump(B(0), s[0], B(1), s[1], B(2), P(3), P(4));
+    case 25: return vrt49_reading(B(0), s[0], s[1], P(1), P(2), P(3), P(4));
+    case 26: return vrt49_readings(B(0), s[0], P(1), P(2), P(3), P(4), P(5));
+    case 27: return vrt49_held_words(B(0), s[0], s[1], B(1), P(2));
+    case 28: return vrt49_identity(B(0), s[0], P(1), P(2), P(3));
+    case 29: return vrt49_counts(B(0), s[0], s[1], P(1));
+    case 30: return vrt49_own_table(B(0), s[0], B(1), P(2));
     default: return vrt49_changed(B(0), s[0], B(1), s[1], P(2));
     }
 #undef B

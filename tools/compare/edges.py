@@ -1,15 +1,18 @@
-"""Cases at the edges of document 01's rules, and of those of C-11, C-12, C-13 and C-15, for each
-call: the samples of document 01 with the number it states, every choice of optional parts, every
+"""Cases at the edges of document 01's rules, and of those of C-11, C-12, C-13, C-15 and C-16, for
+each call: the samples of document 01 with the number it states, every choice of optional parts, every
 bit of a field with a rule, every item of small groups, groups of as many items as may be and
 of more, every bit of a table and a page, every pair of counts, every choice of the enables
 of a state word; of survey packets every data type, pad count and bit of the class, and every
 choice of a list of streams; the place of every refusal of a packet, behind every choice of
-class, seconds and fraction, and the bit of every two fields that break their rules."""
+class, seconds and fraction, and the bit of every two fields that break their rules; of an index
+every bit of its contents that is looked at, the packets around an entry, pages that just fit,
+contents that are full, and every number of words from an entry on."""
 
 import itertools
 import random
 
 import calls
+import index
 import making
 import page
 import payload
@@ -830,16 +833,18 @@ def play(r):
         yield sure(ask(spoilt, context([1 << 22 | 1 << 16, 5, ALL_ON])), 18)
 
 
-def play_refused(ask):
+def play_refused(ask, ask_stream=11):
     """What reading refuses, with its place, whether the stream is declared or not; and what
-    playing refuses of packets that reading accepts."""
+    playing refuses of packets that reading accepts, which growing takes in."""
     declared, other = table.layout([fresh_stream(5, 1), fresh_stream(7)]), table.layout([fresh_stream(5)])
     for words, *told in [*refused_parts(), *broken_fields()]:
         yield sure(ask(declared, words), *told)
         yield sure(ask(other, words), *told)
     for kind, c, tsi, tsf in itertools.product(range(6), range(2), range(4), range(4)):
         words = shaped(kind, c, tsi, tsf, [0])[0]
-        yield sure(ask(other, words), 11, 0 if kind in (0, 2) else 1)
+        case = sure(ask(other, words), ask_stream, None if ask_stream == 0 else 0 if kind in (0, 2) else 1)
+        assert ask_stream or list(case.after[3])[2] == (0 if kind in (0, 2) else 1)
+        yield case
 
 
 def play_by_choice(ask):
@@ -981,6 +986,145 @@ def put_back(r):
         yield sure(ask(made[:held] + [made[held] | 1 << 22] + made[held + 1 :], 268), 19)
     for streams in (31, 32):
         yield sure(ask(page.page_of([full_stream(i, i % 2) for i in range(streams)]), 2849), 0)
+
+
+# Indexes.
+
+
+def start_index(r):
+    for streams in (1, 2, 31, 32):
+        for made, words in ((fresh_stream, 17), (full_stream, 90)):
+            lent = table.layout([made(i, i % 2) for i in range(streams)])
+            length = 4100 + 2 + words * streams
+            for room in (length, length + 1, length - 1, 4100, 4099, 0):
+                yield sure(calls.start_index_of(r, lent, room), 0 if room >= length else 13)
+    for spoilt in spoilt_tables():
+        yield sure(calls.start_index_of(r, spoilt, 4200), 18)
+        yield sure(calls.start_index_of(r, spoilt, 0), 18)
+
+
+def index_before(r, packets, pages, room=0, step=index.MOST_PACKET_WORDS):
+    """An index that has taken in so many packets, each of so many words."""
+    entries = packets // index.EVERY + 1
+    places = [step * index.EVERY * entry for entry in range(entries)]
+    made = [pages[entry % len(pages)] for entry in range(entries)]
+    return calls.index_of(r, made, packets, [*places, step * packets], room)
+
+
+def grow(r):
+    fresh, data = table.layout([fresh_stream(7)]), [0x10000002, 7]
+    page_of_fresh = page.page_of([fresh_stream(7)])
+
+    def ask(lent, words, kept=None):
+        return calls.grow_of(r, lent, words, kept or index_before(r, 3, [page_of_fresh]))
+
+    yield from play_refused(ask, ask_stream=0)
+    # the packets around an entry, and room for its page, one word less, and none
+    for packets in (0, 1, 1022, 1023, 1024, 2046, 2047, 2048, 1023 * 1024 - 1, 1023 * 1024, 1024 * 1024 - 2):
+        for room in (0, 18, 19, 20):
+            for words in (data, [0x00000001], [0x10000002, 8]):
+                kept = index_before(r, packets, [page_of_fresh], room)
+                at_entry = packets % 1024 == 1023
+                yield sure(ask(fresh, words, kept), 13 if at_entry and room < 19 else 0)
+    # contents that are full, whatever room there is; a refusal of reading comes first
+    kept = index_before(r, 1024 * 1024 - 1, [page_of_fresh], 4000)
+    yield sure(ask(fresh, data, kept), 13)
+    yield sure(ask(fresh, [0x00000001], kept), 13)
+    yield sure(ask(fresh, [], kept), 1)
+    # a packet that lengthens the page: its page is the one behind it
+    for bits in ((29,), (14,), (12, 11), tuple(range(10, 31))):
+        body = body_of(*bits)
+        for less in (0, 1, len(body) - 1):
+            held = len(body) - 1 - (22 in bits)
+            kept = index_before(r, 1023, [page_of_fresh], 19 + held - less)
+            yield sure(ask(fresh, context(body), kept), 13 if less else 0)
+    # one stream of two is changed, the other not; words behind the layout stay
+    lent = table.layout([full_stream(5), fresh_stream(7, 1)]) + [1, 2, 3]
+    for packets in (5, 1023):
+        kept = index_before(r, packets, [page_of_fresh], 300)
+        yield sure(ask(lent, context(body_of(30)), kept), 0)
+        yield sure(ask(lent, data, kept), 20)
+    for spoilt in spoilt_tables():
+        yield sure(ask(spoilt, data), 18)
+        yield sure(ask(spoilt, [], [0]), 18)
+    yield sure(ask(fresh, data, [0] * 4099), 19)
+    for kept in bent_contents(r, page_of_fresh):
+        yield ask(fresh, data, kept)
+        yield ask(fresh, [], kept)
+
+
+def bent_contents(r, page_words):
+    """Every bit of the words that are looked at, of one entry, of two and of three; places that
+    are as far as they may be; and words behind the pages."""
+    for packets in (0, 1, 1024, 2050):
+        for step in (0, index.MOST_PACKET_WORDS):
+            kept = index_before(r, packets, [page_words], r.choice((0, 7)), step)
+            yield from bits_of(kept, range(4 + 4 * (packets // 1024 + 2)))
+    # more entries than there may be, with what contents do not have room for in pages
+    for entries in (1024, 1025):
+        kept = index_before(r, 1023 * 1024, [page_words], 40)
+        yield [entries, (entries - 1) * 1024, *kept[2:]]
+
+
+def jump(r):
+    streams = [fresh_stream(7), full_stream(8, 1)]
+    saved, layout = page.page_of(streams), table.layout_length(2)
+    packets = [[0x10000002, 7], context(body_of(29, 24)), [0x00000001], [0x10010002, 9], [0x50000002, 8]]
+    recording = [word for words in packets * 3 for word in words]
+    ends = [0]
+    for words in packets * 3:
+        ends.append(ends[-1] + len(words))
+
+    def kept_at(place, taken, entries=3):
+        """An index whose second entry stands at a place."""
+        kept = index_before(r, 1024 * (entries - 1) + taken, [saved], 0, 0)
+        kept[8:10] = index.two_words(place)
+        return kept
+
+    def ask(words, first, kept, n, room=layout):
+        return calls.jump_of(r, words, first, kept, n, room)
+
+    # every number of packets and of words, from the entry on, from before it and from behind it
+    for left in range(16):
+        for words in range(0, len(recording) + 1, 1 if left < 6 else 9):
+            case = ask(recording[:words], 5, kept_at(5, 0), 1024 + left)
+            yield sure(case, 0 if ends[left] <= words else 19)
+    for place in (0, 5, 2**16, 1024 * 65535):
+        for first in (place, max(0, place - 3), place + 1):
+            words = [ONES] * (place - first) + recording
+            case = ask(words, first, kept_at(place, 0), 1027)
+            yield sure(case, 19 if first > place else 0)
+            assert case.number or case.after[6][0] == place + ends[3]
+    for n in (0, 1024, 2048):
+        kept = index_before(r, 2048, [saved], 0, 7)
+        place = 7 * n
+        for words, first in (([], place), ([1], place - 1), ([], place - 1), ([], place + 1), ([], 2**64 - 1)):
+            if first >= 0:
+                yield sure(ask(words, first, kept, n), 0 if first + len(words) == place else 19)
+    # each packet refused, each in its place; one of no declared stream is not
+    for words, *told in [*refused_parts(), *broken_fields()]:
+        yield sure(ask([0x10000002, 7, *words], 0, kept_at(0, 0), 1026), 19)
+    # the number of packets, and beyond it
+    for taken in (0, 1, 1023):
+        kept = kept_at(0, taken, 2)
+        for n in (1024 + taken + 1, 2**32, 2**32 + 1024, 2**63, 2**64 - 1):
+            yield sure(ask(recording, 0, kept, n), 21)
+    # two faults, the first of which is given
+    yield sure(ask(recording, 0, [0, *kept_at(0, 0)[1:]], 2**64 - 1, 0), 19)
+    yield sure(ask(recording, 0, kept_at(0, 0), 2**64 - 1, 0), 21)
+    yield sure(ask([], 0, kept_at(0, 0), 1025, 0), 19)
+    for room in (0, 1, layout - 1):
+        yield sure(ask(recording, 0, kept_at(0, 0), 1025, room), 13)
+    # every bit of a page, and the entry beside it; and of the contents
+    for kept in bits_of(kept_at(0, 0), range(4100 + len(saved), 4100 + 2 * len(saved))):
+        yield ask(recording, 0, kept, 1025)
+    bent = kept_at(0, 0)
+    bent[4100 + len(saved)] = 0
+    for n, number in ((0, 0), (1023, 19), (1024, 19), (1030, 19), (2048, 0)):
+        yield sure(ask(recording, 0, bent, n), number)
+    for kept in bent_contents(r, page.page_of([fresh_stream(7)])):
+        yield ask(recording, 0, kept, 0)
+        yield ask(recording, 0, kept, 1)
 
 
 # What a table says of a stream: state words and field 22; the rest is among the other cases.

@@ -1,5 +1,5 @@
 /* Every call of libvrt49 once, by the header's names: a context packet and a data packet are read, one is written again, both are played on a
-   table of two streams, one of them by 49A, the table is saved and put back, the held fields are read for the panel, samples are unpacked and
+   table of two streams, one of them by 49A, the table is saved and put back, an index is grown and jumped in, the held fields are read for the panel, samples are unpacked and
    packed again, and found by their channel and instant; a packet of 49A is read, unpacked, and written again. What is refused says its number, its
    place and its field. It prints what it does, and exits with 1 where a call answers what it should not. It is C99 and C++; tools/compare/compare.sh
    runs it. */
@@ -168,6 +168,82 @@ static void save_table(const uint32_t *table, size_t layout)
     printf("saved: a page of %zu words; put back: the same table\n", length);
 }
 
+/* a recording for an index: the context packet, one of no declared stream, one without an identifier, and then data packets */
+enum { TAKEN = 1100, RECORDED = 11 + 2 + 1 + 5 * TAKEN };
+static size_t record(uint32_t *words)
+{
+    static const uint32_t others[] = {0x10000002, 8, 0x00000001};
+    size_t n = ENTRIES(context), i;
+    memcpy(words, context, sizeof context);
+    memcpy(words + n, others, sizeof others);
+    n += ENTRIES(others);
+    for (i = 3; i < TAKEN; i++, n += ENTRIES(data)) {
+        memcpy(words + n, data, sizeof data);
+        words[n] = (words[n] & 0xFFF0FFFF) | (uint32_t)(i % 16) << 16;
+    }
+    return n;
+}
+
+/* takes the recording's packets in, and keeps the table from before packet `keep` */
+static void grow_index(uint32_t *table, size_t layout, const uint32_t *words, size_t words_n, uint32_t *kept, size_t kept_n, size_t keep, uint32_t *before)
+{
+    static const uint32_t strange[] = {VRT49_OK, VRT49_STREAM | 1u << 16, VRT49_STREAM};
+    uint32_t answer[5], number;
+    vrt49_entry entry = {0, 0, 0, 0, 0};
+    size_t i, at = 0;
+    expect("vrt49_grow", vrt49_grow(table, layout, words, words_n, kept, kept_n, answer), VRT49_OK);
+    expect("the context packet taken in", answer[0] == VRT49_OK && answer[1] == 11 && answer[2] == VRT49_TYPE_CONTEXT && answer[3] + answer[4] == 0, 1);
+    for (i = 1, at = 11; i < TAKEN; i++, at += entry.size) {
+        if (i == keep)
+            memcpy(before, table, layout * sizeof before[0]);
+        number = vrt49_grow_entry(table, layout, words + at, i % 2 ? words_n - at : (words[at] & 0xFFFF), kept, kept_n, &entry);
+        expect("vrt49_grow_entry", number, VRT49_OK);
+        expect("a packet of no declared stream", vrt49_entry_refusal(&entry), strange[i < ENTRIES(strange) ? i : 0]);
+    }
+    expect("vrt49_grow at the end", vrt49_grow(table, layout, words + at, words_n - at, kept, kept_n, answer), VRT49_EMPTY);
+    expect_at("vrt49_grow of a broken packet", vrt49_grow(table, layout, survey_data, ENTRIES(survey_data) - 1, kept, kept_n, answer), VRT49_CUT, 0, 0);
+    expect("the answer after refusals", answer[1], 11);
+}
+
+/* an index beside the recording: the table just before a packet is the one that growing had there, from all words or from the entry's alone */
+static void jump_packets(void)
+{
+    static const uint32_t ids[] = {7, 9}, choices[] = {VRT49_PLAIN, VRT49_SURVEY};
+    static uint32_t words[RECORDED], kept[VRT49_INDEX_WORDS(2, 2)];
+    uint32_t table[VRT49_TABLE_WORDS(2)], fresh[ENTRIES(table)], before[ENTRIES(table)], again[ENTRIES(table)], answer[5], last[2];
+    size_t layout, length, words_n = record(words), from, to;
+    uint64_t place;
+    expect("vrt49_start", vrt49_start(ids, 2, choices, 2, table, ENTRIES(table), &layout), VRT49_OK);
+    memcpy(fresh, table, sizeof fresh);
+    expect("vrt49_start_index without room", vrt49_start_index(table, layout, kept, VRT49_INDEX_CONTENTS, &length), VRT49_ROOM);
+    expect("vrt49_start_index of no table", vrt49_start_index(table, 0, kept, ENTRIES(kept), &length), VRT49_TABLE);
+    expect("vrt49_start_index", vrt49_start_index(table, layout, kept, ENTRIES(kept), &length), VRT49_OK);
+    expect("its words", length == vrt49_index_words(kept) && length == VRT49_INDEX_CONTENTS + 36, 1);
+    grow_index(table, layout, words, words_n, kept, ENTRIES(kept), 1030, before);
+    expect("the index", vrt49_index_packets(kept) == TAKEN && vrt49_index_entries(kept) == 2 && vrt49_index_reached(kept) == words_n, 1);
+    from = (size_t)vrt49_index_from(kept, 1030);
+    to = (size_t)vrt49_index_to(kept, 1030);
+    expect("where its packets are", from == 14 + 5 * 1021 && to == words_n && vrt49_index_to(kept, 5) == from && vrt49_index_from(kept, 5) == 0, 1);
+    expect("vrt49_jump", vrt49_jump(words + from, to - from, from, kept, length = vrt49_index_words(kept), 1030, again, ENTRIES(again), &layout, &place),
+           VRT49_OK);
+    expect("the table just before it", layout == ENTRIES(again) && place == 14 + 5 * 1027 && memcmp(again, before, sizeof again) == 0, 1);
+    printf("index: %zu words; the table just before packet 1030, at word %zu, from word %zu on: the same\n", length, (size_t)place, from);
+    expect("vrt49_jump to the end", vrt49_jump(words, words_n, 0, kept, length, TAKEN, again, ENTRIES(again), &layout, &place), VRT49_OK);
+    expect("the last table", place == words_n && memcmp(again, table, sizeof again) == 0, 1);
+    expect("vrt49_jump back", vrt49_jump(NULL, 0, 0, kept, length, 0, again, ENTRIES(again), &layout, &place), VRT49_OK);
+    expect("the first table", place == 0 && memcmp(again, fresh, sizeof again) == 0, 1);
+    expect("vrt49_jump too far", vrt49_jump(words, words_n, 0, kept, length, TAKEN + 1, again, 0, &layout, &place), VRT49_PLACE);
+    expect("vrt49_jump without its words", vrt49_jump(words, from, 0, kept, length, 1030, again, 0, &layout, &place), VRT49_PAGE);
+    expect("vrt49_jump without room", vrt49_jump(words, words_n, 0, kept, length, 1030, again, ENTRIES(again) - 1, &layout, &place), VRT49_ROOM);
+    memcpy(last, kept, sizeof last);
+    kept[1] = 1023; /* of two entries, one too many */
+    expect("vrt49_grow of no index", vrt49_grow(table, layout, words, words_n, kept, length, answer), VRT49_PAGE);
+    kept[0] = 1;
+    expect("vrt49_grow without room", vrt49_grow(table, layout, words, words_n, kept, VRT49_INDEX_CONTENTS + 36, answer), VRT49_ROOM);
+    memcpy(kept, last, sizeof last);
+    expect("the place of a refusal and the refusal", VRT49_PLACE(VRT49_STREAM | 1u << 16) == 1 && VRT49_PLACE == 21 && strcmp(vrt49_name(VRT49_PLACE), "PLACE") == 0, 1);
+}
+
 /* all fields at once: each as vrt49_show gives it */
 static void show_all(const uint32_t *table, size_t layout)
 {
@@ -325,6 +401,7 @@ int main(void)
     write_packet();
     layout = play_packets(table, ENTRIES(table));
     save_table(table, layout);
+    jump_packets();
     show_readings(table, layout);
     show_all(table, layout);
     ask_stream(table, layout);

@@ -17,7 +17,7 @@ tried() { # COMMAND ..: it must fail
     fi
     [ -z "$(ls -A "$work/left")" ] || { echo "$* leaves behind: $(ls -A "$work/left")"; exit 1; }
 }
-for part in calls small play payload uhd; do
+for part in calls small play index payload uhd; do
     tried "bench/$part/measure.sh"
     tried env WORK="$work/kept" "bench/$part/measure.sh"
     [ -d "$work/kept" ] || { echo "bench/$part/measure.sh removes WORK"; exit 1; }

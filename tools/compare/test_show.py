@@ -296,7 +296,7 @@ FAULTS = {
         ("jump.c", "    all->stopped_at = from->before + from->at;\n    take_streams(all);\n", "    all->stopped_at = from->before + from->at;\n"),
         ("jump.c", "    all->packets = n;\n    take_streams(all);\n", "    all->packets = n;\n"),
         ("jump.c", "return kept->front + place;", "return place;"),
-        ("jump.c", "VRT49_PACKET_WORDS * (n % VRT49_INDEX_SPACING)", "VRT49_PACKET_WORDS * 16"),
+        ("jump.c", "VRT49_PACKET_WORDS * (n % VRT49_INDEX_SPACING)", "n % VRT49_INDEX_SPACING"),
         ("vrtshow.c", "at_packet <= vrt49_index_packets(kept.words)", "at_packet < vrt49_index_packets(kept.words)"),
         ("vrtshow.c", "    if (all.packets < at_packet) {\n", "    if (0) {\n"),
         ("vrtshow.c", "    all.stopped_by = VRT49_OK; /* behind the packet */\n", ""),

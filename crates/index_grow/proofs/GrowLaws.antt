@@ -41,7 +41,7 @@ module _ (t ws ix : List ℕ) (q : Ready t ix) where
 
   -- ---- as play reads
 
-  grow-read : growOf t ws ix ≡ onward (readBy (chosen t ws) ws) (λ p. rest)
+  pub grow-read : growOf t ws ix ≡ onward (readBy (chosen t ws) ws) (λ p. rest)
   unfolding growOf readBy
   grow-read = rw (q .table, q .index) (sym (onward-first (listBy (chosen t ws) (getD ws 0 0) ws) (packetOf (getD ws 0 0) ws) (λ p. rest)))
 

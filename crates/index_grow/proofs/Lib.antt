@@ -8,7 +8,11 @@ pub mod EntryLaws
 pub mod PacketLaws
 -- what growing answers and leaves
 pub mod GrowLaws
+-- what an answer of growing tells
+pub mod AnswerLaws
 -- a packet taken in on a copy of the table's layout
 pub mod CopyLaws
 -- what growing keeps of an index
 pub mod KeptLaws
+-- two answers that meet the promise are equal
+pub mod Uniqueness

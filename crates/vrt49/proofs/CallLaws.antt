@@ -25,6 +25,9 @@ use Rattle.play.specs.Play.{playList, playOf, playTold}
 use Rattle.play.specs.Run.{runOf}
 use Rattle.page.specs.Save.{lengthOf, saveOf}
 use Rattle.page.specs.PutBack.{putBackOf}
+use Rattle.index.specs.Start.{startIndexOf}
+use Rattle.index_grow.specs.Grow.{growList, growOf, growTold}
+use Rattle.index_jump.specs.Jump.{jumpOf}
 use Rattle.panel.specs.Readings.{readingOf}
 use Rattle.panel.specs.AllReadings.{readingsOf}
 use Rattle.panel.specs.HeldWords.{heldWordsOf}
@@ -35,7 +38,7 @@ use Rattle.panel_streams.specs.Changed.{changedOf}
 use Rattle.vrt49.specs.Answers.{Tells, placesOf, numberFor, inNumber}
 use Rattle.vrt49.specs.Packets.{writeWordsBy}
 use Rattle.vrt49.specs.Calls.{CallForC, answers, tells, tellsWhere, OnceForC, SomeForC, LeavesForC, OrderForC, PartsForC, ZeroForC, EachForC, callsForC}
-use Rattle.vrt49.proofs.NumberLaws.{Fitting, number-parts, read-fitting, survey-fitting, play-fitting}
+use Rattle.vrt49.proofs.NumberLaws.{Fitting, number-parts, read-fitting, survey-fitting, play-fitting, grow-fitting}
 
 -- ---- what every promise gives
 
@@ -83,7 +86,8 @@ a and b = (a, b)
 
 listed : EachForC Listed callsForC
 unfolding readBy readSurveyOf readTold surveyTold playTold whereOf writeWordsBy padFits trailerWordOf contextOf unpackOf packOf neededOf coordinatesOf
-    itemOf signedOf startOf playOf runOf lengthOf saveOf putBackOf readingOf readingsOf heldWordsOf identityOf typeCountsOf ownTableOf changedOf
+    itemOf signedOf startOf playOf runOf lengthOf saveOf putBackOf startIndexOf growOf growTold jumpOf
+    readingOf readingsOf heldWordsOf identityOf typeCountsOf ownTableOf changedOf
 listed =
     (λ h. ((_, told-first (whereOf (h .0)) (readList (getD (h .0) 0 0) (h .0)) _), refl, read-fitting (h .0)))
     and (λ h. ((_, told-first (whereOf (h .0)) (listBy true (getD (h .0) 0 0) (h .0)) _), refl, survey-fitting (h .0)))
@@ -106,6 +110,9 @@ listed =
     and (λ h. ((_, refl), refl, search needs))
     and (λ h. ((_, refl), refl, search needs))
     and (λ h. ((_, refl), refl, search needs))
+    and (λ h. ((_, refl), refl, search needs))
+    and (λ h. ((_, refl), refl, search needs))
+    and (λ h. ((_, told-first (whereOf (h .1)) (growList (h .0) (h .1) (h .2)) _), refl, grow-fitting (h .0) (h .1) (h .2)))
     and (λ h. ((_, refl), refl, search needs))
     and (λ h. ((_, refl), refl, search needs))
     and (λ h. ((_, refl), refl, search needs))

@@ -21,6 +21,8 @@ use Rattle.packet.proofs.FrontLaws.{survey-same}
 use Rattle.packet.proofs.InsideLaws.{place-small, bit-small, stream-place, table-place}
 use Rattle.play.specs.Play.{chosen, playList, playOf, playTold}
 use Rattle.play.proofs.PlayLaws.{play-unheard}
+use Rattle.index_grow.specs.Grow.{growList, growOf, growTold}
+use Rattle.index_grow.proofs.AnswerLaws.{grow-refused}
 use Rattle.vrt49.specs.Answers.{numbersOf, numberWidths, numberFor}
 
 -- a refusal fits the number, and has one
@@ -85,3 +87,14 @@ module _ (t ws : List ℕ) where
       let k = told-refused (whereOf ws) (playOf t ws) r e in
       let small = subst (Numbered Small) (k .1) (number-among Small (playList t ws) _ (search needs) tt) in
       rw (k .2) (fitting ws (k .0) small (play-small (k .0) (k .1)))
+
+-- ---- what growing refuses
+
+pub grow-fitting : (t ws ix : List ℕ) (r : Refusal) → growTold t ws ix ≡ refused r → Fitting r
+unfolding growTold growOf
+grow-fitting t ws ix r e =
+    let k = told-refused (whereOf ws) (growOf t ws ix) r e in
+    let small = subst (Numbered Small) (k .1) (number-among Small (growList t ws ix) _ (search needs) tt) in
+    let place : wordOf (whereOf ws (k .0)) < 2 ^ 16 =
+    ⊎-elim (λ (u : readBy (chosen t ws) ws ≡ refused (k .0)). place-small ws (chosen t ws) (k .0) u) (λ n. rw n (omega arith)) (grow-refused t ws ix (k .0) (k .1)) in
+    rw (k .2) (fitting ws (k .0) small place)

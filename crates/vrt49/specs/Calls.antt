@@ -6,7 +6,7 @@ use Rattle.words.specs.Kit.{_≡_, ℕ, _<_, true, List, [], _∷_, _++_, lengt
 use lib.IntN.{ℤ}
 use lib.Ieee.{Float}
 use Rattle.words.specs.Numbers.{EMPTY, TYPE, BITS, SHORT, CUT, CLASS, TIME, INDICATOR, LAYOUT, FIELD}
-use Rattle.words.specs.Numbers.{STREAM, LIST, ROOM, VALUE, SIZE, FORMAT, COUNT, TABLE, PAGE, PAD}
+use Rattle.words.specs.Numbers.{STREAM, LIST, ROOM, VALUE, SIZE, FORMAT, COUNT, TABLE, PAGE, PAD, PLACE}
 use Rattle.words.specs.declared.Where.the-variants.{Nowhere, Word}
 use Rattle.words.specs.declared.Refusal.{Refusal}
 use Rattle.words.specs.Tests.{when}
@@ -33,6 +33,9 @@ use Rattle.play.specs.Play.{tableList, playList, playTold}
 use Rattle.play.specs.Run.{runOf}
 use Rattle.page.specs.Save.{lengthList, saveList, lengthOf, saveOf}
 use Rattle.page.specs.PutBack.{putBackList, putBackOf}
+use Rattle.index.specs.Start.{startIndexList, startIndexOf}
+use Rattle.index_grow.specs.Grow.{growList, growTold}
+use Rattle.index_jump.specs.Jump.{jumpList, jumpOf}
 use Rattle.panel.specs.Readings.{readingList, readingOf}
 use Rattle.panel.specs.AllReadings.{readingsOf}
 use Rattle.panel.specs.HeldWords.{heldWordsList, heldWordsOf}
@@ -45,6 +48,7 @@ use Rattle.vrt49.specs.Packets.{packetValues, surveyValues, trailerValue
 use Rattle.vrt49.specs.Packets.{writeWordsList, writeWordsOf, writeSurveyWordsList, writeSurveyWordsOf}
 use Rattle.vrt49.specs.Payloads.{coordinatesValues, coordinatesIn}
 use Rattle.vrt49.specs.Tables.{heardValues, reachedValues}
+use Rattle.vrt49.specs.Indexes.{takenValues, landedValues}
 use Rattle.vrt49.specs.Readings.{readingValues, readingsValues}
 use Rattle.vrt49.specs.Streams.{identityValues, countValues}
 
@@ -123,6 +127,10 @@ surveyGiven w ws = readGiven w ws ++ (refusal PAD (Word (when (classed w) (class
 -- "Play: TABLE, read order, STREAM"
 abbrev pub playGiven : ℕ → List ℕ → List Refusal
 playGiven w ws = (refusal TABLE Nowhere ∷ []) ++ surveyGiven w ws ++ (refusal STREAM (Word (when (streamed w) 1)) ∷ [])
+
+-- document 02, C-16: "growing TABLE, PAGE for contents, reading refusals, ROOM"
+abbrev pub growGiven : ℕ → List ℕ → List Refusal
+growGiven w ws = (refusal TABLE Nowhere ∷ refusal PAGE Nowhere ∷ []) ++ surveyGiven w ws ++ (refusal ROOM Nowhere ∷ [])
 
 -- ---- packets, trailers and the fields of a body
 
@@ -229,6 +237,23 @@ abbrev pub forPutBack : CallForC
 forPutBack =
     tells (λ (h : List ℕ × List ℕ × ℕ). putBackOf (h .0) (h .1)) (beside plain) (λ h. (h .1, h .2)) (λ h. putBackList (h .0) (h .1)) (PAGE ∷ ROOM ∷ [])
 
+-- ---- the index beside a recording: "jumping PAGE for contents, PLACE, PAGE for the entry, ROOM; starting TABLE, ROOM; growing TABLE, PAGE for contents, reading
+-- refusals, ROOM" (document 02, C-16)
+
+abbrev pub forStartIndex : CallForC
+forStartIndex =
+    tells (λ (h : List ℕ × List ℕ × ℕ). startIndexOf (h .0) (h .1)) (beside plain) (λ h. (h .1, h .2)) (λ h. startIndexList (h .0) (h .1)) (TABLE ∷ ROOM ∷ [])
+
+abbrev pub forGrow : CallForC
+forGrow =
+    tellsWhere (λ (h : List ℕ × List ℕ × List ℕ × List ℕ). growTold (h .0) (h .1) (h .2)) (beside takenValues) (λ h. ((h .0, h .2), h .3))
+    (λ h. toldList (whereOf (h .1)) (growList (h .0) (h .1) (h .2))) (λ h. growGiven (getD (h .1) 0 0) (h .1))
+
+abbrev pub forJump : CallForC
+forJump =
+    tells (λ (h : List ℕ × ℕ × List ℕ × ℕ × List ℕ × ℕ × ℕ). jumpOf (h .0) (h .1) (h .2) (h .3) (h .4)) (beside landedValues)
+    (λ h. (h .4, (h .5, h .6))) (λ h. jumpList (h .0) (h .1) (h .2) (h .3) (h .4)) (PAGE ∷ PLACE ∷ PAGE ∷ ROOM ∷ [])
+
 -- ---- readings for the panel: "Reading: TABLE, STREAM, VALUE."
 
 abbrev pub forReading : CallForC
@@ -276,6 +301,7 @@ callsForC =
     ∷ forUnpack ∷ forPack ∷ forWordsNeeded ∷ forCoordinatesOf ∷ forItemAt ∷ forSigned
     ∷ forStart ∷ forWellMade ∷ forPlay ∷ forPlayRun
     ∷ forPageLength ∷ forSave ∷ forPutBack
+    ∷ forStartIndex ∷ forGrow ∷ forJump
     ∷ forReading ∷ forReadings ∷ forHeldWords
     ∷ forIdentity ∷ forCounts ∷ forOwnTable ∷ forChanged
     ∷ []

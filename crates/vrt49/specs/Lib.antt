@@ -8,6 +8,8 @@ pub mod Packets
 pub mod Payloads
 -- tables of streams
 pub mod Tables
+-- the index beside a recording
+pub mod Indexes
 -- readings for the panel
 pub mod Readings
 -- what a table says of a stream

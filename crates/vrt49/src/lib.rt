@@ -1,6 +1,7 @@
 // The calls for C, of a static library: include/vrt49.h has them for C, each with its promise in words. A call gives 0 where it is accepted, and else the number
 // of the refusal; its values come back in lent places: single numbers, arrays of a fixed length, and buffers.
 mod answers;
+mod indexes;
 mod packets;
 mod pages;
 mod payloads;
@@ -8,6 +9,9 @@ mod readings;
 mod streams;
 mod tables;
 
+pub use indexes::vrt49_grow;
+pub use indexes::vrt49_jump;
+pub use indexes::vrt49_start_index;
 pub use packets::vrt49_check_body;
 pub use packets::vrt49_field_count;
 pub use packets::vrt49_find;
