@@ -1060,10 +1060,15 @@ def samples():
 
 def pictures():
     """The pictures of the manual are those that are drawn of their recordings, and its lines
-    those that are printed of the sample survey."""
+    those that are printed of the sample survey; where it shows a table, all of its lines."""
     survey = (ROOT / "samples/recordings/survey.vrt").read_bytes()
     printed = run(data=survey).stdout.decode().splitlines()
     manual = (ROOT / "docs/MANUAL.md").read_text()
+    for number in re.findall(r"^    at \d+ packet (\d+): the table just before it$", manual, re.M):
+        lines_of = run("--at", number, data=survey).stdout.decode().splitlines()
+        if "\n" + "".join(f"    {line}".rstrip() + "\n" for line in lines_of) not in manual:
+            differs("docs/MANUAL.md", f"it is not what is printed now of survey.vrt --at {number}")
+        printed += lines_of
     for line in re.findall(r"^    (at \d+ packet .*)$", manual, re.M):
         if line not in printed:
             differs("docs/MANUAL.md", "it is not what is printed now of survey.vrt", line)

@@ -22,11 +22,13 @@ use Rattle.play.specs.Run.{goesOn}
 use Rattle.play.proofs.StreamLaws.{sought-below}
 use Rattle.play.proofs.KeepLaws.{play-taken}
 use Rattle.index_grow.specs.declared.Taken.{Taken}
+use Rattle.index_grow.specs.declared.Taken.the-variants.{Declared, Undeclared}
+use Rattle.index_grow.specs.declared.Stranger.{Stranger}
 use Rattle.index_grow.specs.declared.Grown.{Grown}
 use Rattle.index_grow.specs.declared.Grown.the-variants as grown
 use Rattle.index_grow.specs.Grow.{takenAs, growTold, grownPaper}
 use Rattle.index_grow.proofs.AnswerLaws.{grow-taken}
-use Rattle.vrt49.specs.Indexes.{SmallTaken}
+use Rattle.vrt49.specs.Indexes.{takenValues, SmallTaken}
 
 -- the size of an accepted packet has sixteen bits, and there are at most 32 streams
 abbrev SmallHeard : Heard → Type 0
@@ -65,3 +67,17 @@ taken-small t ws ix left r x m e =
     let d = meets-accepted m (ap grownPaper e) in
     let k = grow-taken t ws ix (d .done) (d .wants) in
     subst SmallTaken (sym (k .said) ∙ d .says) (taken-few t ws (playTold t ws) refl (k .goes))
+
+-- a packet that is taken in is one that was heard, or one of no declared stream
+module _ (x : Taken) (small : SmallTaken x) where
+  pub small-heard : (h : Heard) → x ≡ Declared h → SmallTaken (Declared h)
+  small-heard h e = subst SmallTaken e small
+
+  pub small-stranger : (s : Stranger) → x ≡ Undeclared s → SmallTaken (Undeclared s)
+  small-stranger s e = subst SmallTaken e small
+
+pub heard-entry : (x : Taken) (h : Heard) (r : List ℕ) → x ≡ Declared h → r ≡ takenValues (Declared h) → r ≡ takenValues x
+heard-entry x h r e f = f ∙ ap takenValues (sym e)
+
+pub stranger-entry : (x : Taken) (s : Stranger) (r : List ℕ) → x ≡ Undeclared s → r ≡ takenValues (Undeclared s) → r ≡ takenValues x
+stranger-entry x s r e f = f ∙ ap takenValues (sym e)

@@ -1,6 +1,7 @@
 // The index beside a recording: started, grown, and jumped by.
 ghost use Rattle.words.specs.Kit.{_≡_};
 ghost use Rattle.index.specs.Start.{startIndexOf};
+ghost use Rattle.index_grow.specs.declared.Taken.the-variants.{Declared, Undeclared};
 ghost use Rattle.index_grow.specs.Grow.{growTold};
 ghost use Rattle.index_jump.specs.Jump.{jumpOf};
 ghost use Rattle.vrt49.specs.Answers.{Tells, inNumber, plain, beside};
@@ -14,16 +15,29 @@ pub extern "C" fn vrt49_start_index(table: &[u32], index: &mut [u32], length: &m
     crate::answers::give_length(index::start_index(table, index), length)
 }
 
+// The words of an entry: of a packet that was heard, and of one of no declared stream.
+fn heard_entry(h: play::Heard) -> [u32; 5]
+    requires { ⌜ SmallTaken (Declared h) ⌝ }
+    ensures { λ r. ⌜ r ≡ takenValues (Declared h) ⌝ }
+{
+    [0, h.size as u32, h.kind, h.stream as u32, h.missing]
+}
+
+fn stranger_entry(s: index_grow::Stranger) -> [u32; 5]
+    requires { ⌜ SmallTaken (Undeclared s) ⌝ }
+    ensures { λ r. ⌜ r ≡ takenValues (Undeclared s) ⌝ }
+{
+    [words::STREAM, s.size as u32, s.place as u32, 0, 0]
+}
+
 // What growing says of a packet, as the words of an entry.
 fn taken_words(taken: index_grow::Taken) -> [u32; 5]
     requires { ⌜ SmallTaken taken ⌝ }
     ensures { λ r. ⌜ r ≡ takenValues taken ⌝ }
 {
     match taken {
-        index_grow::Taken::Declared(h) => [0, h.size as u32, h.kind, h.stream as u32, h.missing],
-        index_grow::Taken::Undeclared(s) => {
-            [words::STREAM, s.size as u32, s.place as u32, 0, 0]
-        }
+        index_grow::Taken::Declared(h) => heard_entry(h),
+        index_grow::Taken::Undeclared(s) => stranger_entry(s),
     }
 }
 
