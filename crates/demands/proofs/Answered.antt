@@ -32,6 +32,12 @@ use Rattle.play.specs.declared.run.Reached.{Reached}
 use Rattle.play.specs.declared.run.Ran.the-variants as ran
 use Rattle.play.specs.Play.{playedPaper}
 use Rattle.play.specs.Run.{runPaper}
+use Rattle.index_grow.specs.declared.Taken.{Taken}
+use Rattle.index_grow.specs.declared.Grown.the-variants as grown
+use Rattle.index_grow.specs.Grow.{grownPaper}
+use Rattle.index_jump.specs.declared.Landed.{Landed}
+use Rattle.index_jump.specs.declared.Jumped.the-variants as jumped
+use Rattle.index_jump.specs.Jump.{jumpedPaper}
 use Rattle.panel.specs.declared.FieldReading.the-variants as dial
 use Rattle.panel.specs.Readings.{Reading, frequency, level, gain, temperature, other, absent, readingPaper}
 use Rattle.panel_streams.specs.declared.records.Identity.the-variants as named
@@ -85,6 +91,14 @@ says-played (accepted h) = (played.Accepted h, refl)
 says-ran : (o : Outcome Reached) → Says runPaper o
 says-ran (refused n) = (ran.Refused n, refl)
 says-ran (accepted r) = (ran.Accepted r, refl)
+
+says-grown : (o : Told Taken) → Says grownPaper o
+says-grown (refused n) = (grown.Refused n, refl)
+says-grown (accepted x) = (grown.Accepted x, refl)
+
+says-jumped : (o : Outcome Landed) → Says jumpedPaper o
+says-jumped (refused n) = (jumped.Refused n, refl)
+says-jumped (accepted l) = (jumped.Accepted l, refl)
 
 says-reading : (o : Outcome Reading) → Says readingPaper o
 says-reading (refused n) = (dial.Refused n, refl)
@@ -160,6 +174,9 @@ some-outcome =
     and (λ h. says-measured _)
     and lent-says _ _ _ says-measured
     and lent-says _ _ _ says-measured
+    and lent-says _ _ _ says-measured
+    and lent-says _ _ _ says-grown
+    and lent-says _ _ _ says-jumped
     and (λ h. says-reading _)
     and (λ h. says-readings _)
     and lent-says _ _ _ says-measured

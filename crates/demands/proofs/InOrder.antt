@@ -18,6 +18,9 @@ use Rattle.play.specs.Play.{playList, playOf, playTold}
 use Rattle.play.specs.Run.{runOf}
 use Rattle.page.specs.Save.{lengthOf, saveOf}
 use Rattle.page.specs.PutBack.{putBackOf}
+use Rattle.index.specs.Start.{startIndexOf}
+use Rattle.index_grow.specs.Grow.{growList, growOf, growTold}
+use Rattle.index_jump.specs.Jump.{jumpOf}
 use Rattle.panel.specs.AllReadings.{readingsOf}
 use Rattle.panel.specs.HeldWords.{heldWordsOf}
 use Rattle.panel.specs.Readings.{readingOf}
@@ -28,7 +31,8 @@ use Rattle.panel_streams.specs.Changed.{changedOf}
 use Rattle.demands.specs.Refusals.{InOrder}
 
 pub in-order : InOrder
-unfolding readBy readSurveyOf readTold surveyTold playTold whereOf padFits writeBy startOf playOf saveOf putBackOf readingOf packOf unpackOf signedOf
+unfolding readBy readSurveyOf readTold surveyTold playTold whereOf padFits writeBy startOf playOf saveOf putBackOf startIndexOf growOf growTold jumpOf readingOf packOf unpackOf
+    signedOf
     coordinatesOf itemOf contextOf neededOf trailerWordOf runOf lengthOf
     readingsOf heldWordsOf identityOf typeCountsOf ownTableOf changedOf
 in-order = record {
@@ -40,6 +44,9 @@ in-order = record {
   play = λ t ws. record { order = refl; first = told-first (whereOf ws) (playList t ws) _ };
   save = λ t page. record { order = refl; first = refl };
   putBack = λ p t. record { order = refl; first = refl };
+  startIndex = λ t ix. record { order = refl; first = refl };
+  grow = λ t ws ix. record { order = refl; first = told-first (whereOf ws) (growList t ws ix) _ };
+  jump = λ ws first ix n t. record { order = refl; first = refl };
   reading = λ t stream bit. record { order = refl; first = refl };
   pack = λ first second items events channels out. record { order = refl; first = refl };
   unpack = λ first second n ws b. record { order = refl; first = refl };

@@ -9,6 +9,8 @@ use Rattle.packet.proofs.Uniqueness.{read-once, read-survey-once}
 use Rattle.payload_format.proofs.Uniqueness.{signed-once}
 use Rattle.payload_order.proofs.Uniqueness.{coordinates-once}
 use Rattle.play.proofs.Uniqueness.{play-once, play-run-once}
+use Rattle.index_grow.proofs.Uniqueness.{grow-once}
+use Rattle.index_jump.proofs.Uniqueness.{jump-once}
 use Rattle.panel.proofs.Uniqueness.{reading-once, readings-once}
 use Rattle.panel_streams.proofs.Uniqueness.{identity-once, counts-once, changed-once}
 use Rattle.demands.specs.Calls.{Call, answers, lends, OneOutcome, RefusalLeaves, Each, calls}
@@ -41,6 +43,9 @@ one-outcome =
     and (λ t r s. measured-once)
     and (λ h r s after after′. lent-once)
     and (λ h r s after after′. lent-once)
+    and (λ h r s after after′. lent-once)
+    and (λ h r s after after′. grow-once (h .0) (h .1) (h .2))
+    and (λ h r s after after′. jump-once (h .0) (h .1) (h .2) (h .3) (h .4))
     and (λ h. reading-once (h .0) (h .1) (h .2))
     and (λ h. readings-once (h .0) (h .1))
     and (λ h r s after after′. lent-once)

@@ -17,6 +17,9 @@ use Rattle.play.specs.Run.{entryWords, wholeWalk, runOf}
 use Rattle.play.proofs.AloneLaws.{play-alone, walk-alone}
 use Rattle.page.specs.Save.{lengthOf, saveOf}
 use Rattle.page.proofs.AloneLaws.{page-alone, length-alone}
+use Rattle.index.specs.Layout.{withEntry}
+use Rattle.index.specs.Start.{startedIndex, startIndexOf}
+use Rattle.index_grow.proofs.CopyLaws.{grow-past}
 use Rattle.panel.specs.AllReadings.{recordReadings, readingsOf}
 use Rattle.panel.specs.HeldWords.{copyList, heldWordsOf}
 use Rattle.panel.specs.Readings.{recordShows, readingList, readingOf}
@@ -105,9 +108,10 @@ run-alike true n l x answers d c f g h = (refl, refl, refl)
 run-alike false n l x answers d c f g h = (ap accepted f, g, h)
 
 pub past-unread : (l x : List ℕ) → IsLayout l → PastUnread ours l x
-unfolding saveOf lengthOf runOf wholeWalk
+unfolding saveOf lengthOf runOf wholeWalk startIndexOf startedIndex withEntry
 past-unread l x e = record {
   play = play-alone l x e;
+  grow = λ ws ix. let k = grow-past l x ws ix e in (k .said, k .table, k .index);
   playRun = λ ws from answers.
       let k = walk-alone x (length answers / entryWords) ws from l e in
       rw (well-alone l x e)
@@ -116,6 +120,7 @@ past-unread l x e = record {
   wellMade = well-alone l x e;
   pageLength = rw (well-alone l x e, length-alone l x e);
   save = λ page. rw (well-alone l x e, length-alone l x e, page-alone l x e);
+  startIndex = λ ix. rw (well-alone l x e, length-alone l x e, page-alone l x e);
   reading = reading-alone l x e;
   readings = readings-alone l x e;
   heldWords = held-alone l x e;

@@ -45,6 +45,12 @@ use Rattle.page.proofs.save.Statement as save
 use Rattle.page.proofs.save.Met as save-met
 use Rattle.page.proofs.put_back.Statement as put_back
 use Rattle.page.proofs.put_back.Met as put_back-met
+use Rattle.index.proofs.start_index.Statement as start_index
+use Rattle.index.proofs.start_index.Met as start_index-met
+use Rattle.index_grow.proofs.grow.Statement as grow
+use Rattle.index_grow.proofs.grow.Met as grow-met
+use Rattle.index_jump.proofs.jump.Statement as jump
+use Rattle.index_jump.proofs.jump.Met as jump-met
 use Rattle.panel.proofs.reading.Statement as reading
 use Rattle.panel.proofs.reading.Met as reading-met
 use Rattle.panel.proofs.readings.Statement as readings
@@ -85,6 +91,9 @@ sources = record {
   pageLength = (λ κs a. tt, λ κs a z ws. refl);
   save = (λ κs a. tt, λ κs a z ws. refl);
   putBack = (λ κs a. tt, λ κs a z ws. refl);
+  startIndex = (λ κs a. tt, λ κs a z ws. refl);
+  grow = (λ κs a. tt, λ κs a z ws. refl);
+  jump = (λ κs a. tt, λ κs a z ws. refl);
   reading = (λ κs a. tt, λ κs a z ws. refl);
   readings = (λ κs a. tt, λ κs a z ws. refl);
   heldWords = (λ κs a. tt, λ κs a z ws. refl);
@@ -161,6 +170,15 @@ save-kept = save-met.met
 
 pub put-back-kept : {M : Type 1} → put_back.statement M
 put-back-kept = put_back-met.met
+
+pub start-index-kept : {M : Type 1} → start_index.statement M
+start-index-kept = start_index-met.met
+
+pub grow-kept : {M : Type 1} → grow.statement M
+grow-kept = grow-met.met
+
+pub jump-kept : {M : Type 1} → jump.statement M
+jump-kept = jump-met.met
 
 pub reading-kept : {M : Type 1} → reading.statement M
 reading-kept = reading-met.met

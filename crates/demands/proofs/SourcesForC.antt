@@ -45,6 +45,12 @@ use Rattle.vrt49.proofs.vrt49_save.Statement as save
 use Rattle.vrt49.proofs.vrt49_save.Met as save-met
 use Rattle.vrt49.proofs.vrt49_put_back.Statement as put_back
 use Rattle.vrt49.proofs.vrt49_put_back.Met as put_back-met
+use Rattle.vrt49.proofs.vrt49_start_index.Statement as start_index
+use Rattle.vrt49.proofs.vrt49_start_index.Met as start_index-met
+use Rattle.vrt49.proofs.vrt49_grow.Statement as grow
+use Rattle.vrt49.proofs.vrt49_grow.Met as grow-met
+use Rattle.vrt49.proofs.vrt49_jump.Statement as jump
+use Rattle.vrt49.proofs.vrt49_jump.Met as jump-met
 use Rattle.vrt49.proofs.vrt49_reading.Statement as reading
 use Rattle.vrt49.proofs.vrt49_reading.Met as reading-met
 use Rattle.vrt49.proofs.vrt49_readings.Statement as readings
@@ -85,6 +91,9 @@ sources-for-c = record {
   pageLength = (λ κs a. tt, λ κs a z ws. refl);
   save = (λ κs a. tt, λ κs a z ws. refl);
   putBack = (λ κs a. tt, λ κs a z ws. refl);
+  startIndex = (λ κs a. tt, λ κs a z ws. refl);
+  grow = (λ κs a. tt, λ κs a z ws. refl);
+  jump = (λ κs a. tt, λ κs a z ws. refl);
   reading = (λ κs a. tt, λ κs a z ws. refl);
   readings = (λ κs a. tt, λ κs a z ws. refl);
   heldWords = (λ κs a. tt, λ κs a z ws. refl);
@@ -161,6 +170,15 @@ for-c-save-kept = save-met.met
 
 pub for-c-put-back-kept : {M : Type 1} → put_back.statement M
 for-c-put-back-kept = put_back-met.met
+
+pub for-c-start-index-kept : {M : Type 1} → start_index.statement M
+for-c-start-index-kept = start_index-met.met
+
+pub for-c-grow-kept : {M : Type 1} → grow.statement M
+for-c-grow-kept = grow-met.met
+
+pub for-c-jump-kept : {M : Type 1} → jump.statement M
+for-c-jump-kept = jump-met.met
 
 pub for-c-reading-kept : {M : Type 1} → reading.statement M
 for-c-reading-kept = reading-met.met

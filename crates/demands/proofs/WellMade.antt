@@ -28,6 +28,7 @@ use Rattle.page.specs.Layout.{bodiesIn, tableOf}
 use Rattle.page.specs.Good.{pageGood}
 use Rattle.page.specs.PutBack.{putBackOf}
 use Rattle.page.proofs.Exact.{page-exact}
+use Rattle.index.proofs.GoodLaws.{index-of, of-index}
 use Rattle.demands.specs.Things.{persistent, passing}
 use Rattle.demands.specs.WellMade.{stateIn, RecordClauses, TableClauses, SavedBySome, Judged}
 use Rattle.demands.proofs.RecordLaws.{bit-same, state-slotted}
@@ -210,6 +211,7 @@ unfolding putBackOf
 judged = record {
   tables = λ t. (table-clauses t, clauses-table t);
   pages = λ p. (page-clauses p, clauses-page p);
+  contents = λ ix. (index-of ix, of-index ix);
   put-back = λ p t. (
     λ e x.
         let n = layoutWords (bodiesIn p) in

@@ -25,6 +25,9 @@ use Rattle.play.specs.Play.{playTold, playedPaper}
 use Rattle.play.specs.Run.{runOf, runPaper}
 use Rattle.page.specs.PutBack.{putBackOf}
 use Rattle.page.specs.Save.{lengthOf, saveOf}
+use Rattle.index.specs.Start.{startIndexOf}
+use Rattle.index_grow.specs.Grow.{growTold, grownPaper}
+use Rattle.index_jump.specs.Jump.{jumpOf, jumpedPaper}
 use Rattle.panel.specs.AllReadings.{readingsOf, inEach}
 use Rattle.panel.specs.HeldWords.{heldWordsOf}
 use Rattle.panel.specs.Readings.{readingOf, readingPaper}
@@ -137,6 +140,16 @@ saveCall = lends measured (λ (h : List ℕ × List ℕ). saveOf (h .0) (h .1)) 
 abbrev pub putBackCall : Call
 putBackCall = lends measured (λ (h : List ℕ × List ℕ). putBackOf (h .0) (h .1)) (λ h. h .1)
 
+-- index::start_index, index_grow::grow, index_jump::jump
+abbrev pub startIndexCall : Call
+startIndexCall = lends measured (λ (h : List ℕ × List ℕ). startIndexOf (h .0) (h .1)) (λ h. h .1)
+
+abbrev pub growCall : Call
+growCall = lends grownPaper (λ (h : List ℕ × List ℕ × List ℕ). growTold (h .0) (h .1) (h .2)) (λ h. (h .0, h .2))
+
+abbrev pub jumpCall : Call
+jumpCall = lends jumpedPaper (λ (h : List ℕ × ℕ × List ℕ × ℕ × List ℕ). jumpOf (h .0) (h .1) (h .2) (h .3) (h .4)) (λ h. h .4)
+
 -- panel::reading, readings, held_words
 abbrev pub readingCall : Call
 readingCall = answers readingPaper (λ (h : List ℕ × ℕ × ℕ). readingOf (h .0) (h .1) (h .2))
@@ -166,5 +179,5 @@ calls =
     ∷ readCall ∷ readSurveyCall ∷ writeCall ∷ writeSurveyCall ∷ trailerPartsCall ∷ trailerWordCall
     ∷ wordsNeededCall ∷ unpackCall ∷ packCall ∷ coordinatesOfCall ∷ itemAtCall ∷ signedCall
     ∷ startCall ∷ wellMadeCall ∷ playCall ∷ playRunCall
-    ∷ pageLengthCall ∷ saveCall ∷ putBackCall ∷ readingCall ∷ readingsCall ∷ heldWordsCall
+    ∷ pageLengthCall ∷ saveCall ∷ putBackCall ∷ startIndexCall ∷ growCall ∷ jumpCall ∷ readingCall ∷ readingsCall ∷ heldWordsCall
     ∷ identityCall ∷ countsCall ∷ ownTableCall ∷ changedCall ∷ []

@@ -1,6 +1,7 @@
 -- Document 01: "A lent table may be longer than its layout: words past it are neither read nor changed." Each call that is handed a table answers of a layout
 -- with whatever words past it, however many, as of the layout alone; and what it leaves is what it leaves of the layout alone, and then those words. So two
--- tables with one layout get the same answers and the same layouts. (What `start` and `put_back` write over is not read at all: their definitions say so.)
+-- tables with one layout get the same answers and the same layouts. (What `start`, `put_back` and `jump` write over is not read at all: their
+-- definitions say so.)
 use Rattle.words.specs.Kit.{_≡_, ℕ, List, _++_, length}
 use Rattle.words.specs.Outcome.{saidOf, leftOf}
 use Rattle.table.specs.Layout.{streamsOf, layoutWords}
@@ -21,10 +22,15 @@ pub record PastUnread (P : Program) (l x : List ℕ) : Type 0 where
       (saidOf longer ≡ saidOf alone)
       × (leftOf longer (l ++ x, answers) .0 ≡ leftOf alone (l, answers) .0 ++ x)
       × (leftOf longer (l ++ x, answers) .1 ≡ leftOf alone (l, answers) .1)
+  pub grow : (ws ix : List ℕ)
+      → let longer = P .grow (l ++ x) ws ix in
+      let alone = P .grow l ws ix in
+      (saidOf longer ≡ saidOf alone) × (leftOf longer (l ++ x, ix) .0 ≡ leftOf alone (l, ix) .0 ++ x) × (leftOf longer (l ++ x, ix) .1 ≡ leftOf alone (l, ix) .1)
   -- a table that is read: the answer, and what is left in the buffer for a page, for words or for a table, are the same
   pub wellMade : P .wellMade (l ++ x) ≡ P .wellMade l
   pub pageLength : P .pageLength (l ++ x) ≡ P .pageLength l
   pub save : (page : List ℕ) → P .save (l ++ x) page ≡ P .save l page
+  pub startIndex : (ix : List ℕ) → P .startIndex (l ++ x) ix ≡ P .startIndex l ix
   pub reading : (stream bit : ℕ) → P .reading (l ++ x) stream bit ≡ P .reading l stream bit
   pub readings : (stream : ℕ) → P .readings (l ++ x) stream ≡ P .readings l stream
   pub heldWords : (stream bit : ℕ) (out : List ℕ) → P .heldWords (l ++ x) stream bit out ≡ P .heldWords l stream bit out

@@ -2,7 +2,7 @@
 -- gives the first of its list that applies. The list of a call, each number with the test that says when it is given, stands with the call's definition.
 use Rattle.words.specs.Kit.{_≡_, ℕ, true, List, [], _∷_, _++_, length, getD, drop}
 use Rattle.words.specs.Numbers.{TYPE, SHORT, TIME, INDICATOR, LAYOUT, FIELD}
-use Rattle.words.specs.Numbers.{STREAM, LIST, ROOM, VALUE, SIZE, FORMAT, COUNT, TABLE, PAGE, PAD}
+use Rattle.words.specs.Numbers.{STREAM, LIST, ROOM, VALUE, SIZE, FORMAT, COUNT, TABLE, PAGE, PAD, PLACE}
 use Rattle.words.specs.Word.{join}
 use Rattle.words.specs.Outcome.{Reply, accepted}
 use Rattle.words.specs.Refusals.{RefusalsOf, firstGiven, givenIn}
@@ -33,6 +33,9 @@ use Rattle.play.specs.Run.{wholeWalk, reachedOf, answersOf, runOf}
 use Rattle.page.specs.Layout.{pageOf, pageLength, bodiesIn, tableOf}
 use Rattle.page.specs.Save.{lengthList, saveList, lengthOf, saveOf}
 use Rattle.page.specs.PutBack.{putBackList, putBackOf}
+use Rattle.index.specs.Start.{startWords, startedIndex, startIndexList, startIndexOf}
+use Rattle.index_grow.specs.Grow.{growList, grownDone, growTold}
+use Rattle.index_jump.specs.Jump.{jumpList, landedDone, jumpOf}
 use Rattle.panel.specs.AllReadings.{recordReadings, readingsOf}
 use Rattle.panel.specs.HeldWords.{heldWordsList, heldWordsOf}
 use Rattle.panel.specs.Readings.{recordShows, readingList, readingOf}
@@ -40,7 +43,7 @@ use Rattle.panel_streams.specs.Identity.{declaredIn, identityOf}
 use Rattle.panel_streams.specs.TypeCounts.{typeCountIn, typeCountsList, typeCountsOf}
 use Rattle.panel_streams.specs.OwnTable.{ownDone, ownTableList, ownTableOf}
 use Rattle.panel_streams.specs.Changed.{changedIn, changedList, changedOf}
-use Rattle.vrt49.specs.Calls.{readGiven, surveyGiven, playGiven}
+use Rattle.vrt49.specs.Calls.{readGiven, surveyGiven, playGiven, growGiven}
 
 -- a call's list has these refusals in this order, numbers or numbers with places; the call gives the first of the list that applies, and is else accepted with
 -- this answer
@@ -78,6 +81,13 @@ pub record InOrder : Type 0 where
       → Ordered (saveOf t page) (TABLE ∷ SIZE ∷ ROOM ∷ []) (saveList t page) (record { says = pageLength t; leaves = pageOf t ++ drop (pageLength t) page })
   pub putBack : (p t : List ℕ) → let n = layoutWords (bodiesIn p) in
       Ordered (putBackOf p t) (PAGE ∷ ROOM ∷ []) (putBackList p t) (record { says = n; leaves = tableOf p ++ drop n t })
+  -- document 02, C-16: "jumping PAGE for contents, PLACE, PAGE for the entry, ROOM; starting TABLE, ROOM; growing TABLE, PAGE for contents, reading refusals, ROOM"
+  pub startIndex : (t ix : List ℕ)
+      → Ordered (startIndexOf t ix) (TABLE ∷ ROOM ∷ []) (startIndexList t ix) (record { says = startWords t; leaves = startedIndex t ix })
+  pub grow : (t ws ix : List ℕ)
+      → Ordered (growTold t ws ix) (growGiven (getD ws 0 0) ws) (toldList (whereOf ws) (growList t ws ix)) (grownDone t ws ix)
+  pub jump : (ws : List ℕ) (first : ℕ) (ix : List ℕ) (n : ℕ) (t : List ℕ)
+      → Ordered (jumpOf ws first ix n t) (PAGE ∷ PLACE ∷ PAGE ∷ ROOM ∷ []) (jumpList ws first ix n t) (landedDone ws first ix n t)
   pub reading : (t : List ℕ) (stream bit : ℕ)
       → Ordered (readingOf t stream bit) (TABLE ∷ STREAM ∷ VALUE ∷ []) (readingList t stream bit) (recordShows bit (recordAt stream t))
   -- "Pack: FORMAT, COUNT, VALUE, ROOM. Unpack: FORMAT, COUNT, ROOM. Signed value: FORMAT, VALUE."

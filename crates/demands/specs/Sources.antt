@@ -52,6 +52,12 @@ use Rattle.page.proofs.save.Kinds as save-kinds
 use Rattle.page.proofs.save.Reads as save
 use Rattle.page.proofs.put_back.Kinds as put_back-kinds
 use Rattle.page.proofs.put_back.Reads as put_back
+use Rattle.index.proofs.start_index.Kinds as start_index-kinds
+use Rattle.index.proofs.start_index.Reads as start_index
+use Rattle.index_grow.proofs.grow.Kinds as grow-kinds
+use Rattle.index_grow.proofs.grow.Reads as grow
+use Rattle.index_jump.proofs.jump.Kinds as jump-kinds
+use Rattle.index_jump.proofs.jump.Reads as jump
 use Rattle.panel.proofs.reading.Kinds as reading-kinds
 use Rattle.panel.proofs.reading.Reads as reading
 use Rattle.panel.proofs.readings.Kinds as readings-kinds
@@ -70,7 +76,8 @@ use Rattle.demands.specs.Calls.{Call, answers, lends}
 use Rattle.demands.specs.Calls.{fieldCountCall, checkBodyCall, findCall, readCall, readSurveyCall, writeCall, writeSurveyCall}
 use Rattle.demands.specs.Calls.{trailerPartsCall, trailerWordCall}
 use Rattle.demands.specs.Calls.{wordsNeededCall, unpackCall, packCall, coordinatesOfCall, itemAtCall, signedCall, startCall, wellMadeCall, playCall}
-use Rattle.demands.specs.Calls.{playRunCall, pageLengthCall, saveCall, putBackCall, readingCall, readingsCall, heldWordsCall}
+use Rattle.demands.specs.Calls.{playRunCall, pageLengthCall, saveCall, putBackCall, startIndexCall, growCall, jumpCall}
+use Rattle.demands.specs.Calls.{readingCall, readingsCall, heldWordsCall}
 use Rattle.demands.specs.Calls.{identityCall, countsCall, ownTableCall, changedCall}
 
 -- what a call is handed, what it answers, and the lent words
@@ -175,6 +182,15 @@ pub record Sources : Type 1 where
   -- page::put_back
   pub putBack : Source putBackCall put_back-kinds.ps put_back-kinds.r put_back.Asked put_back.Learnt
       (λ κs a. (a .0 .now, a .1 .0 .now)) (λ κs z. z) (λ κs a ws. ws .1 .0)
+  -- index::start_index
+  pub startIndex : Source startIndexCall start_index-kinds.ps start_index-kinds.r start_index.Asked start_index.Learnt
+      (λ κs a. (a .0 .now, a .1 .0 .now)) (λ κs z. z) (λ κs a ws. ws .1 .0)
+  -- index_grow::grow
+  pub grow : Source growCall grow-kinds.ps grow-kinds.r grow.Asked grow.Learnt
+      (λ κs a. (a .0 .now, a .1 .0 .now, a .1 .1 .0 .now)) (λ κs z. z) (λ κs a ws. (ws .0, ws .1 .1 .0))
+  -- index_jump::jump
+  pub jump : Source jumpCall jump-kinds.ps jump-kinds.r jump.Asked jump.Learnt
+      (λ κs a. (a .0 .now, a .1 .0, a .1 .1 .0 .now, a .1 .1 .1 .0, a .1 .1 .1 .1 .0 .now)) (λ κs z. z) (λ κs a ws. ws .1 .1 .1 .1 .0)
   -- panel::reading
   pub reading : Source readingCall reading-kinds.ps reading-kinds.r reading.Asked reading.Learnt
       (λ κs a. (a .0 .now, a .1 .0, a .1 .1 .0)) (λ κs z. z) (λ κs a ws. tt)

@@ -8,7 +8,7 @@ use Rattle.vrt49.specs.Answers.{Tells, inNumber}
 use Rattle.vrt49.specs.Calls.{CallForC, answers, tells, tellsWhere}
 use Rattle.vrt49.specs.Calls.{forRead, forReadSurvey, forWrite, forWriteSurvey, forTrailerParts, forTrailerWord, forFieldCount, forCheckBody, forFind}
 use Rattle.vrt49.specs.Calls.{forUnpack, forPack, forWordsNeeded, forCoordinatesOf, forItemAt, forSigned, forStart, forWellMade, forPlay}
-use Rattle.vrt49.specs.Calls.{forPlayRun, forPageLength, forSave, forPutBack, forReading, forReadings, forHeldWords}
+use Rattle.vrt49.specs.Calls.{forPlayRun, forPageLength, forSave, forPutBack, forStartIndex, forGrow, forJump, forReading, forReadings, forHeldWords}
 use Rattle.vrt49.specs.Calls.{forIdentity, forCounts, forOwnTable, forChanged}
 use Rattle.vrt49.proofs.vrt49_read.Kinds as read-kinds
 use Rattle.vrt49.proofs.vrt49_read.Reads as read
@@ -54,6 +54,12 @@ use Rattle.vrt49.proofs.vrt49_save.Kinds as save-kinds
 use Rattle.vrt49.proofs.vrt49_save.Reads as save
 use Rattle.vrt49.proofs.vrt49_put_back.Kinds as put_back-kinds
 use Rattle.vrt49.proofs.vrt49_put_back.Reads as put_back
+use Rattle.vrt49.proofs.vrt49_start_index.Kinds as start_index-kinds
+use Rattle.vrt49.proofs.vrt49_start_index.Reads as start_index
+use Rattle.vrt49.proofs.vrt49_grow.Kinds as grow-kinds
+use Rattle.vrt49.proofs.vrt49_grow.Reads as grow
+use Rattle.vrt49.proofs.vrt49_jump.Kinds as jump-kinds
+use Rattle.vrt49.proofs.vrt49_jump.Reads as jump
 use Rattle.vrt49.proofs.vrt49_reading.Kinds as reading-kinds
 use Rattle.vrt49.proofs.vrt49_reading.Reads as reading
 use Rattle.vrt49.proofs.vrt49_readings.Kinds as readings-kinds
@@ -145,6 +151,13 @@ pub record SourcesForC : Type 1 where
       (λ κs a. (a .0 .now, a .1 .0 .now, a .1 .1 .0 .now)) (λ κs z. z) (λ κs a ws. (ws .1 .0, ws .1 .1 .0))
   pub putBack : SourceForC forPutBack put_back-kinds.ps put_back-kinds.r put_back.Asked put_back.Learnt
       (λ κs a. (a .0 .now, a .1 .0 .now, a .1 .1 .0 .now)) (λ κs z. z) (λ κs a ws. (ws .1 .0, ws .1 .1 .0))
+  pub startIndex : SourceForC forStartIndex start_index-kinds.ps start_index-kinds.r start_index.Asked start_index.Learnt
+      (λ κs a. (a .0 .now, a .1 .0 .now, a .1 .1 .0 .now)) (λ κs z. z) (λ κs a ws. (ws .1 .0, ws .1 .1 .0))
+  pub grow : SourceForC forGrow grow-kinds.ps grow-kinds.r grow.Asked grow.Learnt
+      (λ κs a. (a .0 .now, a .1 .0 .now, a .1 .1 .0 .now, a .1 .1 .1 .0 .now)) (λ κs z. z) (λ κs a ws. ((ws .0, ws .1 .1 .0), ws .1 .1 .1 .0))
+  pub jump : SourceForC forJump jump-kinds.ps jump-kinds.r jump.Asked jump.Learnt
+      (λ κs a. (a .0 .now, a .1 .0, a .1 .1 .0 .now, a .1 .1 .1 .0, a .1 .1 .1 .1 .0 .now, a .1 .1 .1 .1 .1 .0 .now, a .1 .1 .1 .1 .1 .1 .0 .now))
+      (λ κs z. z) (λ κs a ws. (ws .1 .1 .1 .1 .0, (ws .1 .1 .1 .1 .1 .0, ws .1 .1 .1 .1 .1 .1 .0)))
   pub reading : SourceForC forReading reading-kinds.ps reading-kinds.r reading.Asked reading.Learnt
       (λ κs a. (a .0 .now, a .1 .0, a .1 .1 .0, a .1 .1 .1 .0 .now, a .1 .1 .1 .1 .0 .now, a .1 .1 .1 .1 .1 .0 .now, a .1 .1 .1 .1 .1 .1 .0 .now))
       (λ κs z. z) (λ κs a ws. (ws .1 .1 .1 .0, ws .1 .1 .1 .1 .0, ws .1 .1 .1 .1 .1 .0, ws .1 .1 .1 .1 .1 .1 .0))

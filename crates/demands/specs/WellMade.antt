@@ -15,6 +15,7 @@ use Rattle.table.specs.Identifiers.{declared}
 use Rattle.table.specs.Well.{wellMade}
 use Rattle.page.specs.Good.{pageGood}
 use Rattle.page.specs.PutBack.{putBackOf}
+use Rattle.index.specs.Good.{indexGood, GoodIndex}
 use Rattle.demands.specs.Things.{fieldBit, persistent, passing}
 use Rattle.demands.specs.Program.{ours}
 use Rattle.demands.specs.Resumed.{SavesAs}
@@ -67,5 +68,7 @@ pub record Judged : Type 0 where
   pub tables : (t : List ℕ) → (wellMade t ≡ true) ↔ TableClauses t
   -- "A page is well made when some well-made table saves exactly its words."
   pub pages : (p : List ℕ) → (pageGood p ≡ true) ↔ SavedBySome p
+  -- document 02, C-16: "Contents are well made when wholly there, with one entry for each boundary reached, ..", fact by fact
+  pub contents : (ix : List ℕ) → (indexGood ix ≡ true) ↔ GoodIndex ix
   -- so PAGE is given exactly where no well-made table does
   pub put-back : (p t : List ℕ) → (putBackOf p t ≡ refused PAGE) ↔ (SavedBySome p → ⊥)

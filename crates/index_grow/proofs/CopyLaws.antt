@@ -23,12 +23,14 @@ use Rattle.play.proofs.KeepLaws.{kept-at}
 use Rattle.play.proofs.AloneLaws.{play-alone, layout-left}
 use Rattle.page.proofs.AloneLaws.{page-alone, length-alone}
 use Rattle.index.specs.Layout.{withEntry}
+use Rattle.index.specs.Good.{indexGood}
 use Rattle.index_grow.specs.declared.Taken.{Taken}
 use Rattle.index_grow.specs.declared.Grown.{Grown}
 use Rattle.index_grow.specs.declared.Grown.the-variants.{Accepted, Refused}
 use Rattle.index_grow.specs.Grow.{takenOf, tableTaken, reachesEntry, entryLacks, indexThen, growOf, growTold, grownPaper}
 use Rattle.index_grow.specs.inner.Steps.{Ready, GrownOn, layoutIn, givenBack}
 use Rattle.index_grow.proofs.GrowLaws.{grow-accepts, grow-refuses, unread-both}
+use Rattle.index_grow.proofs.AnswerLaws.{grow-taken}
 
 -- ---- the layout and the words past it
 
@@ -72,10 +74,13 @@ module _ (k n : ℕ) (t : List ℕ) (e : (k ≡ streamsOf t) × (k < 2 ^ 32)) (f
 pub copy-ready : (t ix copy : List ℕ) → Ready t ix → copy ≡ layoutIn t → Ready copy ix
 copy-ready t ix copy q e = record { table = rw e (copy-well t (q .table)); index = q .index }
 
-none-said : {R A : Type 0} {r : R} {y : A} → _≡_ {A = Reply R A} (refused r) (accepted y) → ⊥
-none-said e = let z : _≡_ {A = ℕ} 0 1 = cc in omega arith
-
 -- ---- growing on the layout alone
+
+-- what growing says and leaves of a table l ++ x, by what it does of l
+pub record GrowAlone (l x ws ix : List ℕ) : Type 0 where
+  pub said : saidOf (growTold (l ++ x) ws ix) ≡ saidOf (growTold l ws ix)
+  pub table : leftOf (growTold (l ++ x) ws ix) (l ++ x, ix) .0 ≡ leftOf (growTold l ws ix) (l, ix) .0 ++ x
+  pub index : leftOf (growTold (l ++ x) ws ix) (l ++ x, ix) .1 ≡ leftOf (growTold l ws ix) (l, ix) .1
 
 module _ (l x ws ix : List ℕ) (e : length l ≡ layoutWords (streamsOf l)) (q : Ready l ix) where
   ready-too : Ready (l ++ x) ix
@@ -100,11 +105,6 @@ module _ (l x ws ix : List ℕ) (e : length l ≡ layoutWords (streamsOf l)) (q 
   unfolding indexThen withEntry
   index-alone = rw (taken-alone, length-alone (tableTaken l ws) x taken-layout, page-alone (tableTaken l ws) x taken-layout)
 
-  pub record GrowAlone : Type 0 where
-    pub said : saidOf (growTold (l ++ x) ws ix) ≡ saidOf (growTold l ws ix)
-    pub index : leftOf (growTold (l ++ x) ws ix) (l ++ x, ix) .1 ≡ leftOf (growTold l ws ix) (l, ix) .1
-    pub table : (y : Taken) → saidOf (growTold l ws ix) ≡ accepted y → leftOf (growTold (l ++ x) ws ix) (l ++ x, ix) .0 ≡ tableTaken l ws ++ x
-
   goes-alone : (b : Bool) → goesOn (saidOf (playTold l ws)) ≡ b → goesOn (saidOf (playTold (l ++ x) ws)) ≡ b
   goes-alone b g = ap goesOn said-alone ∙ g
 
@@ -114,7 +114,7 @@ module _ (l x ws ix : List ℕ) (e : length l ≡ layoutWords (streamsOf l)) (q 
   full-alone : (b : Bool) → full ≡ b → both (reachesEntry ix) (entryLacks (tableTaken (l ++ x) ws) ix) ≡ b
   full-alone b h = rw lacks-alone h
 
-  pub grow-alone : GrowAlone
+  grow-alone : GrowAlone l x ws ix
   grow-alone =
       ⊎-elim
       (λ (g : goesOn (saidOf (playTold l ws)) ≡ true).
@@ -122,19 +122,31 @@ module _ (l x ws ix : List ℕ) (e : length l ≡ layoutWords (streamsOf l)) (q 
       (λ (h : full ≡ true).
       let a = grow-refuses (l ++ x) ws ix ready-too (goes-alone true g) (full-alone true h) in
       let b = grow-refuses l ws ix q g h in
-      record { said = rw (a, b); index = rw (a, b); table = λ y i. absurd (none-said (rw b at i)) })
+      record { said = rw (a, b); table = rw (a, b); index = rw (a, b) })
       (λ (h : full ≡ false).
       let a = grow-accepts (l ++ x) ws ix ready-too (goes-alone true g) (full-alone false h) in
       let b = grow-accepts l ws ix q g h in
-      record { said = rw (a, b, said-alone); index = rw (a, b) index-alone; table = λ y i. rw a taken-alone })
+      record { said = rw (a, b, said-alone); table = rw (a, b) taken-alone; index = rw (a, b) index-alone })
       (true-or-false full))
       (λ (g : goesOn (saidOf (playTold l ws)) ≡ false).
       let a = unread-both (l ++ x) ws ix ready-too (goes-alone false g) in
       let b = unread-both l ws ix q g in
       let both-say : _≡_ {A = Told Heard} (refused (a .says)) (refused (b .says)) = sym (ap saidOf (a .plays)) ∙ said-alone ∙ ap saidOf (b .plays) in
       let same : a .says ≡ b .says = cc in
-      record { said = rw (a .grows, b .grows, same); index = rw (a .grows, b .grows); table = λ y i. absurd (none-said (rw (b .grows) at i)) })
+      record { said = rw (a .grows, b .grows, same); table = rw (a .grows, b .grows); index = rw (a .grows, b .grows) })
       (true-or-false (goesOn (saidOf (playTold l ws))))
+
+-- whatever the table and the contents are: words past the layout are not looked at
+pub grow-past : (l x ws ix : List ℕ) → length l ≡ layoutWords (streamsOf l) → GrowAlone l x ws ix
+unfolding growTold growOf
+grow-past l x ws ix e =
+    ⊎-elim
+    (λ (w : wellMade l ≡ true).
+    ⊎-elim (λ (g : indexGood ix ≡ true). grow-alone l x ws ix e (record { table = w; index = g }))
+    (λ (g : indexGood ix ≡ false). record { said = rw (well-alone l x e, w, g); table = rw (well-alone l x e, w, g); index = rw (well-alone l x e, w, g) })
+    (true-or-false (indexGood ix)))
+    (λ (w : wellMade l ≡ false). record { said = rw (well-alone l x e, w); table = rw (well-alone l x e, w); index = rw (well-alone l x e, w) })
+    (true-or-false (wellMade l))
 
 -- ---- given back
 
@@ -150,7 +162,7 @@ module _ (t ws ix copy : List ℕ) (q : Ready t ix) (e : copy ≡ layoutIn t) (r
   pub back-fits : length left ≤ length t
   back-fits = omega (arith, long, well-whole t (q .table))
 
-  alone : GrowAlone (layoutIn t) (drop (layoutWords (streamsOf t)) t) ws ix (layout-is t (q .table)) (copy-ready t ix (layoutIn t) q refl)
+  alone : GrowAlone (layoutIn t) (drop (layoutWords (streamsOf t)) t) ws ix
   alone = grow-alone (layoutIn t) (drop (layoutWords (streamsOf t)) t) ws ix (layout-is t (q .table)) (copy-ready t ix (layoutIn t) q refl)
 
   -- so of the table itself
@@ -161,7 +173,10 @@ module _ (t ws ix copy : List ℕ) (q : Ready t ix) (e : copy ≡ layoutIn t) (r
   index-whole = rw (whole t (q .table)) at (alone .index) ∙ sym (k .index ∙ rw e)
 
   table-whole : (y : Taken) → saidOf (growTold copy ws ix) ≡ accepted y → leftOf (growTold t ws ix) (t, ix) .0 ≡ left ++ drop (layoutWords (streamsOf t)) t
-  table-whole y f = rw (whole t (q .table)) at (alone .table y (rw e at f)) ∙ rw (k .table, e)
+  table-whole y f =
+      let d = said-accepted (growTold copy ws ix) y f in
+      let taken : leftOf (growTold copy ws ix) (copy, ix) .0 ≡ left = rw (d .1) (grow-taken copy ws ix (d .0) (d .1) .table ∙ sym (k .table)) in
+      rw (whole t (q .table)) at (alone .table) ∙ ap (λ (z : List ℕ). z ++ drop (layoutWords (streamsOf t)) t) (rw e at taken)
 
   copied-by : (g : Grown) (last : List ℕ) → r ≡ g → last ≡ givenBack g left t → leftOf (growTold t ws ix) (t, ix) .0 ≡ last
   unfolding put
