@@ -44,6 +44,9 @@ pub mod PanelShows
 pub mod OwnRight
 -- stopping and resuming, any number of times
 pub mod Resumed
+-- an index grown over a recording, and jumps
+pub mod GrownLaws
+pub mod Jumped
 -- words past a table's layout
 pub mod PastUnread
 -- other streams' packets altered

@@ -1,15 +1,16 @@
 -- What stands in an index after its first four words are written (`withReached`), and after an entry is (`withEntry`). The idea: each is a part that is
 -- replaced, so what is read elsewhere is as it was; and entries that are right stay so, with one more behind them (`entry-more`) and under whatever number of
--- packets has that many boundaries (`reached-good`). An index that is started is right from none.
-use Rattle.words.proofs.Kit.{_≡_, refl, sym, ap, ap₂, _∙_, true, ⊎-elim, List, [], _∷_, ℕ, zero, suc, _+_, _*_, _/_, _%_, _^_, _≤_, _<_, arith, length}
+-- packets has that many boundaries (`reached-good`). An index that is started is right from none; and one that is moved to a longer buffer stays as it was.
+use Rattle.words.proofs.Kit.{_≡_, refl, sym, ap, ap₂, _∙_, true, ⊎-elim, List, [], _∷_, _++_, ℕ, zero, suc, _+_, _*_, _/_, _%_, _^_, _≤_, _<_, arith, length}
 use Rattle.words.proofs.Kit.{drop, getD}
 use native.Mathlib.Nat.{add-zero}
 use native.Mathlib.Numerals.{add-one}
+use lib.ListN.{List·getD-append, length-append}
 use lib.Seq.{getD-drop}
 use Rattle.words.specs.Word.{highFirst}
 use Rattle.words.specs.Part.{part, put}
 use Rattle.words.proofs.Cases.{le-or-lt}
-use Rattle.words.proofs.PartLaws.{getD-part, put-length, part-put, part-put-before, part-put-after, getD-put-before, drop-put-after}
+use Rattle.words.proofs.PartLaws.{getD-part, part-within, put-length, part-put, part-put-before, part-put-after, getD-put-before, drop-put-after}
 use Rattle.table.specs.Well.{wellMade}
 use Rattle.page.specs.Layout.{pageOf, pageLength}
 use Rattle.page.proofs.Bounds.{page-whole}
@@ -17,7 +18,7 @@ use Rattle.index.specs.Layout.{mostEntries, spacing, entryFrom, indexCon
 use Rattle.index.specs.Layout.{entryLength, pageIn, pagesFrom, pagesEnd, placeWords, boundariesBy, withReached, withEntry}
 use Rattle.index.specs.Good.{mostPlace, indexGood, GoodIndex}
 use Rattle.index.specs.Start.{startWords, startedIndex}
-use Rattle.index.proofs.GoodLaws.{of-index}
+use Rattle.index.proofs.GoodLaws.{index-of, of-index}
 
 -- ---- a word of a part that is replaced, and past it
 
@@ -281,3 +282,47 @@ module _ (t ix : List ℕ) (w : wellMade t ≡ true) (h : startWords t ≤ lengt
         place = reached-entry 0 0 first whole 0 .place ∙ entry-place 0 0 indexContents t ix w (omega arith) (omega arith) h;
         page = reached-page 0 0 first whole 0 (omega (arith, here)) ∙ entry-page 0 0 indexContents t ix w (omega arith) (omega arith) h;
       }
+
+-- ---- an index with words behind it, as in a longer buffer
+
+module _ (ix more : List ℕ) (good : indexGood ix ≡ true) where
+  was : GoodIndex ix
+  was = index-of ix good
+
+  moved-word : (i : ℕ) → i < indexContents → getD (ix ++ more) i 0 ≡ getD ix i 0
+  moved-word i h = List·getD-append ix more 0 i (omega (arith, was .whole))
+
+  pub moved-entries : entriesIn (ix ++ more) ≡ entriesIn ix
+  moved-entries = moved-word 0 (omega arith)
+
+  pub moved-packets : packetsTaken (ix ++ more) ≡ packetsTaken ix
+  moved-packets = moved-word 1 (omega arith)
+
+  pub moved-place : placeReached (ix ++ more) ≡ placeReached ix
+  moved-place = ap₂ highFirst (moved-word 2 (omega arith)) (moved-word 3 (omega arith))
+
+  pub moved-entry : (k : ℕ) → k < entriesIn ix → SameEntry ix (ix ++ more) k
+  moved-entry k h = same-entry ix (ix ++ more) k (λ i _ l. moved-word i (omega (arith, was .few)))
+
+  pub moved-page : (k : ℕ) → k < entriesIn ix → pageIn (ix ++ more) k ≡ pageIn ix k
+  moved-page k h =
+      same-page ix (ix ++ more) k (moved-entry k h)
+      (part-within (entryOffset ix k) (entryLength ix k) ix more (omega (arith, page-stands ix was k h .1, was .inside)))
+
+  moved-pages : (j : ℕ) → j ≤ entriesIn ix → pagesFrom (ix ++ more) j ≡ pagesFrom ix j
+  moved-pages j h = same-pages ix (ix ++ more) j (λ k i. moved-entry k (omega arith))
+
+  pub moved-good : indexGood (ix ++ more) ≡ true
+  moved-good =
+      let long = length-append ix more in
+      let count : (j : ℕ) → j < entriesIn (ix ++ more) → j < entriesIn ix = λ j h. omega (arith, h, moved-entries) in
+      of-index (ix ++ more)
+      (record {
+        whole = omega (arith, was .whole, long);
+        entries = moved-entries ∙ was .entries ∙ ap boundariesBy (sym moved-packets);
+        few = omega (arith, was .few, moved-entries);
+        reached = omega (arith, was .reached, moved-place, moved-packets);
+        places = λ j h. rw (moved-entry j (count j h) .place) (was .places j (count j h));
+        gapless = λ j h. let i = count j h in moved-entry j i .offset ∙ was .gapless j i ∙ sym (moved-pages j (omega (arith, i)));
+        inside = omega (arith, was .inside, long, ap (pagesFrom (ix ++ more)) moved-entries ∙ moved-pages (entriesIn ix) (omega arith));
+      })

@@ -1,6 +1,6 @@
 -- Packets one after the other. The idea: a walk that goes on stands behind a packet that was read, which has a word and lies inside the words (`next-inside`).
--- By induction over the packets, then: two runs, one behind the other, are one (`behind-split`); no run goes further than the sizes of its packets
--- (`behind-most`), nor further than the words (`behind-inside`); and the table is kept (`behind-kept`).
+-- By induction over the packets, then: two runs, one behind the other, are one (`behind-split`); no run goes back (`behind-rises`), or further than the sizes
+-- of its packets (`behind-most`), or further than the words (`behind-inside`); and the table is kept (`behind-kept`).
 use Rattle.words.proofs.Kit.{_≡_, refl, sym, ap, _∙_, Bool, true, false, ⊎-elim, List, ℕ, zero, suc, _+_, _*_, _^_, _≤_, _<_, arith}
 use Rattle.words.proofs.Kit.{eqb-true, length, drop, getD}
 use native.Mathlib.Nat.{zero-add, suc-add, mod-lt}
@@ -47,6 +47,11 @@ said-step : (t ws : List ℕ) (at : ℕ) → wellMade t ≡ true → goesOn (sai
 unfolding saidAt playTold
 said-step t ws at w g = rw (told-said (whereOf (drop at ws)) (playOf t (drop at ws)), play-step t (drop at ws) w) at g
 
+-- a walk does not go back
+next-least : (t ws : List ℕ) (at : ℕ) → at ≤ nextOf t ws at
+unfolding nextOf
+next-least t ws at = omega arith
+
 -- it has a word, and lies inside the words
 pub next-inside : (t ws : List ℕ) (at : ℕ) → wellMade t ≡ true → goesOn (saidAt t ws at) ≡ true → (at < nextOf t ws at) × (nextOf t ws at ≤ length ws)
 unfolding nextOf
@@ -84,18 +89,30 @@ module _ (ws : List ℕ) (at : ℕ) (t : List ℕ) where
   unfolding behindPackets
   behind-ended n g = rw g
 
+  -- a recording that has them all goes on behind the first
+  pub behind-goes : (n : ℕ) → behindPackets (suc n) ws at t .all ≡ true → goesOn (saidAt t ws at) ≡ true
+  behind-goes n e =
+      ⊎-elim (λ (g : goesOn (saidAt t ws at) ≡ true). g)
+      (λ (g : goesOn (saidAt t ws at) ≡ false). absurd (true-is-false (sym e ∙ ap (λ (x : Behind). x .all) (behind-ended n g))))
+      (true-or-false (goesOn (saidAt t ws at)))
+
 -- ---- two runs, one behind the other
 
 pub behind-split : (a b : ℕ) (ws : List ℕ) (at : ℕ) (t : List ℕ) → behindPackets a ws at t .all ≡ true
     → behindPackets (a + b) ws at t ≡ behindPackets b ws (behindPackets a ws at t .place) (behindPackets a ws at t .table)
 behind-split zero b ws at t e = ap (λ (n : ℕ). behindPackets n ws at t) (zero-add b) ∙ rw (behind-none ws at t)
 behind-split (suc a) b ws at t e =
-    ⊎-elim
-    (λ (g : goesOn (saidAt t ws at) ≡ true).
+    let g = behind-goes ws at t a e in
     ap (λ (n : ℕ). behindPackets n ws at t) (suc-add a b) ∙ behind-on ws at t (a + b) g
-    ∙ rw (behind-on ws at t a g) (behind-split a b ws (nextOf t ws at) (leftAt t ws at) (rw (behind-on ws at t a g) at e)))
-    (λ (g : goesOn (saidAt t ws at) ≡ false). absurd (true-is-false (sym e ∙ ap (λ (x : Behind). x .all) (behind-ended ws at t a g))))
-    (true-or-false (goesOn (saidAt t ws at)))
+    ∙ rw (behind-on ws at t a g) (behind-split a b ws (nextOf t ws at) (leftAt t ws at) (rw (behind-on ws at t a g) at e))
+
+-- a recording that has some packets has the first of them
+pub behind-fewer : (a b : ℕ) (ws : List ℕ) (at : ℕ) (t : List ℕ) → behindPackets (a + b) ws at t .all ≡ true → behindPackets a ws at t .all ≡ true
+behind-fewer zero b ws at t e = rw (behind-none ws at t)
+behind-fewer (suc a) b ws at t e =
+    let f : behindPackets (suc (a + b)) ws at t .all ≡ true = rw (suc-add a b) at e in
+    let g = behind-goes ws at t (a + b) f in
+    rw (behind-on ws at t a g) (behind-fewer a b ws (nextOf t ws at) (leftAt t ws at) (rw (behind-on ws at t (a + b) g) at f))
 
 -- one packet more, which goes on from the place and the table behind n
 pub behind-more : (n : ℕ) (ws : List ℕ) (at : ℕ) (t : List ℕ) → behindPackets n ws at t .all ≡ true
@@ -130,6 +147,15 @@ behind-kept (suc n) ws at t =
     (λ (g : goesOn (saidAt t ws at) ≡ true).
     rw (behind-on ws at t n g) (kept-then (left-kept t ws at) (behind-kept n ws (nextOf t ws at) (leftAt t ws at))))
     (λ (g : goesOn (saidAt t ws at) ≡ false). rw (behind-ended ws at t n g) (nothing-changed t)) (true-or-false (goesOn (saidAt t ws at)))
+
+-- no run goes back
+pub behind-rises : (n : ℕ) (ws : List ℕ) (at : ℕ) (t : List ℕ) → at ≤ behindPackets n ws at t .place
+behind-rises zero ws at t = rw (behind-none ws at t) (omega arith)
+behind-rises (suc n) ws at t =
+    ⊎-elim
+    (λ (g : goesOn (saidAt t ws at) ≡ true).
+    rw (behind-on ws at t n g) (omega (arith, behind-rises n ws (nextOf t ws at) (leftAt t ws at), next-least t ws at)))
+    (λ (g : goesOn (saidAt t ws at) ≡ false). rw (behind-ended ws at t n g) (omega arith)) (true-or-false (goesOn (saidAt t ws at)))
 
 -- no run goes further than the sizes of its packets
 pub behind-most : (n : ℕ) (ws : List ℕ) (at : ℕ) (t : List ℕ) → behindPackets n ws at t .place ≤ at + 65535 * n

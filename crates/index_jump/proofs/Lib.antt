@@ -2,6 +2,8 @@
 
 -- packets one after the other
 pub mod BehindLaws
+-- those of fewer words
+pub mod WithinLaws
 -- how the walk over them goes
 pub mod WalkLaws
 -- an entry's page in an index

@@ -1,6 +1,6 @@
 -- Words behind a packet. The idea: a packet that a walk goes past was read (`goes-read`), so it has a word and lies inside the words (`goes-inside`), and all
--- that play looks at lies inside its size; so it is played alike whatever stands behind it (`play-beyond`).
-use Rattle.words.proofs.Kit.{_≡_, refl, sym, ap, _∙_, true, ⊎-elim, List, _++_, ℕ, _+_, _≤_, _<_, arith, eqb-true, length, drop, getD}
+-- that play looks at lies inside its size; so it is played alike whatever stands behind it (`play-beyond`), and alike without it (`play-within`).
+use Rattle.words.proofs.Kit.{_≡_, refl, sym, ap, _∙_, Bool, true, ⊎-elim, List, _++_, ℕ, _+_, _≤_, _<_, arith, eqb-true, length, drop, getD}
 use native.Mathlib.Nat.{le-trans}
 use lib.ListN.{List·getD-append, length-append, length-drop}
 use lib.Seq.{take-append-le}
@@ -53,31 +53,38 @@ goes-inside t ws at w g =
     let there = read-inside choice (drop at ws) (k .0) (k .1) in
     (omega (arith, size, some), omega (arith, size, some, there, length-drop at ws))
 
--- ---- a packet that was read, and whatever words behind it
+-- ---- a packet whose words are all there, and whatever words behind it
+
+module _ (ws rest : List ℕ) where
+  -- it is read alike
+  read-longer : (survey : Bool) → 0 < length ws → sizeOf (getD ws 0 0) ≤ length ws → readBy survey ws ≡ readBy survey (ws ++ rest)
+  read-longer survey some there =
+      let more = length-append ws rest in
+      read-beyond survey ws (ws ++ rest) some (omega arith) (sym (List·getD-append ws rest 0 0 some)) there (omega arith)
+      (sym (take-append-le (sizeOf (getD ws 0 0)) ws rest there))
+
+  -- and so it is of one stream
+  choice-same : (t : List ℕ) (survey : Bool) (p : Packet) → readBy survey ws ≡ accepted p → readBy survey (ws ++ rest) ≡ accepted p
+      → chosen t (ws ++ rest) ≡ chosen t ws
+  choice-same t survey p e f =
+      ap (λ (q : Packet). surveyed (q .parts .identifier) t)
+      (read-accepts survey (ws ++ rest) p f .says ∙ sym (read-accepts survey ws p e .says))
+
+-- ---- a packet that was read
 
 module _ (t ws rest : List ℕ) (p : Packet) (e : readBy (chosen t ws) ws ≡ accepted p) where
-  abbrev longer : List ℕ
-  longer = ws ++ rest
-
   header-beyond : getD (ws ++ rest) 0 0 ≡ getD ws 0 0
   header-beyond = List·getD-append ws rest 0 0 (read-accepts (chosen t ws) ws p e .some)
 
-  -- it is read alike
   packet-beyond : readBy (chosen t ws) (ws ++ rest) ≡ accepted p
   packet-beyond =
-      let some = read-accepts (chosen t ws) ws p e .some in
       let there : sizeOf (getD ws 0 0) ≤ length ws = omega (arith, size-said (chosen t ws) ws p e, read-inside (chosen t ws) ws p e) in
-      let more = length-append ws rest in
-      sym (read-beyond (chosen t ws) ws longer some (omega arith) (sym header-beyond) there (omega arith)
-      (sym (take-append-le (sizeOf (getD ws 0 0)) ws rest there)))
-      ∙ e
+      sym (read-longer ws rest (chosen t ws) (read-accepts (chosen t ws) ws p e .some) there) ∙ e
 
   choice-beyond : chosen t (ws ++ rest) ≡ chosen t ws
-  choice-beyond =
-      ap (λ (q : Packet). surveyed (q .parts .identifier) t)
-      (read-accepts (chosen t ws) longer p packet-beyond .says ∙ sym (read-accepts (chosen t ws) ws p e .says))
+  choice-beyond = choice-same ws rest t (chosen t ws) p e packet-beyond
 
-  -- and heard alike
+  -- it is heard alike
   heard-beyond : (s : ℕ) → heardDone p s t (ws ++ rest) ≡ heardDone p s t ws
   unfolding tableAfter
   heard-beyond s = rw (part-within (p .place) (p .length) ws rest (le-trans (body-inside (chosen t ws) ws p e) (read-inside (chosen t ws) ws p e)))
@@ -97,3 +104,13 @@ module _ (t ws rest : List ℕ) (p : Packet) (e : readBy (chosen t ws) ws ≡ ac
 
 pub play-beyond : (t ws rest : List ℕ) → wellMade t ≡ true → goesOn (saidOf (playTold t ws)) ≡ true → playTold t (ws ++ rest) ≡ playTold t ws
 play-beyond t ws rest w g = let k = goes-read t ws w g in played-beyond t ws rest (k .0) (k .1) w
+
+-- and without what stands behind it, where its words are all there
+pub play-within : (t ws rest : List ℕ) → wellMade t ≡ true → 0 < length ws → sizeOf (getD ws 0 0) ≤ length ws
+    → goesOn (saidOf (playTold t (ws ++ rest))) ≡ true → playTold t (ws ++ rest) ≡ playTold t ws
+play-within t ws rest w some there g =
+    let longer : List ℕ = ws ++ rest in
+    let k = goes-read t longer w g in
+    let alike : readBy (chosen t longer) ws ≡ accepted (k .0) = read-longer ws rest (chosen t longer) some there ∙ k .1 in
+    let choice : chosen t longer ≡ chosen t ws = choice-same ws rest t (chosen t longer) (k .0) alike (k .1) in
+    played-beyond t ws rest (k .0) (ap (λ (b : Bool). readBy b ws) (sym choice) ∙ alike) w

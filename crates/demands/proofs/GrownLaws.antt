@@ -1,0 +1,225 @@
+-- An index grown over a recording. The idea: by induction over how it was grown, the recording has the packets that were taken in, and they lead to the place
+-- and the table of the index and the caller; and each entry has the place and the page of the table that its 1,024 j packets lead to (`GrownTo`). A packet that
+-- is taken in is played alike from the words that are given and from the recording, so it leads one packet further.
+use Rattle.words.proofs.Kit.{_≡_, sym, ap, _∙_, true, false, ⊎-elim, List, _++_, ℕ, suc, _+_, _*_, _≤_, _<_, arith, ltb-false, not-false}
+use Rattle.words.proofs.Kit.{length, drop, getD}
+use native.Mathlib.Numerals.{add-one}
+use lib.ListN.{List·getD-append}
+use Rattle.words.specs.Tests.{both}
+use Rattle.words.specs.Outcome.{accepted, Done, saidOf}
+use Rattle.words.proofs.Cases.{le-or-lt, true-or-false, accepted-same}
+use Rattle.words.proofs.RefusalLaws.{first-passed}
+use Rattle.words.proofs.ToldLaws.{told-accepted}
+use Rattle.fields.proofs.PlaceLaws.{first-word}
+use Rattle.packet.specs.Told.{whereOf}
+use Rattle.table.specs.Well.{wellMade}
+use Rattle.play.specs.Play.{playTold}
+use Rattle.play.specs.Run.{goesOn, saidAt, leftAt, nextOf}
+use Rattle.play.proofs.KeepLaws.{play-keeps}
+use Rattle.play.proofs.BeyondLaws.{goes-inside, play-beyond}
+use Rattle.page.specs.Layout.{pageOf}
+use Rattle.index.specs.Layout.{spacing, entriesIn, packetsTaken, placeReached, entryPlace, pageIn}
+use Rattle.index.specs.Good.{indexGood}
+use Rattle.index.specs.Start.{startWords, startedIndex, startIndexList, startIndexOf}
+use Rattle.index.proofs.GoodLaws.{index-of}
+use Rattle.index.proofs.WrittenLaws.{start-good, start-entry, moved-entries, moved-packets, moved-place, moved-entry, moved-page, moved-good}
+use Rattle.index_grow.specs.declared.Taken.{Taken}
+use Rattle.index_grow.specs.Grow.{tableTaken, placeThen, reachesEntry, entryLacks, indexThen, growList, grownDone, growOf, growTold}
+use Rattle.index_grow.specs.inner.Steps.{Ready}
+use Rattle.index_grow.proofs.GrowLaws.{grow-accepts, grow-refuses, unread-both}
+use Rattle.index_grow.proofs.KeptLaws.{then-good, then-packets, then-place, then-entries, then-more, then-same, then-entry}
+use Rattle.index_jump.specs.Onward.{Behind, behindPackets}
+use Rattle.index_jump.proofs.BehindLaws.{behind-none, behind-more}
+use Rattle.demands.specs.Program.{ours}
+use Rattle.demands.specs.Jumped.{GrownOver, started, grown, moved}
+
+-- ---- what is known where starting or growing accepts
+
+pub start-taken : (t ix : List ℕ) (d : Done ℕ (List ℕ)) → startIndexOf t ix ≡ accepted d
+    → (wellMade t ≡ true) × (startWords t ≤ length ix) × (d .leaves ≡ startedIndex t ix)
+unfolding startIndexOf
+start-taken t ix d e =
+    let q = first-passed (startIndexList t ix) _ d e in (
+      not-false (wellMade t) (q .0 .0),
+      ltb-false (length ix) (startWords t) (q .0 .1 .0),
+      ap (λ (x : Done ℕ (List ℕ)). x .leaves) (sym (accepted-same (q .1))),
+    )
+
+pub record TakenIn (t ws ix : List ℕ) (d : Done Taken (List ℕ × List ℕ)) : Type 0 where
+  pub ready : Ready t ix
+  pub goes : goesOn (saidOf (playTold t ws)) ≡ true
+  pub fits : both (reachesEntry ix) (entryLacks (tableTaken t ws) ix) ≡ false
+  pub well : wellMade (tableTaken t ws) ≡ true
+  pub is : d ≡ grownDone t ws ix
+
+module _ (t ws ix : List ℕ) (d : Done Taken (List ℕ × List ℕ)) (e : growTold t ws ix ≡ accepted d) where
+  grow-ready : Ready t ix
+  unfolding growTold growOf
+  grow-ready =
+      let q = first-passed (growList t ws ix) _ d (told-accepted (whereOf ws) (growOf t ws ix) d e) in
+      record { table = not-false (wellMade t) (q .0 .0); index = not-false (indexGood ix) (q .0 .1 .0) }
+
+  -- else both growing and play refuse it
+  grow-goes : goesOn (saidOf (playTold t ws)) ≡ true
+  grow-goes =
+      ⊎-elim (λ (g : goesOn (saidOf (playTold t ws)) ≡ true). g)
+      (λ (g : goesOn (saidOf (playTold t ws)) ≡ false).
+      let no = unread-both t ws ix grow-ready g .grows in
+      let z : _≡_ {A = ℕ} 0 1 = cc in
+      absurd (omega arith))
+      (true-or-false (goesOn (saidOf (playTold t ws))))
+
+  grow-fits : both (reachesEntry ix) (entryLacks (tableTaken t ws) ix) ≡ false
+  grow-fits =
+      ⊎-elim
+      (λ (f : both (reachesEntry ix) (entryLacks (tableTaken t ws) ix) ≡ true).
+      let no = grow-refuses t ws ix grow-ready grow-goes f in
+      let z : _≡_ {A = ℕ} 0 1 = cc in
+      absurd (omega arith))
+      (λ (f : both (reachesEntry ix) (entryLacks (tableTaken t ws) ix) ≡ false). f)
+      (true-or-false (both (reachesEntry ix) (entryLacks (tableTaken t ws) ix)))
+
+  pub taken-in : TakenIn t ws ix d
+  unfolding tableTaken
+  taken-in = record {
+    ready = grow-ready;
+    goes = grow-goes;
+    fits = grow-fits;
+    well = play-keeps t ws .well (grow-ready .table);
+    is = accepted-same (sym e ∙ grow-accepts t ws ix grow-ready grow-goes grow-fits);
+  }
+
+-- ---- where an index stands in the recording ws, which begins with the table first
+
+-- all packets were there, and lead to a place and a table
+abbrev pub standing : ℕ → List ℕ → Behind
+standing place t = record { all = true; place = place; table = t }
+
+pub record EntryOver (ws first ix : List ℕ) (j : ℕ) : Type 0 where
+  pub table : List ℕ
+  pub behind : behindPackets (spacing * j) ws 0 first ≡ standing (entryPlace ix j) table
+  pub page : pageIn ix j ≡ pageOf table
+
+pub record GrownTo (ws first : List ℕ) (n : ℕ) (t ix : List ℕ) : Type 0 where
+  pub good : indexGood ix ≡ true
+  pub packets : packetsTaken ix ≡ n
+  pub well : wellMade first ≡ true
+  pub behind : behindPackets n ws 0 first ≡ standing (placeReached ix) t
+  pub entries : (j : ℕ) → j < entriesIn ix → EntryOver ws first ix j
+
+module _ (ws first : List ℕ) where
+  entry-same : (ix last : List ℕ) (j : ℕ) → entryPlace last j ≡ entryPlace ix j → pageIn last j ≡ pageIn ix j
+      → EntryOver ws first ix j → EntryOver ws first last j
+  entry-same ix last j e f o =
+      record { table = o .table; behind = o .behind ∙ ap (λ (p : ℕ). standing p (o .table)) (sym e); page = f ∙ o .page }
+
+  -- ---- it is started
+
+  grown-started : (lent : List ℕ) (d : Done ℕ (List ℕ)) → startIndexOf first lent ≡ accepted d → GrownTo ws first 0 first (d .leaves)
+  grown-started lent d e =
+      let k = start-taken first lent d e in
+      let good = start-good first lent (k .0) (k .1) in
+      let s = start-entry first lent (k .0) (k .1) in
+      let here : (p : ℕ) → p ≡ 0 → behindPackets 0 ws 0 first ≡ standing p first = λ p f. behind-none ws 0 first ∙ ap (λ (q : ℕ). standing q first) (sym f) in
+      rw (k .2)
+      (record {
+        good = good;
+        packets = s .packets;
+        well = k .0;
+        behind = here (placeReached (startedIndex first lent)) (s .reached);
+        entries = λ j h.
+            let none : j ≡ 0 = omega (arith, h, index-of (startedIndex first lent) good .entries, s .packets) in
+            rw none (record { table = first; behind = here (entryPlace (startedIndex first lent) 0) (s .place); page = s .page });
+      })
+
+  module _ (n : ℕ) (t ix : List ℕ) (g : GrownTo ws first n t ix) where
+    -- ---- it is moved to a longer buffer
+
+    grown-moved : (more : List ℕ) → GrownTo ws first n t (ix ++ more)
+    grown-moved more =
+        let good = g .good in
+        record {
+          good = moved-good ix more good;
+          packets = moved-packets ix more good ∙ g .packets;
+          well = g .well;
+          behind = g .behind ∙ ap (λ (p : ℕ). standing p t) (sym (moved-place ix more good));
+          entries = λ j h.
+              let i : j < entriesIn ix = omega (arith, h, moved-entries ix more good) in
+              entry-same ix (ix ++ more) j (moved-entry ix more good j i .place) (moved-page ix more good j i) (g .entries j i);
+        }
+
+    -- ---- it takes in a packet, from words that are given
+
+    module _ (given rest : List ℕ) (cut : drop (placeReached ix) ws ≡ given ++ rest) (d : Done Taken (List ℕ × List ℕ))
+        (e : growTold t given ix ≡ accepted d) where
+      k : TakenIn t given ix d
+      k = taken-in t given ix d e
+
+      played : playTold t (drop (placeReached ix) ws) ≡ playTold t given
+      played = ap (playTold t) cut ∙ play-beyond t given rest (k .ready .table) (k .goes)
+
+      goes-there : goesOn (saidAt t ws (placeReached ix)) ≡ true
+      unfolding saidAt
+      goes-there = rw played (k .goes)
+
+      left-there : leftAt t ws (placeReached ix) ≡ tableTaken t given
+      unfolding leftAt tableTaken
+      left-there = rw played
+
+      header-there : getD ws (placeReached ix) 0 ≡ getD given 0 0
+      unfolding saidAt
+      header-there =
+          let inside = goes-inside t given 0 (k .ready .table) (k .goes) in
+          sym (first-word (placeReached ix) ws) ∙ ap (λ (l : List ℕ). getD l 0 0) cut
+          ∙ List·getD-append given rest 0 0 (omega (arith, inside .0, inside .1))
+
+      next-there : nextOf t ws (placeReached ix) ≡ placeThen given ix
+      unfolding nextOf
+      next-there = rw (goes-there, header-there)
+
+      one-more : behindPackets (n + 1) ws 0 first ≡ standing (placeThen given ix) (tableTaken t given)
+      one-more =
+          let there : behindPackets n ws 0 first .all ≡ true = ap (λ (b : Behind). b .all) (g .behind) in
+          rw (g .behind, next-there, left-there) at (behind-more n ws 0 first there (rw (g .behind) goes-there))
+
+      last-entry : reachesEntry ix ≡ true → EntryOver ws first (indexThen t given ix) (entriesIn ix)
+      last-entry r =
+          let s = then-entry t given ix (g .good) (k .well) (k .fits) r in
+          record {
+            table = tableTaken t given;
+            behind =
+                ap (λ (i : ℕ). behindPackets i ws 0 first) (s .2 ∙ ap (λ (i : ℕ). i + 1) (g .packets)) ∙ one-more
+                ∙ ap (λ (p : ℕ). standing p (tableTaken t given)) (sym (s .0));
+            page = s .1;
+          }
+
+      entries-then : (j : ℕ) → j < entriesIn (indexThen t given ix) → EntryOver ws first (indexThen t given ix) j
+      entries-then j h =
+          let kept : j < entriesIn ix → EntryOver ws first (indexThen t given ix) j =
+          λ i. let s = then-same t given ix (g .good) (k .well) (k .fits) j i in entry-same ix (indexThen t given ix) j (s .0) (s .1) (g .entries j i) in
+          ⊎-elim
+          (λ (r : reachesEntry ix ≡ true).
+          ⊎-elim
+          (λ (i : entriesIn ix ≤ j).
+          let last : j ≡ entriesIn ix = omega (arith, h, then-more t given ix (g .good) (k .well) (k .fits) r) in
+          rw last (last-entry r))
+          kept (le-or-lt (entriesIn ix) j))
+          (λ (r : reachesEntry ix ≡ false). kept (omega (arith, h, then-entries t given ix (g .good) (k .well) (k .fits) r)))
+          (true-or-false (reachesEntry ix))
+
+      grown-on : GrownTo ws first (suc n) (d .leaves .0) (d .leaves .1)
+      grown-on =
+          let place = then-place t given ix (g .good) (k .well) (k .fits) in
+          rw (k .is, ← add-one n)
+          (record {
+            good = then-good t given ix (g .good) (k .well) (k .fits);
+            packets = then-packets t given ix (g .good) (k .well) (k .fits) ∙ ap (λ (i : ℕ). i + 1) (g .packets);
+            well = g .well;
+            behind = one-more ∙ ap (λ (p : ℕ). standing p (tableTaken t given)) (sym place);
+            entries = entries-then;
+          })
+
+  pub grown-to : {n : ℕ} {t ix : List ℕ} → GrownOver ours ws first n t ix → GrownTo ws first n t ix
+  grown-to (started {lent = lent} d e) = grown-started lent d e
+  grown-to (grown {n = n} {t = t} {ix = ix} g given rest cut d e) = grown-on n t ix (grown-to g) given rest cut d e
+  grown-to (moved {n = n} {t = t} {ix = ix} more g) = grown-moved n t ix (grown-to g) more
