@@ -5,17 +5,13 @@ use Rattle.words.proofs.Kit.{_≡_, sym, ap, _∙_, true, false, ⊎-elim, List
 use Rattle.words.proofs.Kit.{length, drop, getD}
 use native.Mathlib.Numerals.{add-one}
 use lib.ListN.{List·getD-append}
-use Rattle.words.specs.Tests.{both}
-use Rattle.words.specs.Outcome.{accepted, Done, saidOf}
+use Rattle.words.specs.Outcome.{accepted, Done}
 use Rattle.words.proofs.Cases.{le-or-lt, true-or-false, accepted-same}
 use Rattle.words.proofs.RefusalLaws.{first-passed}
-use Rattle.words.proofs.ToldLaws.{told-accepted}
 use Rattle.fields.proofs.PlaceLaws.{first-word}
-use Rattle.packet.specs.Told.{whereOf}
 use Rattle.table.specs.Well.{wellMade}
 use Rattle.play.specs.Play.{playTold}
 use Rattle.play.specs.Run.{goesOn, saidAt, leftAt, nextOf}
-use Rattle.play.proofs.KeepLaws.{play-keeps}
 use Rattle.play.proofs.BeyondLaws.{goes-inside, play-beyond}
 use Rattle.page.specs.Layout.{pageOf}
 use Rattle.index.specs.Layout.{spacing, entriesIn, packetsTaken, placeReached, entryPlace, pageIn}
@@ -24,9 +20,8 @@ use Rattle.index.specs.Start.{startWords, startedIndex, startIndexList, startIn
 use Rattle.index.proofs.GoodLaws.{index-of}
 use Rattle.index.proofs.WrittenLaws.{start-good, start-entry, moved-entries, moved-packets, moved-place, moved-entry, moved-page, moved-good}
 use Rattle.index_grow.specs.declared.Taken.{Taken}
-use Rattle.index_grow.specs.Grow.{tableTaken, placeThen, reachesEntry, entryLacks, indexThen, growList, grownDone, growOf, growTold}
-use Rattle.index_grow.specs.inner.Steps.{Ready}
-use Rattle.index_grow.proofs.GrowLaws.{grow-accepts, grow-refuses, unread-both}
+use Rattle.index_grow.specs.Grow.{tableTaken, placeThen, reachesEntry, indexThen, growTold}
+use Rattle.index_grow.proofs.AnswerLaws.{GrowTaken, grow-taken}
 use Rattle.index_grow.proofs.KeptLaws.{then-good, then-packets, then-place, then-entries, then-more, then-same, then-entry}
 use Rattle.index_jump.specs.Onward.{Behind, behindPackets}
 use Rattle.index_jump.proofs.BehindLaws.{behind-none, behind-more}
@@ -44,50 +39,6 @@ start-taken t ix d e =
       ltb-false (length ix) (startWords t) (q .0 .1 .0),
       ap (λ (x : Done ℕ (List ℕ)). x .leaves) (sym (accepted-same (q .1))),
     )
-
-pub record TakenIn (t ws ix : List ℕ) (d : Done Taken (List ℕ × List ℕ)) : Type 0 where
-  pub ready : Ready t ix
-  pub goes : goesOn (saidOf (playTold t ws)) ≡ true
-  pub fits : both (reachesEntry ix) (entryLacks (tableTaken t ws) ix) ≡ false
-  pub well : wellMade (tableTaken t ws) ≡ true
-  pub is : d ≡ grownDone t ws ix
-
-module _ (t ws ix : List ℕ) (d : Done Taken (List ℕ × List ℕ)) (e : growTold t ws ix ≡ accepted d) where
-  grow-ready : Ready t ix
-  unfolding growTold growOf
-  grow-ready =
-      let q = first-passed (growList t ws ix) _ d (told-accepted (whereOf ws) (growOf t ws ix) d e) in
-      record { table = not-false (wellMade t) (q .0 .0); index = not-false (indexGood ix) (q .0 .1 .0) }
-
-  -- else both growing and play refuse it
-  grow-goes : goesOn (saidOf (playTold t ws)) ≡ true
-  grow-goes =
-      ⊎-elim (λ (g : goesOn (saidOf (playTold t ws)) ≡ true). g)
-      (λ (g : goesOn (saidOf (playTold t ws)) ≡ false).
-      let no = unread-both t ws ix grow-ready g .grows in
-      let z : _≡_ {A = ℕ} 0 1 = cc in
-      absurd (omega arith))
-      (true-or-false (goesOn (saidOf (playTold t ws))))
-
-  grow-fits : both (reachesEntry ix) (entryLacks (tableTaken t ws) ix) ≡ false
-  grow-fits =
-      ⊎-elim
-      (λ (f : both (reachesEntry ix) (entryLacks (tableTaken t ws) ix) ≡ true).
-      let no = grow-refuses t ws ix grow-ready grow-goes f in
-      let z : _≡_ {A = ℕ} 0 1 = cc in
-      absurd (omega arith))
-      (λ (f : both (reachesEntry ix) (entryLacks (tableTaken t ws) ix) ≡ false). f)
-      (true-or-false (both (reachesEntry ix) (entryLacks (tableTaken t ws) ix)))
-
-  pub taken-in : TakenIn t ws ix d
-  unfolding tableTaken
-  taken-in = record {
-    ready = grow-ready;
-    goes = grow-goes;
-    fits = grow-fits;
-    well = play-keeps t ws .well (grow-ready .table);
-    is = accepted-same (sym e ∙ grow-accepts t ws ix grow-ready grow-goes grow-fits);
-  }
 
 -- ---- where an index stands in the recording ws, which begins with the table first
 
@@ -152,8 +103,8 @@ module _ (ws first : List ℕ) where
 
     module _ (given rest : List ℕ) (cut : drop (placeReached ix) ws ≡ given ++ rest) (d : Done Taken (List ℕ × List ℕ))
         (e : growTold t given ix ≡ accepted d) where
-      k : TakenIn t given ix d
-      k = taken-in t given ix d e
+      k : GrowTaken t given ix d
+      k = grow-taken t given ix d e
 
       played : playTold t (drop (placeReached ix) ws) ≡ playTold t given
       played = ap (playTold t) cut ∙ play-beyond t given rest (k .ready .table) (k .goes)

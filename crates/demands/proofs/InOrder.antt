@@ -31,9 +31,8 @@ use Rattle.panel_streams.specs.Changed.{changedOf}
 use Rattle.demands.specs.Refusals.{InOrder}
 
 pub in-order : InOrder
-unfolding readBy readSurveyOf readTold surveyTold playTold whereOf padFits writeBy startOf playOf saveOf putBackOf startIndexOf growOf growTold jumpOf readingOf packOf unpackOf
-    signedOf
-    coordinatesOf itemOf contextOf neededOf trailerWordOf runOf lengthOf
+unfolding readBy readSurveyOf readTold surveyTold playTold whereOf padFits writeBy startOf playOf saveOf putBackOf startIndexOf growOf growTold jumpOf
+    readingOf packOf unpackOf signedOf coordinatesOf itemOf contextOf neededOf trailerWordOf runOf lengthOf
     readingsOf heldWordsOf identityOf typeCountsOf ownTableOf changedOf
 in-order = record {
   read = λ ws. record { order = refl; first = told-first (whereOf ws) (readList (getD ws 0 0) ws) _ };

@@ -20,7 +20,7 @@ use Rattle.index.specs.Layout.{spacing, packetsTaken, entryPlace}
 use Rattle.index.proofs.GoodLaws.{index-of}
 use Rattle.index.proofs.WrittenLaws.{start-good, start-entry}
 use Rattle.index_grow.specs.Grow.{tableTaken}
-use Rattle.index_grow.proofs.KeptLaws.{then-good, then-packets}
+use Rattle.index_grow.proofs.KeptLaws.{then-good, then-packets, then-place}
 use Rattle.index_jump.specs.Onward.{Behind, behindPackets}
 use Rattle.index_jump.specs.Jump.{entryBefore, packetsFrom, landingWords, landing, entryServes, landedDone, jumpOf}
 use Rattle.index_jump.proofs.BehindLaws.{behind-goes, behind-split, behind-fewer, behind-kept, behind-rises}
@@ -33,7 +33,8 @@ use Rattle.demands.specs.Jumped.{packetsBehind, placeBehind, Handed, Lan
 use Rattle.demands.proofs.RightLaws.{right-on, answers-on, past-on}
 use Rattle.demands.proofs.Determined.{determined}
 use Rattle.demands.proofs.Resumed.{right-layout}
-use Rattle.demands.proofs.GrownLaws.{start-taken, taken-in, EntryOver, GrownTo, grown-to}
+use Rattle.index_grow.proofs.AnswerLaws.{grow-taken}
+use Rattle.demands.proofs.GrownLaws.{start-taken, EntryOver, GrownTo, grown-to}
 
 -- ---- starting and growing
 
@@ -45,7 +46,7 @@ starts-index t ix d e =
 pub grows : Grows ours
 unfolding tableTaken
 grows t ws ix d e =
-    let k = taken-in t ws ix d e in
+    let k = grow-taken t ws ix d e in
     let good = k .ready .index in
     rw (k .is)
     (record {
@@ -54,6 +55,7 @@ grows t ws ix d e =
       table = refl;
       contents = then-good t ws ix good (k .well) (k .fits);
       packets = then-packets t ws ix good (k .well) (k .fits);
+      place = then-place t ws ix good (k .well) (k .fits);
     })
 
 -- ---- packets played one by one, and packets behind a place

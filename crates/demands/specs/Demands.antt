@@ -176,8 +176,8 @@ pub record Demand3 (P : Program) : Type 0 where
   -- and so all day, with any number of stops: "every answer and the final table equal those of the unbroken play", and so does every page
   pub days : (list : Listing) (first packets : List (List ℕ)) (t last : List ℕ) (answers : List (Told Heard)) (stops : List Stop) → Right list first t
       → Day P [] t packets answers stops last → DayRight P list first t packets answers stops last
-  -- document 02, C-16: "Demand 3's resuming now speaks of jumps both ways". An index is started with well-made contents, and growing is play; a jump to any packet
-  -- taken in leaves the table of playing all earlier packets on the first, and where that one was right, a right one; PLACE is given exactly above them
+  -- document 02, C-16: "Demand 3's resuming now speaks of jumps both ways". An index is started with well-made contents, and growing is play; a jump to any
+  -- packet taken in leaves the table of playing all earlier packets on the first, and where that one was right, a right one; PLACE is given exactly above them
   pub starts-index : StartsIndex P
   pub grows : Grows P
   pub jumps : Jumps P

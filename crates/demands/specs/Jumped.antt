@@ -13,7 +13,7 @@ use Rattle.index_grow.specs.declared.Taken.{Taken}
 use Rattle.index_grow.specs.Grow.{takenAs}
 use Rattle.index_jump.specs.declared.Landed.{Landed}
 use Rattle.index_jump.specs.Jump.{entryBefore}
-use Rattle.demands.specs.Listing.{Listing, streamsIn}
+use Rattle.demands.specs.Listing.{Listing}
 use Rattle.demands.specs.Trace.{traceOf, answersAfter}
 use Rattle.demands.specs.Program.{Program, playAll, saidAll}
 use Rattle.demands.specs.Right.{Right, layoutOf, pastOf}
@@ -31,16 +31,16 @@ placeBehind (suc n) ws at = placeBehind n ws (at + sizeOf (getD ws at 0))
 
 -- ---- an index grown over a recording
 
--- "grown over this recording from the table at boundary 0, each packet's table handed to the next": n packets of ws were taken in, the table is t then. The words
--- that growing is handed are some of the recording's from the next packet on; and an index may be moved to a longer buffer
+-- "grown over this recording from the table at boundary 0, each packet's table handed to the next": n packets of ws were taken in, and the table is t then. The
+-- words that growing is handed are some of the recording's from the next packet on; and an index may be moved to a longer buffer
 pub data GrownOver (P : Program) (ws first : List ℕ) : ℕ → List ℕ → List ℕ → Type 0 where
   started : {lent : List ℕ} (d : Done ℕ (List ℕ)) → P .startIndex first lent ≡ accepted d → GrownOver P ws first 0 first (d .leaves)
   grown : {n : ℕ} {t ix : List ℕ} → GrownOver P ws first n t ix → (given rest : List ℕ) → drop (placeReached ix) ws ≡ given ++ rest
       → (d : Done Taken (List ℕ × List ℕ)) → P .grow t given ix ≡ accepted d → GrownOver P ws first (suc n) (d .leaves .0) (d .leaves .1)
   moved : {n : ℕ} {t ix : List ℕ} (more : List ℕ) → GrownOver P ws first n t ix → GrownOver P ws first n t (ix ++ more)
 
--- the words that a jump to packet n is handed: the recording's from the word place `from` on, which is not behind the entry before the packet; they go on to the
--- packet. From 0 on they may be all of it
+-- the words that a jump to packet n is handed: the recording's from the word place `from` on, which is not behind the entry before the packet; they go on to
+-- the packet. From 0 on they may be all of it
 pub record Handed (ws ix : List ℕ) (n from : ℕ) (given : List ℕ) : Type 0 where
   pub rest : List ℕ
   pub cut : drop from ws ≡ given ++ rest
@@ -64,7 +64,8 @@ Jumps P = (ws first : List ℕ) (taken : ℕ) (t ix : List ℕ) → GrownOver P 
     → Handed ws ix n from given → (lent : List ℕ) → layoutWords (streamsOf first) ≤ length lent → Lands P ws first ix n from given lent
 
 -- "if that table was right for some packets": the landed one is right for them and the earlier packets of the recording, and goes on as the unbroken play does
-pub record JumpedTo (P : Program) (list : Listing) (before : List (List ℕ)) (first : List ℕ) (earlier rest : List (List ℕ)) (landed lent : List ℕ) : Type 0 where
+pub record JumpedTo (P : Program) (list : Listing) (before : List (List ℕ)) (first : List ℕ) (earlier rest : List (List ℕ)) (landed lent : List ℕ)
+    : Type 0 where
   pub right : Right list (before ++ earlier) landed
   pub onward : Right list ((before ++ earlier) ++ rest) (playAll P landed rest)
   pub answers : saidAll P landed rest ≡ answersAfter (traceOf list (before ++ earlier)) (traceOf list rest)
@@ -79,14 +80,15 @@ JumpsRight P = (list : Listing) (before : List (List ℕ)) (ws first : List ℕ)
 
 -- ---- growing and starting
 
--- growing is play: what it leaves of the table and says of the packet is what play does of the same words, which the recording goes on behind; and contents stay
--- well made
+-- growing is play: what it leaves of the table and says of the packet is what play does of the same words, behind which the recording goes on; and contents
+-- stay well made, with the packet counted
 pub record GrowsAsPlay (P : Program) (t ws ix : List ℕ) (d : Done Taken (List ℕ × List ℕ)) : Type 0 where
   pub goes : goesOn (saidOf (P .play t ws)) ≡ true
   pub said : d .says ≡ takenAs (saidOf (P .play t ws)) (sizeOf (getD ws 0 0))
   pub table : d .leaves .0 ≡ leftOf (P .play t ws) t
   pub contents : indexGood (d .leaves .1) ≡ true
   pub packets : packetsTaken (d .leaves .1) ≡ packetsTaken ix + 1
+  pub place : placeReached (d .leaves .1) ≡ placeReached ix + sizeOf (getD ws 0 0)
 
 abbrev pub Grows : Program → Type 0
 Grows P = (t ws ix : List ℕ) (d : Done Taken (List ℕ × List ℕ)) → P .grow t ws ix ≡ accepted d → GrowsAsPlay P t ws ix d

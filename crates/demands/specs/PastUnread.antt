@@ -25,7 +25,9 @@ pub record PastUnread (P : Program) (l x : List ℕ) : Type 0 where
   pub grow : (ws ix : List ℕ)
       → let longer = P .grow (l ++ x) ws ix in
       let alone = P .grow l ws ix in
-      (saidOf longer ≡ saidOf alone) × (leftOf longer (l ++ x, ix) .0 ≡ leftOf alone (l, ix) .0 ++ x) × (leftOf longer (l ++ x, ix) .1 ≡ leftOf alone (l, ix) .1)
+      (saidOf longer ≡ saidOf alone)
+      × (leftOf longer (l ++ x, ix) .0 ≡ leftOf alone (l, ix) .0 ++ x)
+      × (leftOf longer (l ++ x, ix) .1 ≡ leftOf alone (l, ix) .1)
   -- a table that is read: the answer, and what is left in the buffer for a page, for words or for a table, are the same
   pub wellMade : P .wellMade (l ++ x) ≡ P .wellMade l
   pub pageLength : P .pageLength (l ++ x) ≡ P .pageLength l

@@ -81,7 +81,8 @@ pub record InOrder : Type 0 where
       → Ordered (saveOf t page) (TABLE ∷ SIZE ∷ ROOM ∷ []) (saveList t page) (record { says = pageLength t; leaves = pageOf t ++ drop (pageLength t) page })
   pub putBack : (p t : List ℕ) → let n = layoutWords (bodiesIn p) in
       Ordered (putBackOf p t) (PAGE ∷ ROOM ∷ []) (putBackList p t) (record { says = n; leaves = tableOf p ++ drop n t })
-  -- document 02, C-16: "jumping PAGE for contents, PLACE, PAGE for the entry, ROOM; starting TABLE, ROOM; growing TABLE, PAGE for contents, reading refusals, ROOM"
+  -- document 02, C-16: "jumping PAGE for contents, PLACE, PAGE for the entry, ROOM; starting TABLE, ROOM; growing TABLE, PAGE for contents, reading refusals,
+  -- ROOM"
   pub startIndex : (t ix : List ℕ)
       → Ordered (startIndexOf t ix) (TABLE ∷ ROOM ∷ []) (startIndexList t ix) (record { says = startWords t; leaves = startedIndex t ix })
   pub grow : (t ws ix : List ℕ)

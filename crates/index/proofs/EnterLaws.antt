@@ -1,6 +1,6 @@
--- A page saved into an index. The idea: the words from the offset on are lent to saving, whose answers are those of `savedAt` (`saved-lent`); an entry more does
--- not change what is refused (`entered-refused`, `entered-made`), and an index that is started is its first entry (`start-refused`, `start-made`).
-use Rattle.words.proofs.Kit.{_≡_, refl, sym, ap, _∙_, Bool, true, false, not, ⊎-elim, List, [], _∷_, _++_, ℕ, _+_, _-_, _^_, _≤_, _<_, arith, lt-ltb, le-ltb}
+-- A page saved into an index. The idea: the words from the offset on are lent to saving, whose answers are those of `savedAt` (`saved-lent`); an entry more
+-- does not change what is refused (`entered-refused`, `entered-made`), and an index that is started is its first entry (`start-refused`, `start-made`).
+use Rattle.words.proofs.Kit.{_≡_, refl, sym, ap, _∙_, Bool, true, false, ⊎-elim, List, [], _∷_, _++_, ℕ, _+_, _-_, _^_, _≤_, _<_, arith, lt-ltb, le-ltb}
 use Rattle.words.proofs.Kit.{ltb-false, not-false, ltb, length, take, drop}
 use borrow.Rule.Slice.PartMut.{midOf, putMid}
 use mathlib.Core.List.{append-nil}
@@ -10,17 +10,17 @@ use Rattle.words.specs.declared.Length.{Length}
 use Rattle.words.specs.declared.Length.the-variants.{Accepted, Refused}
 use Rattle.words.specs.Numbers.{TABLE, ROOM}
 use Rattle.words.specs.Part.{put}
-use Rattle.words.specs.Outcome.{Outcome, refused, accepted, measured, Done, saidOf, leftOf, Meets}
+use Rattle.words.specs.Outcome.{Outcome, refused, measured, Done, saidOf, leftOf, Meets}
 use Rattle.words.proofs.Cases.{true-or-false, le-or-lt, accepted-same}
 use Rattle.words.proofs.RefusalLaws.{first-passed, first-refused}
 use Rattle.words.proofs.MeetLaws.{meets-accepted, meets-refused, meets-length, said-refused}
 use Rattle.table.specs.Well.{wellMade}
-use Rattle.page.specs.Layout.{pageOf, pageLength, mostWords}
+use Rattle.page.specs.Layout.{pageOf, pageLength}
 use Rattle.page.specs.Save.{sizeLimit, saveOf}
 use Rattle.page.proofs.Bounds.{page-small, page-whole}
 use Rattle.words.proofs.PartLaws.{put-length}
-use Rattle.index.specs.Layout.{mostEntries, entryFrom, indexContents, placeWords, withReached, withEntry}
-use Rattle.index.specs.Start.{startWords, startedIndex, startIndexList, startIndexOf}
+use Rattle.index.specs.Layout.{entryFrom, indexContents, placeWords, withReached, withEntry}
+use Rattle.index.specs.Start.{startWords, startedIndex, startIndexOf}
 use Rattle.index.specs.inner.Entered.{enterList, savedAt, enteredAt}
 
 -- ---- the words from the offset on

@@ -1,12 +1,12 @@
 -- When contents are well made. The idea: the test says what `GoodIndex` says in facts (`index-of`, `of-index`); while the entries before it are right, page j
 -- begins where the lengths say (`Listed`), so one pass tests them all.
-use Rattle.words.proofs.Kit.{_≡_, refl, sym, ap, _∙_, Bool, true, false, not, List, ℕ, zero, suc, _+_, _*_, _/_, _^_, _≤_, _<_, arith, eq-eqb, ne-eqb, le-leb, lt-leb}
-use Rattle.words.proofs.Kit.{eqb-true, not-true, not-false, eqb, leb, length, getD}
+use Rattle.words.proofs.Kit.{_≡_, refl, sym, ap, _∙_, Bool, true, false, not, List, ℕ, _+_, _*_, _/_, _^_, _≤_, _<_, arith, eq-eqb, ne-eqb}
+use Rattle.words.proofs.Kit.{le-leb, lt-leb, eqb-true, not-true, not-false, eqb, leb, length}
 use native.Mathlib.Numerals.{add-one}
 use borrow.Author.Tests.{leb-true}
 use Rattle.words.specs.Tests.{both}
 use Rattle.words.specs.All.{all}
-use Rattle.words.proofs.Cases.{both-left, both-right, both-true, both-no}
+use Rattle.words.proofs.Cases.{both-left, both-right, both-true}
 use Rattle.words.proofs.AllLaws.{all-none, all-more, all-fails, all-end, all-at, all-intro}
 use Rattle.index.specs.Layout.{mostEntries, spacing, indexContents, entriesIn, packetsTaken, placeReached, entryPlace, entryOffset, entryLength}
 use Rattle.index.specs.Layout.{pagesFrom, pagesEnd, boundariesBy}

@@ -1,5 +1,5 @@
 -- Words that are written into the contents. The idea: four stores one after the other are a part that is replaced (`four-stores`).
-use Rattle.words.proofs.Kit.{_≡_, _∙_, List, [], _∷_, ℕ, suc, _+_, _/_, _%_, _^_, _≤_, _<_, arith, length, set}
+use Rattle.words.proofs.Kit.{_≡_, _∙_, List, [], _∷_, ℕ, suc, _+_, _/_, _%_, _^_, _≤_, arith, length, set}
 use native.Mathlib.Numerals.{add-one}
 use Rattle.words.specs.Part.{put}
 use Rattle.words.proofs.LaidLaws.{sets-put}

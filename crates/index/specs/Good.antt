@@ -1,6 +1,6 @@
--- Document 02, C-16: "Contents are well made when wholly there, with one entry for each boundary reached, no word place over 65,535 words for each packet before
--- it, and pages behind the contents in order, without gaps, inside the buffer." No more is asked: not that word places rise, nor anything of the entries that
--- are not there yet, nor of the pages.
+-- Document 02, C-16: "Contents are well made when wholly there, with one entry for each boundary reached, no word place over 65,535 words for each packet
+-- before it, and pages behind the contents in order, without gaps, inside the buffer." No more is asked: not that word places rise, nor anything of the
+-- entries that are not there yet, nor of the pages.
 use Rattle.words.specs.Kit.{_≡_, ℕ, _*_, _≤_, _<_, Bool, List, eqb, leb, length}
 use Rattle.words.specs.Tests.{both}
 use Rattle.words.specs.All.{all}

@@ -1,8 +1,8 @@
--- Document 02, C-16: "Keep an index beside it: contents for up to 1,024 entries, then a saved page at packet boundary 0 and every 1,024th reached after it, with
--- its word place." Boundary N is the place just before packet N; packets and boundaries are numbered from 0. docs/LAYOUT.md has the words in a picture: word 0 is
--- the number of entries, word 1 that of the packets taken in, words 2 and 3 the word place of the boundary behind them; then four words for each entry, and
--- then the pages. Word places take two words, high first.
-use Rattle.words.specs.Kit.{ℕ, zero, suc, _+_, _*_, _/_, _%_, _^_, List, [], _∷_, length, getD}
+-- Document 02, C-16: "Keep an index beside it: contents for up to 1,024 entries, then a saved page at packet boundary 0 and every 1,024th reached after it,
+-- with its word place." Boundary N is the place just before packet N; packets and boundaries are numbered from 0. docs/LAYOUT.md has the words in a picture:
+-- word 0 is the number of entries, word 1 that of the packets taken in, words 2 and 3 the word place of the boundary behind them; then four words for each
+-- entry, and then the pages. Word places take two words, high first.
+use Rattle.words.specs.Kit.{ℕ, zero, suc, _+_, _*_, _/_, _%_, _^_, List, [], _∷_, getD}
 use Rattle.words.specs.Word.{highFirst}
 use Rattle.words.specs.Part.{part, put}
 use Rattle.page.specs.Layout.{pageOf, pageLength}

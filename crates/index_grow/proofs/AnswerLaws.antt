@@ -1,10 +1,10 @@
 -- What an answer of growing tells. The idea: an accepted one passed every test of its list (`grow-taken`); a refusal is reading's, or one that has no place
 -- (`grow-refused`).
-use Rattle.words.proofs.Kit.{_≡_, refl, sym, ap, _∙_, Bool, true, false, not, ⊎-elim, List, [], _∷_, ℕ, arith, not-false}
+use Rattle.words.proofs.Kit.{_≡_, refl, sym, _∙_, Bool, true, false, ⊎-elim, List, [], _∷_, ℕ, arith, not-false}
 use mathlib.Core.Logic.{_⊎_, inl, inr}
 use Rattle.words.specs.declared.Where.the-variants.{Nowhere}
 use Rattle.words.specs.Numbers.{TABLE, PAGE, ROOM}
-use Rattle.words.specs.Tests.{pick, both}
+use Rattle.words.specs.Tests.{both}
 use Rattle.words.specs.Outcome.{Outcome, refused, accepted, onward, Done, saidOf}
 use Rattle.words.specs.Refusals.{firstGiven}
 use Rattle.words.proofs.Cases.{true-or-false, accepted-same}
@@ -16,44 +16,57 @@ use Rattle.packet.specs.Told.{whereOf}
 use Rattle.table.specs.Well.{wellMade}
 use Rattle.play.specs.Play.{chosen, playTold}
 use Rattle.play.specs.Run.{goesOn}
+use Rattle.play.proofs.KeepLaws.{play-keeps}
 use Rattle.index.specs.Good.{indexGood}
 use Rattle.index_grow.specs.declared.Taken.{Taken}
-use Rattle.index_grow.specs.Grow.{takenOf, tableTaken, reachesEntry, entryLacks, indexThen, growList, grownDone, growOf, growTold}
+use Rattle.index_grow.specs.Grow.{tableTaken, reachesEntry, entryLacks, growList, grownDone, growOf, growTold}
 use Rattle.index_grow.specs.inner.Steps.{Ready}
-use Rattle.index_grow.proofs.GrowLaws.{grow-read, read-both, unread-both}
+use Rattle.index_grow.proofs.GrowLaws.{grow-read, grow-accepts, grow-refuses, unread-both}
 
--- a packet that is taken in: the table and the contents are well made, play goes on behind it, and there is room
+-- a packet that is taken in: the table and the contents are well made, play goes on behind it and keeps the table, and there is room
 pub record GrowTaken (t ws ix : List ℕ) (d : Done Taken (List ℕ × List ℕ)) : Type 0 where
   pub ready : Ready t ix
   pub goes : goesOn (saidOf (playTold t ws)) ≡ true
-  pub room : both (reachesEntry ix) (entryLacks (tableTaken t ws) ix) ≡ false
-  pub said : d .says ≡ takenOf t ws
-  pub table : d .leaves .0 ≡ tableTaken t ws
-  pub index : d .leaves .1 ≡ indexThen t ws ix
+  pub fits : both (reachesEntry ix) (entryLacks (tableTaken t ws) ix) ≡ false
+  pub well : wellMade (tableTaken t ws) ≡ true
+  pub is : d ≡ grownDone t ws ix
 
-pub grow-taken : (t ws ix : List ℕ) (d : Done Taken (List ℕ × List ℕ)) → growTold t ws ix ≡ accepted d → GrowTaken t ws ix d
-unfolding growTold growOf
-grow-taken t ws ix d e =
-    let f : growOf t ws ix ≡ accepted d = told-accepted (whereOf ws) (growOf t ws ix) d e in
-    let q = first-passed (growList t ws ix) (accepted (grownDone t ws ix)) d f in
-    let ready : Ready t ix = record { table = not-false (wellMade t) (q .0 .0); index = not-false (indexGood ix) (q .0 .1 .0) } in
-    let goes : goesOn (saidOf (playTold t ws)) ≡ true =
-    ⊎-elim (λ (g : goesOn (saidOf (playTold t ws)) ≡ true). g)
-    (λ (g : goesOn (saidOf (playTold t ws)) ≡ false).
-    let no = unread-both t ws ix ready g .grows in
-    let z : _≡_ {A = ℕ} 0 1 = cc in
-    absurd (omega arith))
-    (true-or-false (goesOn (saidOf (playTold t ws)))) in
-    let r = first-passed ((ROOM, both (reachesEntry ix) (entryLacks (tableTaken t ws) ix)) ∷ []) _ d (sym (read-both t ws ix ready goes) ∙ f) in
-    let same : grownDone t ws ix ≡ d = accepted-same (r .1) in
-    record {
-      ready = ready;
-      goes = goes;
-      room = r .0 .0;
-      said = sym (ap (λ (x : Done Taken (List ℕ × List ℕ)). x .says) same);
-      table = sym (ap (λ (x : Done Taken (List ℕ × List ℕ)). x .leaves .0) same);
-      index = sym (ap (λ (x : Done Taken (List ℕ × List ℕ)). x .leaves .1) same);
-    }
+module _ (t ws ix : List ℕ) (d : Done Taken (List ℕ × List ℕ)) (e : growTold t ws ix ≡ accepted d) where
+  ready : Ready t ix
+  unfolding growTold growOf
+  ready =
+      let q = first-passed (growList t ws ix) _ d (told-accepted (whereOf ws) (growOf t ws ix) d e) in
+      record { table = not-false (wellMade t) (q .0 .0); index = not-false (indexGood ix) (q .0 .1 .0) }
+
+  -- else growing refuses it
+  goes : goesOn (saidOf (playTold t ws)) ≡ true
+  goes =
+      ⊎-elim (λ (g : goesOn (saidOf (playTold t ws)) ≡ true). g)
+      (λ (g : goesOn (saidOf (playTold t ws)) ≡ false).
+      let no = unread-both t ws ix ready g .grows in
+      let z : _≡_ {A = ℕ} 0 1 = cc in
+      absurd (omega arith))
+      (true-or-false (goesOn (saidOf (playTold t ws))))
+
+  fits : both (reachesEntry ix) (entryLacks (tableTaken t ws) ix) ≡ false
+  fits =
+      ⊎-elim
+      (λ (f : both (reachesEntry ix) (entryLacks (tableTaken t ws) ix) ≡ true).
+      let no = grow-refuses t ws ix ready goes f in
+      let z : _≡_ {A = ℕ} 0 1 = cc in
+      absurd (omega arith))
+      (λ (f : both (reachesEntry ix) (entryLacks (tableTaken t ws) ix) ≡ false). f)
+      (true-or-false (both (reachesEntry ix) (entryLacks (tableTaken t ws) ix)))
+
+  pub grow-taken : GrowTaken t ws ix d
+  unfolding tableTaken
+  grow-taken = record {
+    ready = ready;
+    goes = goes;
+    fits = fits;
+    well = play-keeps t ws .well (ready .table);
+    is = accepted-same (sym e ∙ grow-accepts t ws ix ready goes fits);
+  }
 
 -- ---- a refusal
 
@@ -73,7 +86,7 @@ module _ (t ws ix : List ℕ) (n : ℕ) where
       → onward o (λ p. firstGiven ((ROOM, both (reachesEntry ix) (entryLacks (tableTaken t ws) ix)) ∷ []) (accepted (grownDone t ws ix))) ≡ refused n → Placed
   unfolding whereOf
   refused-by (refused m) e f = let i : m ≡ n = cc in inl (rw (← i) e)
-  refused-by (accepted p) e f = 
+  refused-by (accepted p) e f =
       let i : n ≡ ROOM = rest-refused (both (reachesEntry ix) (entryLacks (tableTaken t ws) ix)) (grownDone t ws ix) n f in
       inr (rw i)
 

@@ -1,13 +1,11 @@
--- A packet taken in on a copy of the table's layout. The idea: what is asked of a table is asked of its layout alone, so growing answers of the copy l as of the
--- table l ++ x, and leaves the same index (`grow-alone`); the copy is given back only where the packet is taken in (`copied`).
-use Rattle.words.proofs.Kit.{_≡_, refl, sym, ap, ap₂, _∙_, Bool, true, false, not, ⊎-elim, List, [], _∷_, _++_, ℕ, zero, _+_, _-_, _^_, _≤_, _<_, arith, length, take, drop, getD}
-use native.Mathlib.Nat.{zero-add}
+-- A packet taken in on a copy of the table's layout. The idea: what is asked of a table is asked of its layout alone, so growing answers of the copy l as of
+-- the table l ++ x, and leaves the same index (`grow-alone`); the copy is given back only where the packet is taken in (`copied`).
+use Rattle.words.proofs.Kit.{_≡_, refl, sym, ap, ap₂, _∙_, Bool, true, false, ⊎-elim, List, _++_, ℕ, _+_, _-_, _^_, _≤_, _<_, arith, length, take, drop}
 use lib.ListN.{take-append-drop}
-use lib.Seq.{getD-take, length-take-le, drop-at}
-use Rattle.words.specs.Numbers.{ROOM}
+use lib.Seq.{getD-take, length-take-le}
 use Rattle.words.specs.Tests.{both}
 use Rattle.words.specs.Part.{part, put}
-use Rattle.words.specs.Outcome.{Reply, refused, accepted, Done, saidOf, leftOf, Meets}
+use Rattle.words.specs.Outcome.{refused, accepted, Done, saidOf, leftOf, Meets}
 use Rattle.words.specs.Told.{Told}
 use Rattle.words.proofs.Cases.{true-or-false}
 use Rattle.words.proofs.PartLaws.{part-whole, part-length, put-length, part-put}
@@ -27,7 +25,7 @@ use Rattle.index.specs.Good.{indexGood}
 use Rattle.index_grow.specs.declared.Taken.{Taken}
 use Rattle.index_grow.specs.declared.Grown.{Grown}
 use Rattle.index_grow.specs.declared.Grown.the-variants.{Accepted, Refused}
-use Rattle.index_grow.specs.Grow.{takenOf, tableTaken, reachesEntry, entryLacks, indexThen, growOf, growTold, grownPaper}
+use Rattle.index_grow.specs.Grow.{tableTaken, reachesEntry, entryLacks, indexThen, growOf, growTold, grownPaper}
 use Rattle.index_grow.specs.inner.Steps.{Ready, GrownOn, layoutIn, givenBack}
 use Rattle.index_grow.proofs.GrowLaws.{grow-accepts, grow-refuses, unread-both}
 use Rattle.index_grow.proofs.AnswerLaws.{grow-taken}
@@ -172,10 +170,13 @@ module _ (t ws ix copy : List ℕ) (q : Ready t ix) (e : copy ≡ layoutIn t) (r
   index-whole : leftOf (growTold t ws ix) (t, ix) .1 ≡ leftIndex
   index-whole = rw (whole t (q .table)) at (alone .index) ∙ sym (k .index ∙ rw e)
 
+  abbrev left-table : Done Taken (List ℕ × List ℕ) → List ℕ
+  left-table d = d .leaves .0
+
   table-whole : (y : Taken) → saidOf (growTold copy ws ix) ≡ accepted y → leftOf (growTold t ws ix) (t, ix) .0 ≡ left ++ drop (layoutWords (streamsOf t)) t
   table-whole y f =
       let d = said-accepted (growTold copy ws ix) y f in
-      let taken : leftOf (growTold copy ws ix) (copy, ix) .0 ≡ left = rw (d .1) (grow-taken copy ws ix (d .0) (d .1) .table ∙ sym (k .table)) in
+      let taken : leftOf (growTold copy ws ix) (copy, ix) .0 ≡ left = rw (d .1) (ap left-table (grow-taken copy ws ix (d .0) (d .1) .is) ∙ sym (k .table)) in
       rw (whole t (q .table)) at (alone .table) ∙ ap (λ (z : List ℕ). z ++ drop (layoutWords (streamsOf t)) t) (rw e at taken)
 
   copied-by : (g : Grown) (last : List ℕ) → r ≡ g → last ≡ givenBack g left t → leftOf (growTold t ws ix) (t, ix) .0 ≡ last

@@ -2,21 +2,16 @@
 use Rattle.words.proofs.Kit.{_≡_, refl, sym, ap, _∙_, Bool, true, false, not, ⊎-elim, List, ℕ, _+_, _^_, _≤_, _<_, arith, le-leb, lt-leb, le-ltb, lt-ltb}
 use Rattle.words.proofs.Kit.{ltb-false, not-true, not-false, leb, ltb, length}
 use borrow.Author.Tests.{leb-false}
-use Rattle.words.specs.Part.{put}
 use Rattle.words.specs.declared.Length.{Length}
 use Rattle.words.specs.declared.Length.the-variants.{Accepted, Refused}
-use Rattle.words.specs.Tests.{pick, either}
 use Rattle.words.specs.Outcome.{accepted, refused, measured, Done, leftOf, Meets}
 use Rattle.words.proofs.Cases.{le-or-lt, accepted-same}
 use Rattle.words.proofs.RefusalLaws.{first-passed, none-given, either-passed}
-use Rattle.words.proofs.PartLaws.{put-length}
 use Rattle.words.proofs.MeetLaws.{meets-accepted, said-refused}
-use Rattle.table.specs.Well.{wellMade}
-use Rattle.page.specs.Layout.{pageOf, pageLength}
-use Rattle.page.proofs.Bounds.{page-whole}
-use Rattle.index.specs.Layout.{mostEntries, entryFrom, indexContents, entriesIn, packetsTaken, placeReached, pagesEnd, withReached, withEntry}
-use Rattle.index.specs.Good.{indexGood}
+use Rattle.page.specs.Layout.{pageLength}
+use Rattle.index.specs.Layout.{mostEntries, indexContents, entriesIn, packetsTaken, placeReached, pagesEnd, withReached, withEntry}
 use Rattle.index.specs.inner.Entered.{enterList, enteredAt}
+use Rattle.index.proofs.WrittenLaws.{entry-long, pages-behind}
 use Rattle.index_grow.specs.Grow.{entryLacks}
 use Rattle.index_grow.specs.inner.Steps.{Ready, EntryMade, EntryTaken}
 use Rattle.index_grow.proofs.ReadyLaws.{ready-whole}
@@ -70,18 +65,15 @@ module _ (t ix : List ℕ) (place j : ℕ) (i : (j ≡ entriesIn ix) × (j < 2 ^
 
 -- the index stays as long
 pub made-whole : (t ix mid : List ℕ) (place : ℕ) (made : Bool) → Ready t ix → EntryMade t place ix made mid → not made ≡ false → indexContents ≤ length mid
-unfolding withEntry entryLacks
+unfolding entryLacks
 made-whole t ix mid place made q m i =
     let yes : made ≡ true = not-false made i in
     let n = either-passed (leb mostEntries (entriesIn ix)) _ (not-true (entryLacks t ix) (sym (m .fits) ∙ yes)) in
     let room : pagesEnd ix + pageLength t ≤ length ix = ltb-false _ _ (either-passed (leb (2 ^ 32) (pagesEnd ix)) _ (n .1) .1) in
-    let page : length (put (pagesEnd ix) (pageLength t) (pageOf t) ix) ≡ length ix =
-    put-length (pagesEnd ix) (pageLength t) (pageOf t) ix room (page-whole t (q .table)) in
     let few : entriesIn ix < mostEntries = leb-false mostEntries (entriesIn ix) (n .0) in
-    let whole = ready-whole ix (q .index) in
     let long : length mid ≡ length ix =
-    ap length (m .index) ∙ rw yes (put-length (entryFrom (entriesIn ix)) 4 _ _ (omega (arith, page, whole, few)) refl ∙ page) in
-    omega (arith, long, whole)
+    ap length (m .index) ∙ rw yes (entry-long (entriesIn ix) place (pagesEnd ix) t ix (q .table) few (pages-behind ix (entriesIn ix)) room) in
+    omega (arith, long, ready-whole ix (q .index))
 
 -- ---- and the packet counted, of so many words: n packets were taken in before it, and it stands at the word place p
 

@@ -1,13 +1,14 @@
--- What growing answers and leaves, on a table and an index that are well made. The idea: reading is asked as play asks it (`grow-read`), so growing refuses what
--- ends the recording as play does (`unread-both`), and takes in what play hears or refuses with STREAM (`read-both`), where there is room.
-use Rattle.words.proofs.Kit.{_≡_, refl, sym, ap, _∙_, Bool, true, false, not, ⊎-elim, List, [], _∷_, ℕ, _+_, _%_, _^_, _≤_, _<_, arith, eq-eqb, ne-eqb, not-true, not-false, eqb, length, getD}
+-- What growing answers and leaves, on a table and an index that are well made. The idea: reading is asked as play asks it (`grow-read`), so growing refuses
+-- what ends the recording as play does (`unread-both`), and takes in what play hears or refuses with STREAM (`read-both`), where there is room.
+use Rattle.words.proofs.Kit.{_≡_, refl, sym, ap, _∙_, Bool, true, false, not, ⊎-elim, List, [], _∷_, ℕ, _+_, _%_, _^_, _<_, arith, not-true, not-false, eqb}
+use Rattle.words.proofs.Kit.{getD}
 use Rattle.words.specs.declared.Where.the-variants.{Nowhere}
 use Rattle.words.specs.declared.Refusal.{Refusal}
-use Rattle.words.specs.Numbers.{STREAM, TABLE, PAGE, ROOM}
-use Rattle.words.specs.Tests.{pick, both}
-use Rattle.words.specs.Outcome.{Outcome, refused, accepted, onward, Done, saidOf, leftOf, Meets}
+use Rattle.words.specs.Numbers.{TABLE, PAGE, ROOM}
+use Rattle.words.specs.Tests.{both}
+use Rattle.words.specs.Outcome.{Outcome, refused, accepted, onward, Done, saidOf, Meets}
 use Rattle.words.specs.Refusals.{firstGiven}
-use Rattle.words.specs.Told.{Told, refusal, told}
+use Rattle.words.specs.Told.{Told, refusal}
 use Rattle.words.proofs.Cases.{true-or-false, true-is-false}
 use Rattle.words.proofs.RefusalLaws.{onward-first}
 use Rattle.packet.specs.declared.Packet.{Packet}
@@ -15,7 +16,6 @@ use Rattle.packet.specs.Header.{sizeOf}
 use Rattle.packet.specs.Parts.{packetOf}
 use Rattle.packet.specs.Read.{listBy, readBy}
 use Rattle.packet.specs.Told.{whereOf}
-use Rattle.packet.proofs.ReadLaws.{read-number}
 use Rattle.table.specs.Well.{wellMade}
 use Rattle.play.specs.declared.Heard.{Heard}
 use Rattle.play.specs.declared.Played.{Played}
@@ -27,10 +27,9 @@ use Rattle.play.proofs.StreamLaws.{sought-number}
 use Rattle.play.proofs.PlayLaws.{step-read, play-step}
 use Rattle.play.proofs.KeepLaws.{kept-at}
 use Rattle.play.proofs.BeyondLaws.{goes-read}
-use Rattle.index.specs.Layout.{packetsTaken, withReached, withEntry}
+use Rattle.index.specs.Layout.{packetsTaken}
 use Rattle.index.specs.Good.{indexGood}
 use Rattle.index_grow.specs.declared.Taken.{Taken}
-use Rattle.index_grow.specs.declared.Taken.the-variants.{Declared, Undeclared}
 use Rattle.index_grow.specs.declared.Grown.{Grown}
 use Rattle.index_grow.specs.Grow.{takenAs, takenOf, tableTaken, reachesEntry, entryLacks, indexThen, grownDone, growOf, growTold, grownPaper}
 use Rattle.index_grow.specs.inner.Steps.{Ready, GrownOn, answerBy, countedIn, EntryTaken}
@@ -45,7 +44,8 @@ module _ (t ws ix : List ℕ) (q : Ready t ix) where
   unfolding growOf readBy
   grow-read = rw (q .table, q .index) (sym (onward-first (listBy (chosen t ws) (getD ws 0 0) ws) (packetOf (getD ws 0 0) ws) (λ p. rest)))
 
-  play-read : playOf t ws ≡ onward (readBy (chosen t ws) ws) (λ p. onward (soughtOf (p .parts .kind) (p .parts .identifier) t) (λ s. accepted (heardDone p s t ws)))
+  play-read : playOf t ws
+      ≡ onward (readBy (chosen t ws) ws) (λ p. onward (soughtOf (p .parts .kind) (p .parts .identifier) t) (λ s. accepted (heardDone p s t ws)))
   play-read = play-step t ws (q .table) ∙ step-read t ws
 
   -- where the recording goes on, growing looks for room

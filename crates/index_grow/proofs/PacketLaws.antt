@@ -1,5 +1,5 @@
 -- A packet that is played, and what growing answers of it by what play says.
-use Rattle.words.proofs.Kit.{_≡_, refl, ap, _∙_, Bool, true, false, not, List, [], _∷_, ℕ, _+_, _^_, _<_, arith, not-false, length, getD}
+use Rattle.words.proofs.Kit.{_≡_, _∙_, Bool, true, false, List, [], _∷_, ℕ, _^_, _<_, arith, length, getD}
 use native.Mathlib.Nat.{mod-lt}
 use Rattle.words.specs.declared.Where.the-variants.{Word}
 use Rattle.words.specs.declared.Refusal.{Refusal}

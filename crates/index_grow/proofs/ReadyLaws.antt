@@ -1,9 +1,10 @@
 -- What an index that is well made has. The idea: its facts (`index-of`) bound what is written next, so that it fits its words.
-use Rattle.words.proofs.Kit.{_≡_, sym, ap, _∙_, true, List, ℕ, zero, suc, _+_, _-_, _*_, _/_, _%_, _^_, _≤_, _<_, arith, length, getD}
+use Rattle.words.proofs.Kit.{_≡_, sym, ap, _∙_, true, List, ℕ, suc, _+_, _-_, _^_, _≤_, _<_, arith, length}
 use Rattle.index.specs.Layout.{mostEntries, indexContents, entriesIn, packetsTaken, placeReached, entryOffset, entryLength, pagesFrom, pagesEnd}
 use Rattle.index.specs.Layout.{withReached}
 use Rattle.index.specs.Good.{indexGood, GoodIndex}
 use Rattle.index.proofs.GoodLaws.{index-of}
+use Rattle.index.proofs.WrittenLaws.{pages-behind}
 use Rattle.index_grow.specs.inner.Steps.{countedIn}
 
 module _ (ix : List ℕ) (e : indexGood ix ≡ true) where
@@ -40,13 +41,8 @@ module _ (ix : List ℕ) (e : indexGood ix ≡ true) where
   pub ready-inside : (at : ℕ) → at ≡ pagesEnd ix → at ≤ length ix
   ready-inside at f = rw f (facts .inside)
 
-  pages-behind : (j : ℕ) → indexContents ≤ pagesFrom ix j
-  unfolding pagesFrom
-  pages-behind zero = omega arith
-  pages-behind (suc j) = omega (arith, pages-behind j)
-
   pub ready-behind : (at : ℕ) → at ≡ pagesEnd ix → indexContents ≤ at
-  ready-behind at f = rw f (pages-behind (entriesIn ix))
+  ready-behind at f = rw f (pages-behind ix (entriesIn ix))
 
   -- the last page ends where the pages do
   pub ready-last : (n a l : ℕ) → n ≡ entriesIn ix → a ≡ entryOffset ix (n - 1) → l ≡ entryLength ix (n - 1) → a + l ≡ pagesEnd ix

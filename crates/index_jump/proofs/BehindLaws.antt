@@ -1,28 +1,17 @@
--- Packets one after the other. The idea: a walk that goes on stands behind a packet that was read, which has a word and lies inside the words (`next-inside`).
+-- Packets one after the other. The idea: a walk that goes on stands behind a packet that has a word and lies inside the words (`next-inside`).
 -- By induction over the packets, then: two runs, one behind the other, are one (`behind-split`); no run goes back (`behind-rises`), or further than the sizes
 -- of its packets (`behind-most`), or further than the words (`behind-inside`); and the table is kept (`behind-kept`).
 use Rattle.words.proofs.Kit.{_≡_, refl, sym, ap, _∙_, Bool, true, false, ⊎-elim, List, ℕ, zero, suc, _+_, _*_, _^_, _≤_, _<_, arith}
-use Rattle.words.proofs.Kit.{eqb-true, length, drop, getD}
+use Rattle.words.proofs.Kit.{length, drop, getD}
 use native.Mathlib.Nat.{zero-add, suc-add, mod-lt}
-use lib.ListN.{length-drop}
-use Rattle.words.specs.Numbers.{STREAM}
 use Rattle.words.specs.Tests.{when}
-use Rattle.words.specs.Outcome.{Outcome, refused, accepted, saidOf}
-use Rattle.words.specs.Told.{told}
 use Rattle.words.proofs.Cases.{true-or-false, true-is-false}
-use Rattle.words.proofs.ToldLaws.{told-said}
-use Rattle.fields.proofs.PlaceLaws.{first-word}
-use Rattle.packet.specs.declared.Packet.{Packet}
 use Rattle.packet.specs.Header.{sizeOf}
-use Rattle.packet.specs.Read.{readBy}
-use Rattle.packet.specs.Told.{whereOf}
-use Rattle.packet.proofs.ReadLaws.{read-inside, size-some, size-said, read-number}
 use Rattle.table.specs.Layout.{base}
 use Rattle.table.specs.Well.{wellMade}
-use Rattle.play.specs.Play.{chosen, stepOf, playOf, playTold}
 use Rattle.play.specs.Run.{goesOn, saidAt, leftAt, nextOf}
-use Rattle.play.proofs.PlayLaws.{step-read, play-step}
-use Rattle.play.proofs.KeepLaws.{Kept, nothing-changed, play-keeps}
+use Rattle.play.proofs.KeepLaws.{Kept, nothing-changed, kept-at}
+use Rattle.play.proofs.BeyondLaws.{goes-inside}
 use Rattle.index_jump.specs.Onward.{Behind, endedAt, behindPackets}
 
 -- ---- one packet
@@ -36,17 +25,6 @@ pub next-most : (t ws : List ℕ) (at : ℕ) → nextOf t ws at ≤ at + 65535
 unfolding nextOf
 next-most t ws at = next-size (goesOn (saidAt t ws at)) at (getD ws at 0)
 
--- a step goes on behind a packet that was read: reading does not refuse with STREAM
-on-read : (o : Outcome Packet) (t ws : List ℕ) → readBy (chosen t ws) ws ≡ o → goesOn (told (whereOf ws) (saidOf (stepOf t ws))) ≡ true
-    → (p : Packet) × (readBy (chosen t ws) ws ≡ accepted p)
-on-read (accepted p) t ws e g = (p, e)
-on-read (refused n) t ws e g = absurd (read-number (chosen t ws) ws n e (eqb-true n STREAM (rw (step-read, e) at g)))
-
-said-step : (t ws : List ℕ) (at : ℕ) → wellMade t ≡ true → goesOn (saidAt t ws at) ≡ true
-    → goesOn (told (whereOf (drop at ws)) (saidOf (stepOf t (drop at ws)))) ≡ true
-unfolding saidAt playTold
-said-step t ws at w g = rw (told-said (whereOf (drop at ws)) (playOf t (drop at ws)), play-step t (drop at ws) w) at g
-
 -- a walk does not go back
 next-least : (t ws : List ℕ) (at : ℕ) → at ≤ nextOf t ws at
 unfolding nextOf
@@ -56,23 +34,14 @@ next-least t ws at = omega arith
 pub next-inside : (t ws : List ℕ) (at : ℕ) → wellMade t ≡ true → goesOn (saidAt t ws at) ≡ true → (at < nextOf t ws at) × (nextOf t ws at ≤ length ws)
 unfolding nextOf
 next-inside t ws at w g =
-    let rest : List ℕ = drop at ws in
-    let q = on-read _ t rest refl (said-step t ws at w g) in
-    let size : q .0 .size ≡ sizeOf (getD ws at 0) = size-said _ rest (q .0) (q .1) ∙ ap sizeOf (first-word at ws) in
-    let some = size-some _ rest (q .0) (q .1) in
-    let inside = read-inside _ rest (q .0) (q .1) in
-    rw g (omega (arith, size, some), omega (arith, size, some, inside, length-drop at ws))
+    let k = goes-inside t ws at w g in
+    rw g (omega (arith, k .0), k .1)
 
 -- where no word is left, no walk goes on
 pub none-left : (t ws : List ℕ) (at : ℕ) → wellMade t ≡ true → length ws ≤ at → goesOn (saidAt t ws at) ≡ false
 none-left t ws at w h =
     ⊎-elim (λ (g : goesOn (saidAt t ws at) ≡ true). let k = next-inside t ws at w g in absurd (omega (arith, k .0, k .1)))
     (λ (g : goesOn (saidAt t ws at) ≡ false). g) (true-or-false (goesOn (saidAt t ws at)))
-
--- whatever is said, the table is kept
-pub left-kept : (t ws : List ℕ) (at : ℕ) → Kept t (leftAt t ws at)
-unfolding leftAt
-left-kept t ws at = play-keeps t (drop at ws)
 
 -- ---- none, one more, and where the recording ends
 
@@ -145,7 +114,7 @@ behind-kept zero ws at t = rw (behind-none ws at t) (nothing-changed t)
 behind-kept (suc n) ws at t =
     ⊎-elim
     (λ (g : goesOn (saidAt t ws at) ≡ true).
-    rw (behind-on ws at t n g) (kept-then (left-kept t ws at) (behind-kept n ws (nextOf t ws at) (leftAt t ws at))))
+    rw (behind-on ws at t n g) (kept-then (kept-at t ws at) (behind-kept n ws (nextOf t ws at) (leftAt t ws at))))
     (λ (g : goesOn (saidAt t ws at) ≡ false). rw (behind-ended ws at t n g) (nothing-changed t)) (true-or-false (goesOn (saidAt t ws at)))
 
 -- no run goes back
@@ -172,5 +141,5 @@ behind-inside zero ws at t w h = rw (behind-none ws at t) h
 behind-inside (suc n) ws at t w h =
     ⊎-elim
     (λ (g : goesOn (saidAt t ws at) ≡ true).
-    rw (behind-on ws at t n g) (behind-inside n ws (nextOf t ws at) (leftAt t ws at) (left-kept t ws at .well w) (next-inside t ws at w g .1)))
+    rw (behind-on ws at t n g) (behind-inside n ws (nextOf t ws at) (leftAt t ws at) (kept-at t ws at .well w) (next-inside t ws at w g .1)))
     (λ (g : goesOn (saidAt t ws at) ≡ false). rw (behind-ended ws at t n g) h) (true-or-false (goesOn (saidAt t ws at)))

@@ -1,23 +1,16 @@
 -- The page of an entry, in an index whose contents are well made. The idea: the pages stand one behind the other (`pages-rise`), and the last ends inside the
 -- index, so each lies inside it (`page-inside`).
-use Rattle.words.proofs.Kit.{_≡_, refl, ap₂, _∙_, true, ⊎-elim, List, ℕ, zero, suc, _+_, _-_, _^_, _≤_, _<_, arith, length, take, drop}
-use native.Mathlib.Nat.{le-refl}
+use Rattle.words.proofs.Kit.{_≡_, refl, ap₂, _∙_, true, List, ℕ, suc, _+_, _-_, _^_, _≤_, _<_, arith, length, take, drop}
 use Rattle.words.specs.Part.{part}
-use Rattle.words.proofs.Cases.{le-or-lt}
 use Rattle.words.proofs.PartLaws.{seen}
 use Rattle.index.specs.Layout.{mostEntries, indexContents, entriesIn, entryOffset, entryLength, pageIn, pagesFrom}
 use Rattle.index.specs.Good.{indexGood}
 use Rattle.index.proofs.GoodLaws.{index-of}
+use Rattle.index.proofs.WrittenLaws.{pages-rise}
 
 page-next : (ix : List ℕ) (j : ℕ) → pagesFrom ix (suc j) ≡ pagesFrom ix j + entryLength ix j
 unfolding pagesFrom
 page-next ix j = refl
-
-pages-rise : (ix : List ℕ) (j n : ℕ) → j ≤ n → pagesFrom ix j ≤ pagesFrom ix n
-pages-rise ix j zero h = let e : j ≡ 0 = omega arith in rw e (le-refl (pagesFrom ix 0))
-pages-rise ix j (suc n) h =
-    ⊎-elim (λ (g : j ≤ n). omega (arith, pages-rise ix j n g, page-next ix n))
-    (λ (g : n < j). let e : j ≡ suc n = omega arith in rw e (le-refl (pagesFrom ix (suc n)))) (le-or-lt j n)
 
 module _ (ix : List ℕ) (good : indexGood ix ≡ true) where
   -- what reading an entry asks

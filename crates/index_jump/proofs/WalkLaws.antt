@@ -7,9 +7,10 @@ use Rattle.words.proofs.Cases.{true-is-false}
 use Rattle.table.specs.Well.{wellMade}
 use Rattle.play.specs.declared.step.Happened.{Happened}
 use Rattle.play.specs.Run.{goesOn, saidAt, Stepped}
+use Rattle.play.proofs.KeepLaws.{kept-at}
 use Rattle.index_jump.specs.Onward.{Behind, endedAt, behindPackets}
 use Rattle.index_jump.specs.inner.Steps.{WalkedTo}
-use Rattle.index_jump.proofs.BehindLaws.{none-left, left-kept, behind-none, behind-on, behind-ended}
+use Rattle.index_jump.proofs.BehindLaws.{none-left, behind-none, behind-on, behind-ended}
 
 -- n packets from a place on, on the table t₀; i of them are played, which has left the table t and goes on from the place at
 pub record Onto (n : ℕ) (ws : List ℕ) (from : ℕ) (t₀ t : List ℕ) (at i : ℕ) : Type 0 where
@@ -47,7 +48,7 @@ module _ {n from at i : ℕ} {ws t₀ t : List ℕ} (p : Onto n ws from t₀ t a
     -- a packet is played
     module _ (r : Happened) (left : List ℕ) (m : Stepped t ws at r left) where
       pub turn-same : length left ≡ length t₀
-      turn-same = ap length (m .table) ∙ left-kept t ws at .whole ∙ p .same
+      turn-same = ap length (m .table) ∙ kept-at t ws at .whole ∙ p .same
 
       pub onto-stops : not (r .continues) ≡ true → WalkedTo (behindPackets n ws from t₀) (Refused PAGE) left
       onto-stops e = walked-short (behindPackets n ws from t₀) at t left (ended (sym (m .on) ∙ not-true (r .continues) e))
@@ -57,7 +58,7 @@ module _ {n from at i : ℕ} {ws t₀ t : List ℕ} (p : Onto n ws from t₀ t a
           let g : goesOn (saidAt t ws at) ≡ true = sym (m .on) ∙ not-false (r .continues) e in
           record {
             most = omega arith;
-            well = ap wellMade (m .table) ∙ left-kept t ws at .well (p .well);
+            well = ap wellMade (m .table) ∙ kept-at t ws at .well (p .well);
             same = turn-same;
             is =
                 p .is ∙ ap (λ (k : ℕ). behindPackets k ws at t) more ∙ behind-on ws at t (n - (i + 1)) g

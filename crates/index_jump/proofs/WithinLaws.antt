@@ -14,8 +14,9 @@ use Rattle.play.specs.Play.{playTold}
 use Rattle.play.specs.Run.{goesOn, saidAt, leftAt, nextOf}
 use Rattle.play.proofs.AloneLaws.{layout-left, left-alone, said-alone, next-alone}
 use Rattle.play.proofs.BeyondLaws.{goes-inside, play-within}
+use Rattle.play.proofs.KeepLaws.{kept-at}
 use Rattle.index_jump.specs.Onward.{Behind, behindPackets}
-use Rattle.index_jump.proofs.BehindLaws.{left-kept, behind-none, behind-on, behind-goes, behind-rises}
+use Rattle.index_jump.proofs.BehindLaws.{behind-none, behind-on, behind-goes, behind-rises}
 
 -- ---- the layout alone
 
@@ -97,5 +98,5 @@ module _ (ws given rest : List ℕ) (from : ℕ) (cut : drop from ws ≡ given +
       one ∙ ap₂ (behindPackets n ws) (next-within a t w g on) (left-within a t w g on) in
       let here : goesOn (saidAt t given a) ≡ true = ap goesOn (sym (said-within a t w g on)) ∙ g in
       same
-      ∙ behind-within n (nextOf t given a) (leftAt t given a) (left-kept t given a .well w) (rw same at e) (rw same at h)
+      ∙ behind-within n (nextOf t given a) (leftAt t given a) (kept-at t given a .well w) (rw same at e) (rw same at h)
       ∙ ap (further from) (sym (behind-on given a t n here))

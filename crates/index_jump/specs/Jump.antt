@@ -1,6 +1,7 @@
--- Document 02, C-16: "An analyst asks for the table just before packet N of a recording"; "jumping PAGE for contents, PLACE, PAGE for the entry, ROOM"; "21 PLACE
--- exactly for N above that number", of the packets taken in; "PAGE for contents or an entry not well made, or an entry from which the recording has no boundary
--- N"; "A jump plays at most 1,023 packets". The words that are handed in are those of the recording from a word place on, `first`; from 0 on they are all of it.
+-- Document 02, C-16: "An analyst asks for the table just before packet N of a recording"; "jumping PAGE for contents, PLACE, PAGE for the entry, ROOM"; "21
+-- PLACE exactly for N above that number", of the packets taken in; "PAGE for contents or an entry not well made, or an entry from which the recording has no
+-- boundary N"; "A jump plays at most 1,023 packets". The words that are handed in are those of the recording from a word place on, `first`; from 0 on they
+-- are all of it.
 use Rattle.words.specs.Kit.{ℕ, _+_, _-_, _/_, _%_, Bool, not, List, [], _∷_, _++_, ltb, leb, length, drop}
 use Rattle.words.specs.Numbers.{PAGE, PLACE, ROOM}
 use Rattle.words.specs.Tests.{both}

@@ -96,5 +96,6 @@ grow-fitting t ws ix r e =
     let k = told-refused (whereOf ws) (growOf t ws ix) r e in
     let small = subst (Numbered Small) (k .1) (number-among Small (growList t ws ix) _ (search needs) tt) in
     let place : wordOf (whereOf ws (k .0)) < 2 ^ 16 =
-    ⊎-elim (λ (u : readBy (chosen t ws) ws ≡ refused (k .0)). place-small ws (chosen t ws) (k .0) u) (λ n. rw n (omega arith)) (grow-refused t ws ix (k .0) (k .1)) in
+    ⊎-elim (λ (u : readBy (chosen t ws) ws ≡ refused (k .0)). place-small ws (chosen t ws) (k .0) u) (λ n. rw n (omega arith))
+    (grow-refused t ws ix (k .0) (k .1)) in
     rw (k .2) (fitting ws (k .0) small place)

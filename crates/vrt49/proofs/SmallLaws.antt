@@ -66,7 +66,7 @@ pub taken-small : (t ws ix : List ℕ) (left : List ℕ × List ℕ) (r : Grown)
 taken-small t ws ix left r x m e =
     let d = meets-accepted m (ap grownPaper e) in
     let k = grow-taken t ws ix (d .done) (d .wants) in
-    subst SmallTaken (sym (k .said) ∙ d .says) (taken-few t ws (playTold t ws) refl (k .goes))
+    subst SmallTaken (sym (ap (λ (z : Done Taken (List ℕ × List ℕ)). z .says) (k .is)) ∙ d .says) (taken-few t ws (playTold t ws) refl (k .goes))
 
 -- a packet that is taken in is one that was heard, or one of no declared stream
 module _ (x : Taken) (small : SmallTaken x) where

@@ -1,5 +1,5 @@
 -- `entries_good` meets its promise. While the entries passed are right, the next page begins where the lengths say (`Listed`); its laws carry the turn.
-use Rattle.words.proofs.Kit.{_-_, arith, needs}
+use Rattle.words.proofs.Kit.{_-_, needs}
 use Rattle.index.proofs.GoodLaws.{Listed, listed-start, listed-fails, listed-turn, listed-end}
 use Rattle.index.proofs.good.entries_good.Statement.{statement}
 use Rattle.index.proofs.good.entries_good.Tie as tie

@@ -8,7 +8,8 @@ pub make-entry-spec : {M : Type 1} → statement M
 make-entry-spec =
     tie.close
     (tie.spec
-    (λ c κs. search needs) (λ c. search needs) (λ c. search needs) (λ c. search needs) (λ c. search entered-refused) (λ c κs. search (needs, entered-whole, entered-small))
+    (λ c κs. search needs) (λ c. search needs) (λ c. search needs) (λ c. search needs) (λ c. search entered-refused)
+    (λ c κs. search (needs, entered-whole, entered-small))
     (λ c. search needs)
     (λ c.
     let saved : tie.After-save-at = search in

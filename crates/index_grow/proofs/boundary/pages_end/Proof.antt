@@ -1,5 +1,5 @@
 -- `pages_end` meets its promise: the last page ends where the pages do.
-use Rattle.words.proofs.Kit.{arith, needs}
+use Rattle.words.proofs.Kit.{needs}
 use Rattle.index_grow.proofs.ReadyLaws.{ready-whole, ready-some, ready-below, ready-last}
 use Rattle.index_grow.proofs.boundary.pages_end.Statement.{statement}
 use Rattle.index_grow.proofs.boundary.pages_end.Tie as tie

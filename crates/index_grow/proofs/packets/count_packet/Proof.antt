@@ -1,5 +1,5 @@
 -- `count_packet` meets its promise: the packets and the place behind them are written.
-use Rattle.words.proofs.Kit.{arith, needs}
+use Rattle.words.proofs.Kit.{needs}
 use Rattle.index_grow.proofs.ReadyLaws.{ready-whole, ready-more, ready-further, counted-is}
 use Rattle.index_grow.proofs.packets.count_packet.Statement.{statement}
 use Rattle.index_grow.proofs.packets.count_packet.Tie as tie
