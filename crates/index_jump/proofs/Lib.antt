@@ -4,6 +4,8 @@
 pub mod BehindLaws
 -- those of fewer words
 pub mod WithinLaws
+-- a run of them
+pub mod RunLaws
 -- how the walk over them goes
 pub mod WalkLaws
 -- an entry's page in an index

@@ -1,66 +1,103 @@
 -- How the walk over some packets goes. The idea: after i of them, those that are left from the place where the walk stands give what all of them give (`Onto`);
--- a turn takes one of them (`onto-turn`), and where it does not go on the recording ends (`onto-over`, `onto-stops`).
-use Rattle.words.proofs.Kit.{_≡_, refl, sym, ap, _∙_, true, false, not, List, ℕ, suc, _+_, _-_, _≤_, _<_, arith, not-true, not-false, length}
+-- a turn takes the next k of them (`onto-turn`), and where these are not there the recording ends (`onto-short`).
+use Rattle.words.proofs.Kit.{_≡_, refl, sym, ap, _∙_, true, false, ⊎-elim, List, ℕ, _+_, _-_, _*_, _≤_, _<_, arith, length}
+use Rattle.words.specs.declared.Length.{Length}
 use Rattle.words.specs.declared.Length.the-variants.{Accepted, Refused}
 use Rattle.words.specs.Numbers.{PAGE}
-use Rattle.words.proofs.Cases.{true-is-false}
+use Rattle.words.specs.Outcome.{Outcome, refused, accepted, measured}
+use Rattle.words.proofs.Cases.{true-or-false, true-is-false, accepted-same}
 use Rattle.table.specs.Well.{wellMade}
-use Rattle.play.specs.declared.step.Happened.{Happened}
-use Rattle.play.specs.Run.{goesOn, saidAt, Stepped}
-use Rattle.play.proofs.KeepLaws.{kept-at}
-use Rattle.index_jump.specs.Onward.{Behind, endedAt, behindPackets}
-use Rattle.index_jump.specs.inner.Steps.{WalkedTo}
-use Rattle.index_jump.proofs.BehindLaws.{none-left, behind-none, behind-on, behind-ended}
+use Rattle.play.specs.Run.{entryWords}
+use Rattle.index_jump.specs.Onward.{Behind, behindPackets}
+use Rattle.index_jump.specs.inner.Steps.{reachedPlace, WalkedTo}
+use Rattle.index_jump.proofs.BehindLaws.{behind-none, behind-split, behind-fewer, behind-kept}
+
+-- ---- what an answer tells
+
+module _ (b : Behind) (r : Length) (left : List ℕ) (w : WalkedTo b r left) where
+  pub walked-there : (at : ℕ) → r ≡ Accepted at → (b .all ≡ true) × (at ≡ b .place) × (left ≡ b .table)
+  walked-there at e =
+      ⊎-elim
+      (λ (a : b .all ≡ true).
+      let said : accepted at ≡ reachedPlace b = ap measured (sym e) ∙ w .answer in
+      let same : _≡_ {A = Outcome ℕ} (accepted at) (accepted (b .place)) = rw a at said in
+      (a, accepted-same same, w .table a))
+      (λ (a : b .all ≡ false).
+      let said : accepted at ≡ reachedPlace b = ap measured (sym e) ∙ w .answer in
+      let no : _≡_ {A = Outcome ℕ} (accepted at) (refused PAGE) = rw a at said in
+      let z : _≡_ {A = ℕ} 0 1 = cc in
+      absurd (omega arith))
+      (true-or-false (b .all))
+
+  pub walked-short : (k : ℕ) → r ≡ Refused k → b .all ≡ false
+  walked-short k e =
+      ⊎-elim
+      (λ (a : b .all ≡ true).
+      let said : refused k ≡ reachedPlace b = ap measured (sym e) ∙ w .answer in
+      let no : _≡_ {A = Outcome ℕ} (refused k) (accepted (b .place)) = rw a at said in
+      let z : _≡_ {A = ℕ} 0 1 = cc in
+      absurd (omega arith))
+      (λ (a : b .all ≡ false). a)
+      (true-or-false (b .all))
+
+-- ---- the loop
 
 -- n packets from a place on, on the table t₀; i of them are played, which has left the table t and goes on from the place at
-pub record Onto (n : ℕ) (ws : List ℕ) (from : ℕ) (t₀ t : List ℕ) (at i : ℕ) : Type 0 where
+pub record Onto (n : ℕ) (ws : List ℕ) (from : ℕ) (t₀ entries₀ t entries : List ℕ) (at i : ℕ) : Type 0 where
   pub most : i ≤ n
   pub well : wellMade t ≡ true
   pub same : length t ≡ length t₀
+  pub room : length entries ≡ length entries₀
   pub is : behindPackets n ws from t₀ ≡ behindPackets (n - i) ws at t
 
-pub onto-start : (n : ℕ) (ws : List ℕ) (from : ℕ) (t : List ℕ) → wellMade t ≡ true → Onto n ws from t t from 0
-onto-start n ws from t w =
+pub onto-start : (n : ℕ) (ws : List ℕ) (from : ℕ) (t entries : List ℕ) → wellMade t ≡ true → Onto n ws from t entries t entries from 0
+onto-start n ws from t entries w =
     let e : n ≡ n - 0 = omega arith in
-    record { most = omega arith; well = w; same = refl; is = ap (λ (k : ℕ). behindPackets k ws from t) e }
+    record { most = omega arith; well = w; same = refl; room = refl; is = ap (λ (k : ℕ). behindPackets k ws from t) e }
 
--- where the recording ends
-walked-short : (b : Behind) (at : ℕ) (t left : List ℕ) → b ≡ endedAt at t → WalkedTo b (Refused PAGE) left
-walked-short b at t left e = rw e (record { answer = refl; table = λ f. absurd (true-is-false (sym f)) })
-
-module _ {n from at i : ℕ} {ws t₀ t : List ℕ} (p : Onto n ws from t₀ t at i) where
+module _ {n from at i : ℕ} {ws t₀ entries₀ t entries : List ℕ} (p : Onto n ws from t₀ entries₀ t entries at i) where
   pub onto-end : n ≤ i → WalkedTo (behindPackets n ws from t₀) (Accepted at) t
   onto-end h =
       let none : n - i ≡ 0 = omega arith in
       rw (p .is, none, behind-none ws at t) (record { answer = refl; table = λ _. refl })
 
-  module _ (h : i < n) where
-    more : n - i ≡ suc (n - (i + 1))
-    more = omega arith
+  -- the next k are played
+  module _ (k : ℕ) (few : (k ≤ n - i) × (k ≤ 32) × (1 ≤ n - i → 1 ≤ 32 → 1 ≤ k)) (h : i < n) where
+    pub onto-some : 1 ≤ k
+    onto-some = few .2 (omega arith) (omega arith)
 
-    ended : goesOn (saidAt t ws at) ≡ false → behindPackets n ws from t₀ ≡ endedAt at t
-    ended g = p .is ∙ ap (λ (k : ℕ). behindPackets k ws at t) more ∙ behind-ended ws at t (n - (i + 1)) g
+    pub onto-room : length entries₀ ≡ 160 → entryWords * k ≤ length entries
+    onto-room l = omega (arith, few .1, l, p .room)
 
-    -- no word is left
-    pub onto-over : length ws ≤ at → WalkedTo (behindPackets n ws from t₀) (Refused PAGE) t
-    onto-over l = walked-short (behindPackets n ws from t₀) at t t (ended (none-left t ws at (p .well) l))
+    pub onto-less : n - (i + k) < n - i
+    onto-less = omega (arith, onto-some, few .0, h)
 
-    -- a packet is played
-    module _ (r : Happened) (left : List ℕ) (m : Stepped t ws at r left) where
-      pub turn-same : length left ≡ length t₀
-      turn-same = ap length (m .table) ∙ kept-at t ws at .whole ∙ p .same
+    cut : n - i ≡ k + (n - (i + k))
+    cut = omega (arith, few .0, h)
 
-      pub onto-stops : not (r .continues) ≡ true → WalkedTo (behindPackets n ws from t₀) (Refused PAGE) left
-      onto-stops e = walked-short (behindPackets n ws from t₀) at t left (ended (sym (m .on) ∙ not-true (r .continues) e))
+    module _ (r : Length) (left : List ℕ) (w : WalkedTo (behindPackets k ws at t) r left) where
+      pub onto-short : (m : ℕ) → r ≡ Refused m → WalkedTo (behindPackets n ws from t₀) (Refused PAGE) left
+      onto-short m e =
+          let no = walked-short (behindPackets k ws at t) r left w m e in
+          let all : behindPackets n ws from t₀ .all ≡ behindPackets (k + (n - (i + k))) ws at t .all =
+          ap (λ (b : Behind). b .all) (p .is ∙ ap (λ (j : ℕ). behindPackets j ws at t) cut) in
+          ⊎-elim
+          (λ (a : behindPackets n ws from t₀ .all ≡ true).
+          absurd (true-is-false (sym (behind-fewer k (n - (i + k)) ws at t (sym all ∙ a)) ∙ no)))
+          (λ (a : behindPackets n ws from t₀ .all ≡ false). record { answer = rw a; table = λ b. absurd (true-is-false (sym b ∙ a)) })
+          (true-or-false (behindPackets n ws from t₀ .all))
 
-      pub onto-turn : not (r .continues) ≡ false → Onto n ws from t₀ left (r .next) (i + 1)
-      onto-turn e =
-          let g : goesOn (saidAt t ws at) ≡ true = sym (m .on) ∙ not-false (r .continues) e in
+      pub onto-turn : (next : ℕ) (written : List ℕ) → r ≡ Accepted next → length written ≡ length entries
+          → Onto n ws from t₀ entries₀ left written next (i + k)
+      onto-turn next written e l =
+          let q = walked-there (behindPackets k ws at t) r left w next e in
+          let kept = behind-kept k ws at t in
           record {
-            most = omega arith;
-            well = ap wellMade (m .table) ∙ kept-at t ws at .well (p .well);
-            same = turn-same;
+            most = omega (arith, few .0, h);
+            well = ap wellMade (q .2) ∙ kept .well (p .well);
+            same = ap length (q .2) ∙ kept .whole ∙ p .same;
+            room = l ∙ p .room;
             is =
-                p .is ∙ ap (λ (k : ℕ). behindPackets k ws at t) more ∙ behind-on ws at t (n - (i + 1)) g
-                ∙ sym (rw (m .next, m .table));
+                p .is ∙ ap (λ (j : ℕ). behindPackets j ws at t) cut ∙ behind-split k (n - (i + k)) ws at t (q .0)
+                ∙ sym (rw (q .1, q .2));
           }

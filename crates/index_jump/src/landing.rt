@@ -1,6 +1,7 @@
 // A landing in words of its own: the entry's page put back there, and the packets from its boundary on.
-ghost use Rattle.words.specs.Kit.{_≡_, true, _≤_, _<_, length};
+ghost use Rattle.words.specs.Kit.{_≡_, true, _*_, _≤_, _<_, length};
 ghost use Rattle.table.specs.Well.{wellMade};
+ghost use Rattle.play.specs.Run.{entryWords};
 ghost use Rattle.index.specs.Layout.{packetsTaken, entriesIn, pageIn};
 ghost use Rattle.index.specs.Good.{indexGood};
 ghost use Rattle.index_jump.specs.Onward.{behindPackets};
@@ -11,25 +12,73 @@ use crate::Landed;
 // The words of the longest table.
 pub const MOST_TABLE: usize = 2849;
 
+// The packets that are played at a time, and the words of their entries.
+const RUN_PACKETS: usize = 32;
+
+const RUN_WORDS: usize = 160;
+
+// The smaller of two numbers.
+fn smaller(a: usize, b: usize) -> usize
+    ensures { λ r. ⌜ (r ≤ a) × (r ≤ b) × (1 ≤ a → 1 ≤ b → 1 ≤ r) ⌝ }
+{
+    if a < b { a } else { b }
+}
+
+// Plays n packets in one run, from a place on, on a table that is known to be well made, and gives the place behind them; PAGE where the recording ends before:
+// there are fewer, or the last is not gone past, which its entry's second word tells.
+fn walk_run(
+    table: &mut [u32],
+    given: &[u32],
+    from: usize,
+    entries: &mut [u32],
+    n: usize,
+) -> words::Length
+    requires { ⌜ (wellMade (now table) ≡ true) × (1 ≤ n) × (entryWords * n ≤ length (now entries)) ⌝ }
+    ensures { λ r. ⌜ WalkedTo (behindPackets n (now (given .entry)) from (now (table .entry))) r (now (table .exit)) ⌝ }
+{
+    let end = play::inner::ENTRY_WORDS * n;
+    let reached = play::inner::run_on(table, given, from, &mut entries[0..end]);
+    if reached.packets != n {
+        return words::Length::Refused(words::PAGE);
+    }
+    if entries[end - 4] == 0 {
+        return words::Length::Refused(words::PAGE);
+    }
+    words::Length::Accepted(reached.next)
+}
+
 // Plays n packets from a place on, on a table that is known to be well made, and gives the place behind them; PAGE where the recording ends before.
-fn walk(table: &mut [u32], given: &[u32], from: usize, n: usize) -> words::Length
-    requires { ⌜ wellMade (now table) ≡ true ⌝ }
+fn walk_on(
+    table: &mut [u32],
+    given: &[u32],
+    from: usize,
+    n: usize,
+    entries: &mut [u32],
+) -> words::Length
+    requires { ⌜ (wellMade (now table) ≡ true) × (length (now entries) ≡ 160) ⌝ }
     ensures { λ r. ⌜ WalkedTo (behindPackets n (now (given .entry)) from (now (table .entry))) r (now (table .exit)) ⌝ }
 {
     let mut at = from;
     let mut i = 0;
     while i < n {
-        if given.len() <= at {
+        let k = smaller(n - i, RUN_PACKETS);
+        let reached = walk_run(table, given, at, entries, k);
+        let words::Length::Accepted(next) = reached else {
             return words::Length::Refused(words::PAGE);
-        }
-        let s = play::inner::step(table, given, at);
-        if !s.continues {
-            return words::Length::Refused(words::PAGE);
-        }
-        at = s.next;
-        i += 1;
+        };
+        at = next;
+        i += k;
     }
     words::Length::Accepted(at)
+}
+
+// The same, with words for the entries of a run.
+fn walk(table: &mut [u32], given: &[u32], from: usize, n: usize) -> words::Length
+    requires { ⌜ wellMade (now table) ≡ true ⌝ }
+    ensures { λ r. ⌜ WalkedTo (behindPackets n (now (given .entry)) from (now (table .entry))) r (now (table .exit)) ⌝ }
+{
+    let mut entries = [0u32; RUN_WORDS];
+    walk_on(table, given, from, n, &mut entries)
 }
 
 // The page of entry j.

@@ -45,7 +45,7 @@ unfolding entryOf
 entry-length (refused r) size = refl
 entry-length (accepted h) size = refl
 
-at-length : (t ws : List ℕ) (at : ℕ) → length (entryAt t ws at) ≡ entryWords
+pub at-length : (t ws : List ℕ) (at : ℕ) → length (entryAt t ws at) ≡ entryWords
 unfolding entryAt
 at-length t ws at = entry-length (saidAt t ws at) (sizeOf (getD ws at 0))
 
