@@ -1,7 +1,7 @@
 -- How a landing goes. The idea: an entry serves where its page is well made, its boundary stands in the words, and the packets from there to n are there; each
 -- of these that fails is PAGE (`unserved`). A well-made page has at most 32 bodies, so putting it back into the words that are lent for the longest table never
 -- lacks room (`page-put`).
-use Rattle.words.proofs.Kit.{_≡_, sym, ap, _∙_, true, false, not, ⊎-elim, List, [], _∷_, _++_, ℕ, _+_, _-_, _/_, _%_, _^_, _≤_, _<_, arith}
+use Rattle.words.proofs.Kit.{_≡_, sym, ap, _∙_, true, false, ⊎-elim, List, [], _++_, ℕ, _+_, _-_, _/_, _%_, _^_, _≤_, _<_, arith}
 use Rattle.words.proofs.Kit.{le-ltb, le-leb, lt-leb, not-false, leb, length, take, drop}
 use native.Mathlib.Nat.{sub-zero, mod-lt}
 use lib.ListN.{length-append}
@@ -11,7 +11,7 @@ use Rattle.words.specs.declared.Length.{Length}
 use Rattle.words.specs.declared.Length.the-variants as lengths
 use Rattle.words.specs.Numbers.{PAGE}
 use Rattle.words.specs.Outcome.{refused, accepted, measured, Meets}
-use Rattle.words.proofs.Cases.{true-or-false, true-is-false, both-no, both-left, accepted-same}
+use Rattle.words.proofs.Cases.{true-or-false, true-is-false, both-no, both-left}
 use Rattle.words.proofs.RefusalLaws.{first-passed}
 use Rattle.words.proofs.MeetLaws.{meets-accepted}
 use Rattle.table.specs.Layout.{layoutWords}
@@ -26,7 +26,8 @@ use Rattle.index.proofs.GoodLaws.{index-of}
 use Rattle.index_jump.specs.declared.Jumped.the-variants.{Accepted, Refused}
 use Rattle.index_jump.specs.Onward.{Behind, behindPackets}
 use Rattle.index_jump.specs.Jump.{landingWords, standsIn, landing, entryServes}
-use Rattle.index_jump.specs.inner.Steps.{reachedPlace, WalkedTo, LandedIn}
+use Rattle.index_jump.specs.inner.Steps.{WalkedTo, LandedIn}
+use Rattle.index_jump.proofs.WalkLaws.{not-reached, all-reached}
 use Rattle.index_jump.proofs.BehindLaws.{behind-most, behind-kept}
 
 -- ---- the entry before packet n
@@ -77,22 +78,6 @@ module _ (p space : List ℕ) (long : length space ≡ 2849) where
           let d : accepted (w .done) ≡ accepted (record { says = layoutWords (bodiesIn p); leaves = tableOf p ++ drop (layoutWords (bodiesIn p)) space }) =
           sym (w .wants) ∙ page-put g in
           (g, cc, cc)
-
--- ---- packets that are walked over
-
-not-reached : (b : Behind) (r : Length) (q : ℕ) → measured r ≡ reachedPlace b → r ≡ lengths.Refused q → b .all ≡ false
-not-reached b r q e f =
-    ⊎-elim
-    (λ (g : b .all ≡ true).
-    let z : refused q ≡ accepted (b .place) = sym (ap measured f) ∙ e ∙ rw g in
-    let x : _≡_ {A = ℕ} 0 1 = cc in
-    absurd (omega arith))
-    (λ (g : b .all ≡ false). g) (true-or-false (b .all))
-
-all-reached : (b : Behind) (r : Length) (at : ℕ) → measured r ≡ reachedPlace b → r ≡ lengths.Accepted at → (b .all ≡ true) × (b .place ≡ at)
-all-reached b r at e f =
-    let q = first-passed ((PAGE, not (b .all)) ∷ []) (accepted (b .place)) at (sym e ∙ ap measured f) in
-    (not-false (b .all) (q .0 .0), accepted-same (q .1))
 
 -- ---- what is said of the entry
 

@@ -1,7 +1,7 @@
--- A run of packets, as the walk has them. The idea: by induction over the packets, a run has as many entries as were asked for, and the last one goes on, exactly
--- where the recording has them all; then it stands where they lead (`RunAs`).
-use Rattle.words.proofs.Kit.{_≡_, refl, sym, ap, _∙_, true, false, ⊎-elim, List, [], _++_, ℕ, zero, suc, _+_, _-_, _*_, _/_, _≤_, _<_, arith, length, take, drop}
-use Rattle.words.proofs.Kit.{getD}
+-- A run of packets, as the walk has them. The idea: by induction over the packets, a run has as many entries as were asked for, and the last one goes on,
+-- exactly where the recording has them all; then it stands where they lead (`RunAs`).
+use Rattle.words.proofs.Kit.{_≡_, refl, sym, ap, _∙_, true, false, ⊎-elim, List, [], _++_, ℕ, zero, suc, _+_, _-_, _*_, _/_, _≤_, _<_, arith, length, take}
+use Rattle.words.proofs.Kit.{drop, getD}
 use lib.ListN.{length-append, List·getD-append}
 use mathlib.Core.List.{append-assoc}
 use lib.Seq.{getD-append-add, length-take-le}
@@ -121,7 +121,8 @@ run-as (suc n) ws at t w =
 -- ---- what a run tells, which was lent the first words of a buffer and has written them; `rest` are the others
 
 module _ (n : ℕ) (ws : List ℕ) (from : ℕ) (t buffer : List ℕ) (r : Reached) (left written rest : List ℕ) (w : wellMade t ≡ true) (s : 1 ≤ n)
-    (l : entryWords * n ≤ length buffer) (d : WalkDone (wholeWalk t ws from (take (entryWords * n - 0) buffer)) (take (entryWords * n - 0) buffer) r left written)
+    (l : entryWords * n ≤ length buffer)
+    (d : WalkDone (wholeWalk t ws from (take (entryWords * n - 0) buffer)) (take (entryWords * n - 0) buffer) r left written)
   where
     abbrev walked : Walk
     walked = walkOf n ws from t

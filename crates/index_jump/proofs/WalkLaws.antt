@@ -1,11 +1,12 @@
 -- How the walk over some packets goes. The idea: after i of them, those that are left from the place where the walk stands give what all of them give (`Onto`);
 -- a turn takes the next k of them (`onto-turn`), and where these are not there the recording ends (`onto-short`).
-use Rattle.words.proofs.Kit.{_≡_, refl, sym, ap, _∙_, true, false, ⊎-elim, List, ℕ, _+_, _-_, _*_, _≤_, _<_, arith, length}
+use Rattle.words.proofs.Kit.{_≡_, refl, sym, ap, _∙_, true, false, not, ⊎-elim, List, [], _∷_, ℕ, _+_, _-_, _*_, _≤_, _<_, arith, not-false, length}
 use Rattle.words.specs.declared.Length.{Length}
 use Rattle.words.specs.declared.Length.the-variants.{Accepted, Refused}
 use Rattle.words.specs.Numbers.{PAGE}
-use Rattle.words.specs.Outcome.{Outcome, refused, accepted, measured}
+use Rattle.words.specs.Outcome.{refused, accepted, measured}
 use Rattle.words.proofs.Cases.{true-or-false, true-is-false, accepted-same}
+use Rattle.words.proofs.RefusalLaws.{first-passed}
 use Rattle.table.specs.Well.{wellMade}
 use Rattle.play.specs.Run.{entryWords}
 use Rattle.index_jump.specs.Onward.{Behind, behindPackets}
@@ -14,31 +15,19 @@ use Rattle.index_jump.proofs.BehindLaws.{behind-none, behind-split, beh
 
 -- ---- what an answer tells
 
-module _ (b : Behind) (r : Length) (left : List ℕ) (w : WalkedTo b r left) where
-  pub walked-there : (at : ℕ) → r ≡ Accepted at → (b .all ≡ true) × (at ≡ b .place) × (left ≡ b .table)
-  walked-there at e =
-      ⊎-elim
-      (λ (a : b .all ≡ true).
-      let said : accepted at ≡ reachedPlace b = ap measured (sym e) ∙ w .answer in
-      let same : _≡_ {A = Outcome ℕ} (accepted at) (accepted (b .place)) = rw a at said in
-      (a, accepted-same same, w .table a))
-      (λ (a : b .all ≡ false).
-      let said : accepted at ≡ reachedPlace b = ap measured (sym e) ∙ w .answer in
-      let no : _≡_ {A = Outcome ℕ} (accepted at) (refused PAGE) = rw a at said in
-      let z : _≡_ {A = ℕ} 0 1 = cc in
-      absurd (omega arith))
-      (true-or-false (b .all))
+pub not-reached : (b : Behind) (r : Length) (q : ℕ) → measured r ≡ reachedPlace b → r ≡ Refused q → b .all ≡ false
+not-reached b r q e f =
+    ⊎-elim
+    (λ (g : b .all ≡ true).
+    let z : refused q ≡ accepted (b .place) = sym (ap measured f) ∙ e ∙ rw g in
+    let x : _≡_ {A = ℕ} 0 1 = cc in
+    absurd (omega arith))
+    (λ (g : b .all ≡ false). g) (true-or-false (b .all))
 
-  pub walked-short : (k : ℕ) → r ≡ Refused k → b .all ≡ false
-  walked-short k e =
-      ⊎-elim
-      (λ (a : b .all ≡ true).
-      let said : refused k ≡ reachedPlace b = ap measured (sym e) ∙ w .answer in
-      let no : _≡_ {A = Outcome ℕ} (refused k) (accepted (b .place)) = rw a at said in
-      let z : _≡_ {A = ℕ} 0 1 = cc in
-      absurd (omega arith))
-      (λ (a : b .all ≡ false). a)
-      (true-or-false (b .all))
+pub all-reached : (b : Behind) (r : Length) (at : ℕ) → measured r ≡ reachedPlace b → r ≡ Accepted at → (b .all ≡ true) × (b .place ≡ at)
+all-reached b r at e f =
+    let q = first-passed ((PAGE, not (b .all)) ∷ []) (accepted (b .place)) at (sym e ∙ ap measured f) in
+    (not-false (b .all) (q .0 .0), accepted-same (q .1))
 
 -- ---- the loop
 
@@ -78,7 +67,7 @@ module _ {n from at i : ℕ} {ws t₀ entries₀ t entries : List ℕ} (p : Onto
     module _ (r : Length) (left : List ℕ) (w : WalkedTo (behindPackets k ws at t) r left) where
       pub onto-short : (m : ℕ) → r ≡ Refused m → WalkedTo (behindPackets n ws from t₀) (Refused PAGE) left
       onto-short m e =
-          let no = walked-short (behindPackets k ws at t) r left w m e in
+          let no = not-reached (behindPackets k ws at t) r m (w .answer) e in
           let all : behindPackets n ws from t₀ .all ≡ behindPackets (k + (n - (i + k))) ws at t .all =
           ap (λ (b : Behind). b .all) (p .is ∙ ap (λ (j : ℕ). behindPackets j ws at t) cut) in
           ⊎-elim
@@ -90,14 +79,15 @@ module _ {n from at i : ℕ} {ws t₀ entries₀ t entries : List ℕ} (p : Onto
       pub onto-turn : (next : ℕ) (written : List ℕ) → r ≡ Accepted next → length written ≡ length entries
           → Onto n ws from t₀ entries₀ left written next (i + k)
       onto-turn next written e l =
-          let q = walked-there (behindPackets k ws at t) r left w next e in
+          let q = all-reached (behindPackets k ws at t) r next (w .answer) e in
+          let table = w .table (q .0) in
           let kept = behind-kept k ws at t in
           record {
             most = omega (arith, few .0, h);
-            well = ap wellMade (q .2) ∙ kept .well (p .well);
-            same = ap length (q .2) ∙ kept .whole ∙ p .same;
+            well = ap wellMade table ∙ kept .well (p .well);
+            same = ap length table ∙ kept .whole ∙ p .same;
             room = l ∙ p .room;
             is =
                 p .is ∙ ap (λ (j : ℕ). behindPackets j ws at t) cut ∙ behind-split k (n - (i + k)) ws at t (q .0)
-                ∙ sym (rw (q .1, q .2));
+                ∙ rw (q .1, ← table);
           }
