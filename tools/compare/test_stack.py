@@ -10,12 +10,14 @@ HEADER = (ROOT / 'include/vrt49.h').read_text(encoding='utf-8')
 
 
 def spoilt():
-    """What stands in the header, and what is put in its place: other bytes for the call that takes most, another call, and other words for the rest."""
+    """What stands in the header, and what is put in its place: other bytes for the calls that take most, another call, and other words for the rest."""
     most, number, call = re.search(r'((\d+) bytes for (vrt49_\w+))', HEADER).groups()
     rest = re.search(r'and less than \d+ for every', HEADER).group()
     yield most, f'{int(number) - 8} bytes for {call}'
     yield most, f'{int(number) + 8} bytes for {call}'
     yield most, f'{number} bytes for vrt49_find'
+    for next_most, number, call in re.findall(r'((\d+) for (vrt49_\w+))', HEADER):
+        yield next_most, f'{int(number) + 8} for {call}'
     yield rest, 'and less than 100 for every'
     yield rest, 'and little for every'
 
