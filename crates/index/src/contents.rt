@@ -11,6 +11,9 @@ pub const MOST_ENTRIES: usize = 1024;
 // The packets from one entry's boundary to the next.
 pub const SPACING: usize = 1024;
 
+// The words of the longest table: those that growing and jumping have of their own to play on.
+pub const MOST_TABLE: usize = 2849;
+
 // The entries.
 pub fn entries_in(index: &[u32]) -> usize
     requires { ⌜ indexContents ≤ length (now index) ⌝ }

@@ -1,5 +1,6 @@
 // What the crates above use of an index.
 pub use crate::contents::MOST_ENTRIES;
+pub use crate::contents::MOST_TABLE;
 pub use crate::contents::SPACING;
 pub use crate::contents::entries_in;
 pub use crate::contents::entry_length;

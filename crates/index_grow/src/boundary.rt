@@ -8,9 +8,6 @@ ghost use Rattle.index_grow.specs.Grow.{reachesEntry, growTold, grownPap
 ghost use Rattle.index_grow.specs.inner.Steps.{Ready, GrownOn, EntryMade, EntryTaken, layoutIn, givenBack};
 use crate::Grown;
 
-// The words of the longest table.
-const MOST_TABLE: usize = 2849;
-
 // Where the pages of an index end.
 fn pages_end(index: &[u32]) -> usize
     requires { ⌜ indexGood (now index) ≡ true ⌝ }
@@ -104,6 +101,6 @@ pub fn grow_to_entry(table: &mut [u32], given: &[u32], index: &mut [u32]) -> Gro
     requires { ⌜ Ready (now table) (now index) × (reachesEntry (now index) ≡ true) ⌝ }
     ensures { λ r. ⌜ Meets grownPaper (growTold (now (table .entry)) (now (given .entry)) (now (index .entry))) (now (table .entry), now (index .entry)) r (now (table .exit), now (index .exit)) ⌝ }
 {
-    let mut space = [0u32; MOST_TABLE];
+    let mut space = [0u32; index::inner::MOST_TABLE];
     grow_in(&mut space, table, given, index)
 }

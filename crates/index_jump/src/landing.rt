@@ -9,9 +9,6 @@ ghost use Rattle.index_jump.specs.inner.Steps.{WalkedTo, LandedIn};
 use crate::Jumped;
 use crate::Landed;
 
-// The words of the longest table.
-pub const MOST_TABLE: usize = 2849;
-
 // The packets that are played at a time, and the words of their entries.
 const RUN_PACKETS: usize = 32;
 

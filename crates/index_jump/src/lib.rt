@@ -29,7 +29,7 @@ pub fn jump(given: &[u32], first: u64, index: &[u32], n: u64, table: &mut [u32])
     if (index::inner::packets_taken(index) as u64) < n {
         return Jumped::Refused(words::PLACE);
     }
-    let mut space = [0u32; landing::MOST_TABLE];
+    let mut space = [0u32; index::inner::MOST_TABLE];
     let answer = landing::land(given, first, index, n as usize, &mut space);
     let Jumped::Accepted(landed) = answer else {
         return answer;
