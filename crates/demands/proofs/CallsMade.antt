@@ -1,8 +1,8 @@
 -- Demand 3 of calls as they are made. The idea: an outcome that meets a promise is the one that the definition gives, answer and lent words; so calls one
 -- after the other are `playAll` and `saidAll` (`played`), and a day of calls is a day of the definitions (`day`).
-use Rattle.words.proofs.Kit.{_≡_, refl, sym, ap, _∙_, List, [], _∷_, ℕ, true, take}
+use Rattle.words.proofs.Kit.{_≡_, refl, sym, ap, subst, _∙_, List, [], _∷_, ℕ, true, take}
 use mathlib.Core.List.{map}
-use Rattle.words.specs.Outcome.{accepted, saidOf}
+use Rattle.words.specs.Outcome.{accepted, saidOf, leftOf}
 use Rattle.words.proofs.MeetLaws.{meets-accepted}
 use Rattle.table.specs.Well.{wellMade}
 use Rattle.play.specs.declared.Played.{Played}
@@ -13,10 +13,13 @@ use Rattle.demands.specs.Program.{ours, playAll, saidAll}
 use Rattle.demands.specs.Right.{Right, layoutOf}
 use Rattle.demands.specs.Resumed.{SavesAs, Resumes, Stop, Day, SamePages}
 use Rattle.demands.specs.Resumed as Resumed
-use Rattle.demands.specs.CallsMade.{StartMade, PlaysMade, none, next, SaveMade, DayMade, over, SamePagesMade, Ruled, Demand3Made}
+use Rattle.demands.specs.Jumped.{GrownOver}
+use Rattle.demands.specs.Jumped as Jumped
+use Rattle.demands.specs.CallsMade.{StartMade, PlaysMade, none, next, SaveMade, DayMade, over, SamePagesMade, GrowsMade, Ruled, Demand3Made}
 use Rattle.demands.specs.CallsMade as Made
 use Rattle.demands.proofs.RightLaws.{right-start, right-on, answers-on}
 use Rattle.demands.proofs.Resumed.{page-words, saved-page, resumes, days}
+use Rattle.demands.proofs.Jumped.{jumps}
 use Rattle.demands.proofs.Separate.{apart}
 
 -- ---- outcomes
@@ -70,6 +73,19 @@ same-pages list t r (s ∷ later) k = (
   same-pages list t r later (k .1),
 )
 
+-- ---- a jump
+
+left-over : (ws first : List ℕ) (n : ℕ) (after index : List ℕ) (left : List ℕ × List ℕ) → (after, index) ≡ left
+    → GrownOver ours ws first n (left .0) (left .1) → GrownOver ours ws first n after index
+left-over ws first n after index left e g = subst (λ (z : List ℕ × List ℕ). GrownOver ours ws first n (z .0) (z .1)) (sym e) g
+
+-- an index that was grown by calls was grown by the definitions
+grown-over : {ws first t ix : List ℕ} {n : ℕ} → GrowsMade ws first n t ix → GrownOver ours ws first n t ix
+grown-over (Made.started lent m e) = let k = meets-accepted m e in rw (k .leaves) (Jumped.started (k .done) (k .wants))
+grown-over (Made.grown given rest g c m e) =
+    let k = meets-accepted m e in
+    left-over _ _ _ _ _ _ (k .leaves) (Jumped.grown (grown-over g) given rest c (k .done) (k .wants))
+
 pub demand-3-made : Demand3Made
 demand-3-made = record {
   plays = λ list lent t last packets answers a p. ruled list t last [] packets answers (started list lent t a) p;
@@ -83,6 +99,12 @@ demand-3-made = record {
   unbroken = λ list lent t last whole packets answers all stops a d p.
       let k = days list [] t (started list lent t a) packets last (map playedPaper answers) stops (day d) in
       (k .same-table ∙ ap (layoutOf list) (sym (played p .0)), k .same-answers ∙ sym (played p .1));
+  jumps = λ ws first taken t ix g n h from given w lent last r room m whole answers p.
+      let l = jumps ws first taken t ix (grown-over g) n h from given w lent room in
+      let left : last ≡ l .done .leaves = m .buffer ∙ ap (λ o. leftOf o lent) (l .accepts) in (
+        (l .done .says, m .answer ∙ ap saidOf (l .accepts)),
+        rw (left, played p .0) (l .table),
+      );
   apart = λ list lent room t u last other ps qs answers others s a x b y h alter.
       let k = apart list t u (started list lent t a) (started list room u b) s h ps qs alter in
       (rw (played x .0, played y .0) (k .0), rw (played x .1, played y .1) (k .1));

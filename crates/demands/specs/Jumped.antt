@@ -63,7 +63,7 @@ abbrev pub Jumps : Program → Type 0
 Jumps P = (ws first : List ℕ) (taken : ℕ) (t ix : List ℕ) → GrownOver P ws first taken t ix → (n : ℕ) → n ≤ taken → (from : ℕ) (given : List ℕ)
     → Handed ws ix n from given → (lent : List ℕ) → layoutWords (streamsOf first) ≤ length lent → Lands P ws first ix n from given lent
 
--- "if that table was right for some packets": the landed one is right for them and the earlier packets of the recording, and goes on as the unbroken play does
+-- where that table was right for some packets, the landed one is right for them and the earlier packets of the recording, and goes on as the unbroken play does
 pub record JumpedTo (P : Program) (list : Listing) (before : List (List ℕ)) (first : List ℕ) (earlier rest : List (List ℕ)) (landed lent : List ℕ)
     : Type 0 where
   pub right : Right list (before ++ earlier) landed
