@@ -370,11 +370,11 @@ static void check_index_file(void)
         wrong_file(kept.path, "is the recording: not written over");
 }
 
-/* Takes the index, and what the recording has more, unless it reaches the packet already. */
+/* Takes the index, and what the recording has more, unless there is one that reaches the packet. */
 static void bring_index(void)
 {
     take_index(&kept, &all, &from);
-    if (!at_text || at_packet > vrt49_index_packets(kept.words))
+    if (!at_text || !kept.there || at_packet > vrt49_index_packets(kept.words))
         grow_index(&kept, &all, &from);
 }
 

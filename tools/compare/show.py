@@ -1031,7 +1031,7 @@ def hold_tables(what, data, numbers, chosen=(), orders=("big", "little")):
             hold_table(f"{known}, --at {number}", walk, number, [*options, path], path)
             more = [*options, "--index", kept, path]
             hold_table(f"{known}, --at {number}, index", walk, number, more, path)
-        hold_index(known, walk, kept)
+            hold_index(f"{known}, --at {number}", walk, kept)
         kept = fresh()
         stopped = [f"vrtshow: {path}: stopped at word {walk.end}: {walk.refused.why()}"] if walk.refused else []
         for again in (1, 2):

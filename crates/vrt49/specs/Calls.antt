@@ -237,8 +237,8 @@ abbrev pub forPutBack : CallForC
 forPutBack =
     tells (λ (h : List ℕ × List ℕ × ℕ). putBackOf (h .0) (h .1)) (beside plain) (λ h. (h .1, h .2)) (λ h. putBackList (h .0) (h .1)) (PAGE ∷ ROOM ∷ [])
 
--- ---- the index beside a recording: "jumping PAGE for contents, PLACE, PAGE for the entry, ROOM; starting TABLE, ROOM; growing TABLE, PAGE for contents, reading
--- refusals, ROOM" (document 02, C-16)
+-- ---- the index beside a recording: "jumping PAGE for contents, PLACE, PAGE for the entry, ROOM; starting TABLE, ROOM; growing TABLE, PAGE for contents,
+-- reading refusals, ROOM" (document 02, C-16)
 
 abbrev pub forStartIndex : CallForC
 forStartIndex =
