@@ -1,12 +1,12 @@
 -- What stands in an index after its first four words are written (`withReached`), and after an entry is (`withEntry`). The idea: each is a part that is
 -- replaced, so what is read elsewhere is as it was; and entries that are right stay so, with one more behind them (`entry-more`) and under whatever number of
--- packets has that many boundaries (`reached-good`). An index that is started is right from none; and one that is moved to a longer buffer stays as it was.
-use Rattle.words.proofs.Kit.{_≡_, refl, sym, ap, ap₂, _∙_, true, ⊎-elim, List, [], _∷_, _++_, ℕ, zero, suc, _+_, _*_, _/_, _%_, _^_, _≤_, _<_, arith, length}
-use Rattle.words.proofs.Kit.{drop, getD}
+-- packets has that many boundaries (`reached-good`). An index that is started is right from none; and one that is kept elsewhere stays as it was.
+use Rattle.words.proofs.Kit.{_≡_, refl, sym, ap, ap₂, _∙_, true, ⊎-elim, List, [], _∷_, ℕ, zero, suc, _+_, _*_, _/_, _%_, _^_, _≤_, _<_, arith, length}
+use Rattle.words.proofs.Kit.{take, drop, getD}
 use native.Mathlib.Nat.{add-zero}
 use native.Mathlib.Numerals.{add-one}
-use lib.ListN.{List·getD-append, length-append}
-use lib.Seq.{getD-drop}
+use lib.ListN.{take-append-drop}
+use lib.Seq.{getD-take, getD-drop, length-take-le}
 use Rattle.words.specs.Word.{highFirst}
 use Rattle.words.specs.Part.{part, put}
 use Rattle.words.proofs.Cases.{le-or-lt}
@@ -137,9 +137,6 @@ module _ (j place offset : ℕ) (t ix : List ℕ) (w : wellMade t ≡ true) (b :
   -- the first four words: the entries and the packets taken in are the first two
   pub entry-word : (i : ℕ) → i < 4 → getD (withEntry j place offset t ix) i 0 ≡ getD ix i 0
   entry-word i g = before-entry i (omega arith)
-
-  pub entry-reached : placeReached (withEntry j place offset t ix) ≡ placeReached ix
-  entry-reached = ap₂ highFirst (entry-word 2 (omega arith)) (entry-word 3 (omega arith))
 
   at-entry : (i : ℕ) → i < 4 → getD (withEntry j place offset t ix) (entryFrom j + i) 0 ≡ getD words i 0
   unfolding withEntry
@@ -283,46 +280,54 @@ module _ (t ix : List ℕ) (w : wellMade t ≡ true) (h : startWords t ≤ lengt
         page = reached-page 0 0 first whole 0 (omega (arith, here)) ∙ entry-page 0 0 indexContents t ix w (omega arith) (omega arith) h;
       }
 
--- ---- an index with words behind it, as in a longer buffer
+-- ---- an index that is kept elsewhere: its words up to the end of its pages, and any behind them
 
-module _ (ix more : List ℕ) (good : indexGood ix ≡ true) where
+module _ (ix last : List ℕ) (good : indexGood ix ≡ true) (room : pagesEnd ix ≤ length last) (same : take (pagesEnd ix) last ≡ take (pagesEnd ix) ix) where
   was : GoodIndex ix
   was = index-of ix good
 
-  moved-word : (i : ℕ) → i < indexContents → getD (ix ++ more) i 0 ≡ getD ix i 0
-  moved-word i h = List·getD-append ix more 0 i (omega (arith, was .whole))
+  moved-word : (i : ℕ) → i < indexContents → getD last i 0 ≡ getD ix i 0
+  moved-word i h =
+      let here : i < pagesEnd ix = omega (arith, pages-behind ix (entriesIn ix)) in
+      sym (getD-take (pagesEnd ix) last i 0 here) ∙ ap (λ (z : List ℕ). getD z i 0) same ∙ getD-take (pagesEnd ix) ix i 0 here
 
-  pub moved-entries : entriesIn (ix ++ more) ≡ entriesIn ix
+  pub moved-entries : entriesIn last ≡ entriesIn ix
   moved-entries = moved-word 0 (omega arith)
 
-  pub moved-packets : packetsTaken (ix ++ more) ≡ packetsTaken ix
+  pub moved-packets : packetsTaken last ≡ packetsTaken ix
   moved-packets = moved-word 1 (omega arith)
 
-  pub moved-place : placeReached (ix ++ more) ≡ placeReached ix
+  pub moved-place : placeReached last ≡ placeReached ix
   moved-place = ap₂ highFirst (moved-word 2 (omega arith)) (moved-word 3 (omega arith))
 
-  pub moved-entry : (k : ℕ) → k < entriesIn ix → SameEntry ix (ix ++ more) k
-  moved-entry k h = same-entry ix (ix ++ more) k (λ i _ l. moved-word i (omega (arith, was .few)))
+  pub moved-entry : (k : ℕ) → k < entriesIn ix → SameEntry ix last k
+  moved-entry k h = same-entry ix last k (λ i _ l. moved-word i (omega (arith, was .few)))
 
-  pub moved-page : (k : ℕ) → k < entriesIn ix → pageIn (ix ++ more) k ≡ pageIn ix k
+  moved-part : (a n : ℕ) → a + n ≤ pagesEnd ix → part a n last ≡ part a n ix
+  moved-part a n h =
+      let front : (zs : List ℕ) → pagesEnd ix ≤ length zs → part a n zs ≡ part a n (take (pagesEnd ix) zs) =
+      λ zs l.
+      ap (part a n) (sym (take-append-drop (pagesEnd ix) zs))
+      ∙ part-within a n (take (pagesEnd ix) zs) (drop (pagesEnd ix) zs) (omega (arith, h, length-take-le (pagesEnd ix) zs l)) in
+      front last room ∙ ap (part a n) same ∙ sym (front ix (was .inside))
+
+  pub moved-page : (k : ℕ) → k < entriesIn ix → pageIn last k ≡ pageIn ix k
   moved-page k h =
-      same-page ix (ix ++ more) k (moved-entry k h)
-      (part-within (entryOffset ix k) (entryLength ix k) ix more (omega (arith, page-stands ix was k h .1, was .inside)))
+      same-page ix last k (moved-entry k h) (moved-part (entryOffset ix k) (entryLength ix k) (omega (arith, page-stands ix was k h .1)))
 
-  moved-pages : (j : ℕ) → j ≤ entriesIn ix → pagesFrom (ix ++ more) j ≡ pagesFrom ix j
-  moved-pages j h = same-pages ix (ix ++ more) j (λ k i. moved-entry k (omega arith))
+  moved-pages : (j : ℕ) → j ≤ entriesIn ix → pagesFrom last j ≡ pagesFrom ix j
+  moved-pages j h = same-pages ix last j (λ k i. moved-entry k (omega arith))
 
-  pub moved-good : indexGood (ix ++ more) ≡ true
+  pub moved-good : indexGood last ≡ true
   moved-good =
-      let long = length-append ix more in
-      let count : (j : ℕ) → j < entriesIn (ix ++ more) → j < entriesIn ix = λ j h. omega (arith, h, moved-entries) in
-      of-index (ix ++ more)
+      let count : (j : ℕ) → j < entriesIn last → j < entriesIn ix = λ j h. omega (arith, h, moved-entries) in
+      of-index last
       (record {
-        whole = omega (arith, was .whole, long);
+        whole = omega (arith, pages-behind ix (entriesIn ix), room);
         entries = moved-entries ∙ was .entries ∙ ap boundariesBy (sym moved-packets);
         few = omega (arith, was .few, moved-entries);
         reached = omega (arith, was .reached, moved-place, moved-packets);
         places = λ j h. rw (moved-entry j (count j h) .place) (was .places j (count j h));
         gapless = λ j h. let i = count j h in moved-entry j i .offset ∙ was .gapless j i ∙ sym (moved-pages j (omega (arith, i)));
-        inside = omega (arith, was .inside, long, ap (pagesFrom (ix ++ more)) moved-entries ∙ moved-pages (entriesIn ix) (omega arith));
+        inside = omega (arith, room, ap (pagesFrom last) moved-entries ∙ moved-pages (entriesIn ix) (omega arith));
       })

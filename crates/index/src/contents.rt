@@ -1,6 +1,7 @@
 // What the contents of an index say.
 ghost use Rattle.words.specs.Kit.{_≡_, _^_, _≤_, _<_, length};
-ghost use Rattle.index.specs.Layout.{mostEntries, entryFrom, indexContents, entriesIn, packetsTaken, placeReached, entryPlace, entryOffset, entryLength};
+ghost use Rattle.index.specs.Layout.{mostEntries, entryFrom, indexContents, entriesIn, packetsTaken, placeReached};
+ghost use Rattle.index.specs.Layout.{entryPlace, entryOffset, entryLength};
 
 // The words of the contents.
 pub const CONTENTS_WORDS: usize = 4100;
@@ -11,8 +12,13 @@ pub const MOST_ENTRIES: usize = 1024;
 // The packets from one entry's boundary to the next.
 pub const SPACING: usize = 1024;
 
-// The words of the longest table: those that growing and jumping have of their own to play on.
+// The words of the longest table: those that growing and jumping have of their own to play on. A jump has those of four streams where there are no more, since
+// they are cleared first.
 pub const MOST_TABLE: usize = 2849;
+
+pub const FEW_TABLE: usize = 357;
+
+pub const FEW_STREAMS: usize = 4;
 
 // The entries.
 pub fn entries_in(index: &[u32]) -> usize

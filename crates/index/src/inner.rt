@@ -1,4 +1,6 @@
 // What the crates above use of an index.
+pub use crate::contents::FEW_STREAMS;
+pub use crate::contents::FEW_TABLE;
 pub use crate::contents::MOST_ENTRIES;
 pub use crate::contents::MOST_TABLE;
 pub use crate::contents::SPACING;

@@ -4,7 +4,7 @@ use Rattle.words.proofs.Kit.{_≡_, refl, sym, _∙_, Bool, true, false, ⊎-el
 use mathlib.Core.Logic.{_⊎_, inl, inr}
 use Rattle.words.specs.declared.Where.the-variants.{Nowhere}
 use Rattle.words.specs.Numbers.{TABLE, PAGE, ROOM}
-use Rattle.words.specs.Tests.{both}
+use Rattle.words.specs.Tests.{both, among}
 use Rattle.words.specs.Outcome.{Outcome, refused, accepted, onward, Done, saidOf}
 use Rattle.words.specs.Refusals.{firstGiven}
 use Rattle.words.proofs.Cases.{true-or-false, accepted-same}
@@ -80,7 +80,7 @@ rest-refused false d n e = let z : _≡_ {A = ℕ} 0 1 = cc in absurd (omega ari
 
 module _ (t ws ix : List ℕ) (n : ℕ) where
   abbrev Placed : Type 0
-  Placed = (readBy (chosen t ws) ws ≡ refused n) ⊎ (whereOf ws n ≡ Nowhere)
+  Placed = (readBy (chosen t ws) ws ≡ refused n) ⊎ ((whereOf ws n ≡ Nowhere) × (among n (TABLE ∷ PAGE ∷ ROOM ∷ []) ≡ true))
 
   refused-by : (o : Outcome Packet) → readBy (chosen t ws) ws ≡ o
       → onward o (λ p. firstGiven ((ROOM, both (reachesEntry ix) (entryLacks (tableTaken t ws) ix)) ∷ []) (accepted (grownDone t ws ix))) ≡ refused n → Placed
@@ -88,7 +88,7 @@ module _ (t ws ix : List ℕ) (n : ℕ) where
   refused-by (refused m) e f = let i : m ≡ n = cc in inl (rw (← i) e)
   refused-by (accepted p) e f =
       let i : n ≡ ROOM = rest-refused (both (reachesEntry ix) (entryLacks (tableTaken t ws) ix)) (grownDone t ws ix) n f in
-      inr (rw i)
+      inr (rw i, rw i)
 
   pub grow-refused : growOf t ws ix ≡ refused n → Placed
   unfolding growOf whereOf
@@ -97,7 +97,7 @@ module _ (t ws ix : List ℕ) (n : ℕ) where
       (λ (w : wellMade t ≡ true).
       ⊎-elim
       (λ (g : indexGood ix ≡ true). refused-by (readBy (chosen t ws) ws) refl (sym (grow-read t ws ix (record { table = w; index = g })) ∙ e))
-      (λ (g : indexGood ix ≡ false). let i : PAGE ≡ n = refused-same (rw (w, g) at e) in inr (rw (← i)))
+      (λ (g : indexGood ix ≡ false). let i : PAGE ≡ n = refused-same (rw (w, g) at e) in inr (rw (← i), rw (← i)))
       (true-or-false (indexGood ix)))
-      (λ (w : wellMade t ≡ false). let i : TABLE ≡ n = refused-same (rw w at e) in inr (rw (← i)))
+      (λ (w : wellMade t ≡ false). let i : TABLE ≡ n = refused-same (rw w at e) in inr (rw (← i), rw (← i)))
       (true-or-false (wellMade t))

@@ -186,14 +186,14 @@ reaches-yes ix b e i = sym e ∙ i
 pub reaches-no : (ix : List ℕ) (b : Bool) → b ≡ reachesEntry ix → b ≡ false → reachesEntry ix ≡ false
 reaches-no ix b e i = sym e ∙ i
 
--- a packet behind which there is no entry: the table that is played on is the lent one
-grow-between : (t ws ix left last : List ℕ) (r : Grown) → reachesEntry ix ≡ false → Ready t ix → GrownOn t ws ix r left last
-    → Meets grownPaper (growTold t ws ix) (t, ix) r (left, last)
+-- a packet behind which there is no entry, or room for its page: the table that is played on may be the lent one
+pub grow-lent : (t ws ix left last : List ℕ) (r : Grown) → both (reachesEntry ix) (entryLacks (tableTaken t ws) ix) ≡ false → Ready t ix
+    → GrownOn t ws ix r left last → Meets grownPaper (growTold t ws ix) (t, ix) r (left, last)
 unfolding tableTaken
-grow-between t ws ix left last r n q k =
+grow-lent t ws ix left last r n q k =
     ⊎-elim
     (λ (g : goesOn (saidOf (playTold t ws)) ≡ true).
-    let e = grow-accepts t ws ix q g (rw n) in
+    let e = grow-accepts t ws ix q g n in
     record { answer = k .answer; buffer = rw (k .table, k .index, e) })
     (λ (g : goesOn (saidOf (playTold t ws)) ≡ false).
     let u = unread-both t ws ix q g in
@@ -203,8 +203,8 @@ grow-between t ws ix left last r n q k =
 module _ (t ws ix : List ℕ) (q : Ready t ix) (n : reachesEntry ix ≡ false) (s : Happened) (left : List ℕ) (k : Stepped t ws 0 s left) (a : Played)
     (f : a ≡ s .answer) (r : Grown) where
   pub on-unread : not (s .continues) ≡ true → grownPaper r ≡ answerBy (playedPaper a) false 0 → Meets grownPaper (growTold t ws ix) (t, ix) r (left, ix)
-  on-unread c g = grow-between t ws ix left ix r n q (grown-unread t ws ix q s left k a f r c g)
+  on-unread c g = grow-lent t ws ix left ix r (rw n) q (grown-unread t ws ix q s left k a f r c g)
 
   pub on-taken : (last : List ℕ) → not (s .continues) ≡ false → grownPaper r ≡ answerBy (playedPaper a) true (s .next) → last ≡ countedIn (s .next) ix
       → Meets grownPaper (growTold t ws ix) (t, ix) r (left, last)
-  on-taken last c g h = grow-between t ws ix left last r n q (grown-on t ws ix q s left k a f c r last n g h)
+  on-taken last c g h = grow-lent t ws ix left last r (rw n) q (grown-on t ws ix q s left k a f c r last n g h)

@@ -10,6 +10,8 @@ pub mod PacketLaws
 pub mod GrowLaws
 -- what an answer of growing tells
 pub mod AnswerLaws
+-- room for the next entry behind any packet
+pub mod AnyLaws
 -- a packet taken in on a copy of the table's layout
 pub mod CopyLaws
 -- what growing keeps of an index

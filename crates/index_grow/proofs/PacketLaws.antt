@@ -6,7 +6,7 @@ use Rattle.words.specs.declared.Refusal.{Refusal}
 use Rattle.words.specs.Numbers.{EMPTY}
 use Rattle.words.specs.Tests.{when}
 use Rattle.words.specs.Outcome.{refused, accepted}
-use Rattle.words.specs.Told.{Told, refusal, wordOf}
+use Rattle.words.specs.Told.{Told, refusal, placeWord}
 use Rattle.packet.specs.Header.{sizeOf}
 use Rattle.packet.specs.Told.{whereOf}
 use Rattle.table.specs.Well.{wellMade}
@@ -41,7 +41,7 @@ next-small t ws left s k = rw (k .next) (omega (arith, when-small (goesOn (saidA
 -- ---- the answer, by what play says: whether the recording goes on is c
 
 module _ (r : Refusal) (c : Bool) (size : ℕ) where
-  pub unheard-on : (k : ℕ) → c ≡ true → k ≡ wordOf (r .place) → accepted (Undeclared (record { size = size; place = k })) ≡ answerBy (refused r) c size
+  pub unheard-on : (k : ℕ) → c ≡ true → k ≡ placeWord (r .place) → accepted (Undeclared (record { size = size; place = k })) ≡ answerBy (refused r) c size
   unheard-on k e f = rw (e, f)
 
   pub unheard-off : c ≡ false → refused r ≡ answerBy (refused r) c size

@@ -6,7 +6,7 @@ use Rattle.words.specs.Numbers.{TABLE, PAGE, ROOM}
 use Rattle.words.specs.Tests.{pick, both, either}
 use Rattle.words.specs.Outcome.{Outcome, refused, accepted, Done, saidOf, leftOf}
 use Rattle.words.specs.Refusals.{Refusals, firstGiven}
-use Rattle.words.specs.Told.{Told, told, wordOf}
+use Rattle.words.specs.Told.{Told, told, placeWord}
 use Rattle.packet.specs.Header.{sizeOf}
 use Rattle.packet.specs.Read.{listBy}
 use Rattle.packet.specs.Told.{whereOf}
@@ -26,7 +26,7 @@ use Rattle.index_grow.specs.declared.Grown.the-variants.{Accepted, Refus
 -- what play says of it; "On a STREAM refusal growing .. answers 'undeclared' with the place": the size of that packet, and the place of the refusal
 abbrev pub takenAs : Told Heard → ℕ → Taken
 takenAs (accepted h) size = Declared h
-takenAs (refused r) size = Undeclared (record { size = size; place = wordOf (r .place) })
+takenAs (refused r) size = Undeclared (record { size = size; place = placeWord (r .place) })
 
 abbrev pub takenOf : List ℕ → List ℕ → Taken
 takenOf t ws = takenAs (saidOf (playTold t ws)) (sizeOf (getD ws 0 0))
@@ -53,7 +53,7 @@ unfoldable pub entryLacks : List ℕ → List ℕ → Bool
 entryLacks t ix =
     either (leb mostEntries (entriesIn ix)) (either (leb (2 ^ 32) (pagesEnd ix)) (ltb (length ix) (pagesEnd ix + pageLength t)))
 
--- the index with the packet counted, and at every 1,024th boundary the page of the table after the packet; the words of others stay
+-- the index with the packet counted, and at every 1,024th boundary the page of the table after the packet; other words of the index stay
 unfoldable pub indexThen : List ℕ → List ℕ → List ℕ → List ℕ
 indexThen t ws ix =
     withReached (packetsThen ix) (placeThen ws ix)

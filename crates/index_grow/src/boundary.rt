@@ -1,11 +1,11 @@
-// A packet taken in behind which the index keeps a page. It is played on a copy of the table, since the page may not fit: then nothing has changed, and nothing
-// is undone.
+// A packet taken in behind which the index keeps a page. Where that page may not fit, the packet is played on a copy of the table: if it does not, nothing has
+// changed, and nothing is undone.
 ghost use Rattle.words.specs.Kit.{_≡_, true, _^_, _≤_, _<_, length};
 ghost use Rattle.words.specs.Outcome.{Meets};
 ghost use Rattle.index.specs.Layout.{pagesEnd};
 ghost use Rattle.index.specs.Good.{indexGood};
 ghost use Rattle.index_grow.specs.Grow.{reachesEntry, growTold, grownPaper};
-ghost use Rattle.index_grow.specs.inner.Steps.{Ready, GrownOn, EntryMade, EntryTaken, layoutIn, givenBack};
+ghost use Rattle.index_grow.specs.inner.Steps.{Ready, GrownOn, EntryMade, EntryTaken, roomForAny, layoutIn, givenBack};
 use crate::Grown;
 
 // Where the pages of an index end.
@@ -51,7 +51,7 @@ fn take_entry(table: &[u32], index: &mut [u32], size: usize) -> bool
 }
 
 // Takes the packet in on a table that may be changed.
-fn grow_copy(table: &mut [u32], given: &[u32], index: &mut [u32]) -> Grown
+fn grow_played(table: &mut [u32], given: &[u32], index: &mut [u32]) -> Grown
     requires { ⌜ Ready (now table) (now index) × (reachesEntry (now index) ≡ true) ⌝ }
     ensures { λ r. ⌜ GrownOn (now (table .entry)) (now (given .entry)) (now (index .entry)) r (now (table .exit)) (now (index .exit)) ⌝ }
 {
@@ -81,7 +81,7 @@ fn grow_given(copy: &mut [u32], table: &mut [u32], given: &[u32], index: &mut [u
     requires { ⌜ Ready (now table) (now index) × (reachesEntry (now index) ≡ true) × (now copy ≡ layoutIn (now table)) ⌝ }
     ensures { λ r. ⌜ Meets grownPaper (growTold (now (table .entry)) (now (given .entry)) (now (index .entry))) (now (table .entry), now (index .entry)) r (now (table .exit), now (index .exit)) ⌝ }
 {
-    let answer = grow_copy(copy, given, index);
+    let answer = grow_played(copy, given, index);
     give_back(answer, table, copy);
     answer
 }
@@ -96,11 +96,37 @@ fn grow_in(space: &mut [u32], table: &mut [u32], given: &[u32], index: &mut [u32
     grow_given(&mut space[0..size], table, given, index)
 }
 
-// Takes the packet in.
-pub fn grow_to_entry(table: &mut [u32], given: &[u32], index: &mut [u32]) -> Grown
+// Takes the packet in on a copy, for which it has words of its own.
+fn grow_apart(table: &mut [u32], given: &[u32], index: &mut [u32]) -> Grown
     requires { ⌜ Ready (now table) (now index) × (reachesEntry (now index) ≡ true) ⌝ }
     ensures { λ r. ⌜ Meets grownPaper (growTold (now (table .entry)) (now (given .entry)) (now (index .entry))) (now (table .entry), now (index .entry)) r (now (table .exit), now (index .exit)) ⌝ }
 {
     let mut space = [0u32; index::inner::MOST_TABLE];
     grow_in(&mut space, table, given, index)
+}
+
+// Whether there is room for the page whatever the packet is: an entry is left, a word says where the page begins, and the longest page of so many streams fits.
+fn room_for_any(table: &[u32], index: &[u32]) -> bool
+    requires { ⌜ Ready (now table) (now index) ⌝ }
+    ensures { λ r. ⌜ r ≡ roomForAny (now (table .entry)) (now (index .entry)) ⌝ }
+{
+    if index::inner::MOST_ENTRIES <= index::inner::entries_in(index) {
+        return false;
+    }
+    let end = pages_end(index);
+    if 0xFFFF_FFFF < end {
+        return false;
+    }
+    end + (2 + 90 * table::inner::streams(table)) <= index.len()
+}
+
+// Takes the packet in: on the lent table, where there is room for any page.
+pub fn grow_to_entry(table: &mut [u32], given: &[u32], index: &mut [u32]) -> Grown
+    requires { ⌜ Ready (now table) (now index) × (reachesEntry (now index) ≡ true) ⌝ }
+    ensures { λ r. ⌜ Meets grownPaper (growTold (now (table .entry)) (now (given .entry)) (now (index .entry))) (now (table .entry), now (index .entry)) r (now (table .exit), now (index .exit)) ⌝ }
+{
+    if room_for_any(table, index) {
+        return grow_played(table, given, index);
+    }
+    grow_apart(table, given, index)
 }

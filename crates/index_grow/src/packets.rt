@@ -49,7 +49,7 @@ fn answer_unheard(r: words::Refusal, continues: bool, size: usize) -> Grown
         let place = r.place;
         return Grown::Accepted(Taken::Undeclared(Stranger {
             size,
-            place: words::inner::word_of(place),
+            place: words::inner::place_word(place),
         }));
     }
     Grown::Refused(r)

@@ -1,8 +1,8 @@
 -- How a landing goes. The idea: an entry serves where its page is well made, its boundary stands in the words, and the packets from there to n are there; each
--- of these that fails is PAGE (`unserved`). A well-made page has at most 32 bodies, so putting it back into the words that are lent for the longest table never
--- lacks room (`page-put`).
+-- of these that fails is PAGE (`unserved`). The words that are lent have room for the table of a page that is well made, so putting it back never lacks room
+-- (`page-put`); such a page has at most 32 bodies (`space-most`).
 use Rattle.words.proofs.Kit.{_≡_, sym, ap, _∙_, true, false, ⊎-elim, List, [], _++_, ℕ, _+_, _-_, _/_, _%_, _^_, _≤_, _<_, arith}
-use Rattle.words.proofs.Kit.{le-ltb, le-leb, lt-leb, not-false, leb, length, take, drop}
+use Rattle.words.proofs.Kit.{le-ltb, le-leb, lt-leb, not-false, leb, length, take, drop, getD}
 use native.Mathlib.Nat.{sub-zero, mod-lt}
 use lib.ListN.{length-append}
 use lib.Seq.{take-at}
@@ -25,8 +25,8 @@ use Rattle.index.specs.Good.{indexGood}
 use Rattle.index.proofs.GoodLaws.{index-of}
 use Rattle.index_jump.specs.declared.Jumped.the-variants.{Accepted, Refused}
 use Rattle.index_jump.specs.Onward.{Behind, behindPackets}
-use Rattle.index_jump.specs.Jump.{landingWords, standsIn, landing, entryServes}
-use Rattle.index_jump.specs.inner.Steps.{WalkedTo, LandedIn}
+use Rattle.index_jump.specs.Jump.{pageBefore, landingWords, standsIn, landing, entryServes}
+use Rattle.index_jump.specs.inner.Steps.{WalkedTo, Spacious, LandedIn}
 use Rattle.index_jump.proofs.WalkLaws.{not-reached, all-reached}
 use Rattle.index_jump.proofs.BehindLaws.{behind-most, behind-kept}
 
@@ -47,15 +47,25 @@ module _ (ix : List ℕ) (n : ℕ) (good : indexGood ix ≡ true) (few : n ≤ p
       let less : n % 1024 < 1024 = mod-lt n (omega arith) in
       omega (arith, f, most, e, index-of ix good .places (n / 1024) entry-there, index-of ix good .few, entry-there)
 
+  -- its page says how many streams there are
+  pub few-said : (p : List ℕ) → p ≡ pageIn ix (n / 1024) → (w : ℕ) → w ≡ getD p 0 0 → leb w 4 ≡ leb (bodiesIn (pageBefore ix n)) 4
+  few-said p e w f = rw (f, e)
+
+-- ---- the words that a landing has: room for the table of a page of few streams, and of any
+
+pub space-few : (ix : List ℕ) (n : ℕ) → bodiesIn (pageBefore ix n) ≤ 4 → Spacious ix n 357
+space-few ix n h = record { fits = λ _. omega (arith, h) }
+
+pub space-most : (ix : List ℕ) (n : ℕ) → Spacious ix n 2849
+space-most ix n = record { fits = λ g. omega (arith, ok-contents (pageBefore ix n) (page-tested (pageBefore ix n) ∙ g) .few) }
+
 -- ---- its page, put back
 
-module _ (p space : List ℕ) (long : length space ≡ 2849) where
+module _ (p space : List ℕ) (fits : pageGood p ≡ true → layoutWords (bodiesIn p) ≤ length space) where
   page-put : pageGood p ≡ true
       → putBackOf p space ≡ accepted (record { says = layoutWords (bodiesIn p); leaves = tableOf p ++ drop (layoutWords (bodiesIn p)) space })
   unfolding putBackOf
-  page-put g =
-      let few : bodiesIn p ≤ 32 = ok-contents p (page-tested p ∙ g) .few in
-      rw (g, le-ltb (length space) (layoutWords (bodiesIn p)) (omega (arith, long, few)))
+  page-put g = rw (g, le-ltb (length space) (layoutWords (bodiesIn p)) (fits g))
 
   module _ (back : Length) (mid : List ℕ) (m : Meets measured (putBackOf p space) space back mid) where
     put-ill : (k : ℕ) → back ≡ lengths.Refused k → pageGood p ≡ false
@@ -92,7 +102,7 @@ module _ (ws : List ℕ) (first : ℕ) (ix : List ℕ) (n : ℕ) where
   unfolding entryServes
   serves-no-page e = rw e
 
-  serves-nowhere : standsIn ws first (entryPlace ix (n / 1024)) ≡ false → entryServes ws first ix n ≡ false
+  pub serves-nowhere : standsIn ws first (entryPlace ix (n / 1024)) ≡ false → entryServes ws first ix n ≡ false
   unfolding entryServes
   serves-nowhere e = rw e (both-no (pageGood page))
 
@@ -100,22 +110,23 @@ module _ (ws : List ℕ) (first : ℕ) (ix : List ℕ) (n : ℕ) where
   unfolding entryServes
   serves-short e = rw (e, both-no (standsIn ws first (entryPlace ix (n / 1024)))) (both-no (pageGood page))
 
-  -- where it serves, its table is not longer than the longest
-  pub serves-most : entryServes ws first ix n ≡ true → landingWords ix n ≤ 2849
+  -- where it serves, there is room for its table
+  pub serves-fits : entryServes ws first ix n ≡ true → (room : ℕ) → Spacious ix n room → landingWords ix n ≤ room
   unfolding entryServes
-  serves-most e =
-      let good : pageGood (pageIn ix (n / 1024)) ≡ true = both-left (pageGood page) _ e in
-      omega (arith, ok-contents page (page-tested page ∙ good) .few)
+  serves-fits e room s = s .fits (both-left (pageGood page) _ e)
 
   -- its page is p, and is put back into the words that are lent
-  module _ (p space mid : List ℕ) (back : Length) (e : p ≡ pageIn ix (n / 1024)) (long : length space ≡ 2849)
+  module _ (p space mid : List ℕ) (back : Length) (e : p ≡ pageIn ix (n / 1024)) (s : Spacious ix n (length space))
       (m : Meets measured (putBackOf p space) space back mid) where
+    fits : pageGood p ≡ true → layoutWords (bodiesIn p) ≤ length space
+    fits g = rw e (s .fits (rw (← e) g))
+
     pub land-unput : (k : ℕ) → back ≡ lengths.Refused k → LandedIn ws first ix n (Refused PAGE) mid
-    land-unput k f = unserved mid (serves-no-page (rw e at (put-ill p space long back mid m k f)))
+    land-unput k f = unserved mid (serves-no-page (rw e at (put-ill p space fits back mid m k f)))
 
     module _ (k : ℕ) (f : back ≡ lengths.Accepted k) where
       made : (pageGood p ≡ true) × (layoutWords (bodiesIn p) ≡ k) × (mid ≡ tableOf p ++ drop (layoutWords (bodiesIn p)) space)
-      made = put-made p space long back mid m k f
+      made = put-made p space fits back mid m k f
 
       table-long : length (tableOf p) ≡ k
       table-long = back-length p (page-tested p ∙ made .0) ∙ made .1

@@ -12,6 +12,8 @@ pub mod WalkLaws
 pub mod PageLaws
 -- a landing in words of its own
 pub mod LandLaws
+-- a jump to the boundary of an entry
+pub mod BoundaryLaws
 -- what a jump answers
 pub mod JumpLaws
 -- when PLACE is given, and how many packets a jump plays

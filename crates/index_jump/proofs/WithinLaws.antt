@@ -21,11 +21,11 @@ use Rattle.index_jump.proofs.BehindLaws.{behind-none, behind-on, behind
 -- ---- the layout alone
 
 -- with the words x past the table
-abbrev pub beside : List ℕ → Behind → Behind
-beside x b = record { all = b .all; place = b .place; table = b .table ++ x }
+abbrev pub withPast : List ℕ → Behind → Behind
+withPast x b = record { all = b .all; place = b .place; table = b .table ++ x }
 
 pub behind-alone : (x : List ℕ) (n : ℕ) (ws : List ℕ) (at : ℕ) (l : List ℕ) → length l ≡ layoutWords (streamsOf l)
-    → behindPackets n ws at (l ++ x) ≡ beside x (behindPackets n ws at l)
+    → behindPackets n ws at (l ++ x) ≡ withPast x (behindPackets n ws at l)
 unfolding behindPackets
 behind-alone x zero ws at l e = refl
 behind-alone x (suc n) ws at l e =

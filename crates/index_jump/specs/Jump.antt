@@ -21,8 +21,8 @@ use Rattle.index_jump.specs.Onward.{Behind, behindPackets}
 abbrev pub entryBefore : ℕ → ℕ
 entryBefore n = n / spacing
 
-abbrev pub packetsFrom : ℕ → ℕ
-packetsFrom n = n % spacing
+abbrev pub packetsBeyond : ℕ → ℕ
+packetsBeyond n = n % spacing
 
 -- the page of that entry, and the words of its table's layout
 abbrev pub pageBefore : List ℕ → ℕ → List ℕ
@@ -39,7 +39,7 @@ standsIn ws first place = both (leb first place) (leb (place - first) (length ws
 
 -- the packets from its boundary to n, played on its page's table
 unfoldable pub landing : List ℕ → ℕ → List ℕ → ℕ → Behind
-landing ws first ix n = behindPackets (packetsFrom n) ws (entryPlace ix (entryBefore n) - first) (tableOf (pageBefore ix n))
+landing ws first ix n = behindPackets (packetsBeyond n) ws (entryPlace ix (entryBefore n) - first) (tableOf (pageBefore ix n))
 
 -- the entry is well made, and from it the recording has boundary n
 unfoldable pub entryServes : List ℕ → ℕ → List ℕ → ℕ → Bool

@@ -1,11 +1,13 @@
 // A landing in words of its own: the entry's page put back there, and the packets from its boundary on.
-ghost use Rattle.words.specs.Kit.{_≡_, true, _*_, _≤_, _<_, length};
+ghost use Rattle.words.specs.Kit.{_≡_, true, _*_, _≤_, _<_, leb, length};
 ghost use Rattle.table.specs.Well.{wellMade};
 ghost use Rattle.play.specs.Run.{entryWords};
+ghost use Rattle.page.specs.Layout.{bodiesIn};
 ghost use Rattle.index.specs.Layout.{packetsTaken, entriesIn, pageIn};
 ghost use Rattle.index.specs.Good.{indexGood};
 ghost use Rattle.index_jump.specs.Onward.{behindPackets};
-ghost use Rattle.index_jump.specs.inner.Steps.{WalkedTo, LandedIn};
+ghost use Rattle.index_jump.specs.Jump.{pageBefore};
+ghost use Rattle.index_jump.specs.inner.Steps.{WalkedTo, Spacious, LandedIn};
 use crate::Jumped;
 use crate::Landed;
 
@@ -79,7 +81,7 @@ fn walk(table: &mut [u32], given: &[u32], from: usize, n: usize) -> words::Lengt
 }
 
 // The page of entry j.
-fn page_in(index: &[u32], j: usize) -> &[u32]
+pub fn page_in(index: &[u32], j: usize) -> &[u32]
     requires { ⌜ (indexGood (now index) ≡ true) × (j < entriesIn (now index)) ⌝ }
     ensures { λ r. ⌜ now r ≡ pageIn (now (index .entry)) j ⌝ }
 {
@@ -88,9 +90,18 @@ fn page_in(index: &[u32], j: usize) -> &[u32]
     &index[at..end]
 }
 
-// Lands just before packet n in the words that are lent, which have room for the longest table; tells the layout's length, and the word place in the recording.
+// Whether the page of the last entry before packet n says that it has at most four streams.
+pub fn few_before(index: &[u32], n: usize) -> bool
+    requires { ⌜ (indexGood (now index) ≡ true) × (n ≤ packetsTaken (now index)) ⌝ }
+    ensures { λ r. ⌜ r ≡ leb (bodiesIn (pageBefore (now (index .entry)) n)) 4 ⌝ }
+{
+    let page = page_in(index, n / index::inner::SPACING);
+    words::inner::word_at(page, 0) as usize <= index::inner::FEW_STREAMS
+}
+
+// Lands just before packet n in the words that are lent, which have room for the table; tells the layout's length, and the word place in the recording.
 pub fn land(given: &[u32], first: u64, index: &[u32], n: usize, space: &mut [u32]) -> Jumped
-    requires { ⌜ (indexGood (now index) ≡ true) × (n ≤ packetsTaken (now index)) × (length (now space) ≡ 2849) ⌝ }
+    requires { ⌜ (indexGood (now index) ≡ true) × (n ≤ packetsTaken (now index)) × Spacious (now index) n (length (now space)) ⌝ }
     ensures { λ r. ⌜ LandedIn (now (given .entry)) first (now (index .entry)) n r (now (space .exit)) ⌝ }
 {
     let j = n / index::inner::SPACING;

@@ -1,4 +1,5 @@
 // A jump to a packet of a recording that has an index.
+mod copies;
 mod landing;
 
 ghost use Rattle.words.specs.Outcome.{Meets};
@@ -29,14 +30,12 @@ pub fn jump(given: &[u32], first: u64, index: &[u32], n: u64, table: &mut [u32])
     if (index::inner::packets_taken(index) as u64) < n {
         return Jumped::Refused(words::PLACE);
     }
-    let mut space = [0u32; index::inner::MOST_TABLE];
-    let answer = landing::land(given, first, index, n as usize, &mut space);
-    let Jumped::Accepted(landed) = answer else {
-        return answer;
-    };
-    if table.len() < landed.length {
-        return Jumped::Refused(words::ROOM);
+    let packet = n as usize;
+    if packet % index::inner::SPACING == 0 {
+        return copies::jump_back(given, first, index, packet, table);
     }
-    words::inner::copy_part(table, 0, &space, 0, landed.length);
-    answer
+    if landing::few_before(index, packet) {
+        return copies::jump_few(given, first, index, packet, table);
+    }
+    copies::jump_many(given, first, index, packet, table)
 }

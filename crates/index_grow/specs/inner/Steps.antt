@@ -1,13 +1,13 @@
 -- What the functions inside promise of a packet that is taken in, on a table and an index that are known to be well made.
-use Rattle.words.specs.Kit.{_≡_, ℕ, _+_, Bool, true, false, not, List, length, take}
-use Rattle.words.specs.Tests.{pick}
+use Rattle.words.specs.Kit.{_≡_, ℕ, _+_, _*_, _^_, Bool, true, false, not, List, ltb, leb, length, take}
+use Rattle.words.specs.Tests.{pick, both}
 use Rattle.words.specs.Outcome.{refused, accepted, saidOf, leftOf}
 use Rattle.words.specs.Told.{Told}
 use Rattle.words.specs.Part.{put}
 use Rattle.table.specs.Layout.{streamsOf, layoutWords}
 use Rattle.table.specs.Well.{wellMade}
 use Rattle.play.specs.declared.Heard.{Heard}
-use Rattle.index.specs.Layout.{entriesIn, placeReached, pagesEnd, withReached, withEntry}
+use Rattle.index.specs.Layout.{mostEntries, entriesIn, placeReached, pagesEnd, withReached, withEntry}
 use Rattle.index.specs.Good.{indexGood}
 use Rattle.index_grow.specs.declared.Taken.{Taken}
 use Rattle.index_grow.specs.declared.Taken.the-variants.{Declared}
@@ -49,6 +49,11 @@ pub record EntryMade (t : List ℕ) (place : ℕ) (ix : List ℕ) (made : Bool) 
 pub record EntryTaken (t : List ℕ) (size : ℕ) (ix : List ℕ) (made : Bool) (left : List ℕ) : Type 0 where
   pub fits : made ≡ not (entryLacks t ix)
   pub index : left ≡ pick made (withReached (packetsThen ix) (placeReached ix + size) (withNext t (placeReached ix + size) ix)) ix
+
+-- there is room for the next entry behind any packet: one is left, a word says where its page begins, and the longest page of so many streams fits
+unfoldable pub roomForAny : List ℕ → List ℕ → Bool
+roomForAny t ix =
+    both (ltb (entriesIn ix) mostEntries) (both (ltb (pagesEnd ix) (2 ^ 32)) (leb (pagesEnd ix + (2 + 90 * streamsOf t)) (length ix)))
 
 -- the layout of a table, of which a copy is made
 abbrev pub layoutIn : List ℕ → List ℕ

@@ -1,13 +1,14 @@
 -- What the functions inside promise: of packets that are walked over, and of a landing in words of its own.
-use Rattle.words.specs.Kit.{_≡_, ℕ, _+_, true, not, List, [], _∷_, take}
+use Rattle.words.specs.Kit.{_≡_, ℕ, _+_, _≤_, true, not, List, [], _∷_, take}
 use Rattle.words.specs.Numbers.{PAGE}
 use Rattle.words.specs.declared.Length.{Length}
 use Rattle.words.specs.Outcome.{Outcome, accepted, measured}
 use Rattle.words.specs.Refusals.{firstGiven}
+use Rattle.page.specs.Good.{pageGood}
 use Rattle.index_jump.specs.declared.Landed.{Landed}
 use Rattle.index_jump.specs.declared.Jumped.{Jumped}
 use Rattle.index_jump.specs.Onward.{Behind}
-use Rattle.index_jump.specs.Jump.{landingWords, landing, entryServes, jumpedPaper}
+use Rattle.index_jump.specs.Jump.{pageBefore, landingWords, landing, entryServes, jumpedPaper}
 
 -- the place behind some packets, or PAGE
 abbrev pub reachedPlace : Behind → Outcome ℕ
@@ -17,6 +18,10 @@ reachedPlace b = firstGiven ((PAGE, not (b .all)) ∷ []) (accepted (b .place))
 pub record WalkedTo (b : Behind) (r : Length) (left : List ℕ) : Type 0 where
   pub answer : measured r ≡ reachedPlace b
   pub table : b .all ≡ true → left ≡ b .table
+
+-- so many words have room for the table of the entry before packet n, if its page is well made
+pub record Spacious (ix : List ℕ) (n room : ℕ) : Type 0 where
+  pub fits : pageGood (pageBefore ix n) ≡ true → landingWords ix n ≤ room
 
 -- what is said of a landing at packet n, with PAGE for the entry
 abbrev pub landedOf : List ℕ → ℕ → List ℕ → ℕ → Outcome Landed

@@ -9,6 +9,6 @@ grow-given-spec =
     tie.close
     (tie.spec
     (λ c κs. search (needs, copy-ready))
-    (λ c κs. let grown : tie.After-grow-copy = search in search (back-fits, grown .grow-copy .ensures))
+    (λ c κs. let grown : tie.After-grow-played = search in search (back-fits, grown .grow-played .ensures))
     (λ c. search needs) (λ c. search needs) (λ c. search needs)
-    (λ c. let grown : tie.After-grow-copy = search in search (copied, grown .grow-copy .ensures)))
+    (λ c. let grown : tie.After-grow-played = search in search (copied, grown .grow-played .ensures)))
