@@ -1,4 +1,4 @@
-// What the crates above use of the fields: the next field, sizes, rules, the layout of a body, and its highest broken field.
+// What the crates above and this one's calls use of the fields: formats, sizes, rules, the layout of a body, and its highest broken field.
 mod carried;
 mod format;
 mod highest;
@@ -6,8 +6,6 @@ mod layout;
 mod rules;
 mod sizes;
 
-pub use carried::Next;
-pub use carried::next_field;
 pub use format::channel_size;
 pub use format::event_size;
 pub use format::format_ok;

@@ -116,6 +116,9 @@ module _ (ws : List ℕ) where
   unfolding readSurveyOf readBy surveyOf
   survey-read = sym (onward-first (listBy true (getD ws 0 0) ws) (surveyOf (getD ws 0 0) ws) (λ (s : Survey). accepted (s .packet)))
 
+  pub survey-unread : (n : ℕ) → readSurveyOf ws ≡ refused n → readBy true ws ≡ refused n
+  survey-unread n e = survey-read ∙ rw e
+
 -- ---- the steps as the code asks them
 
 -- the prologue and the body of a plain packet

@@ -1,17 +1,17 @@
 -- The place of a refusal lies inside the packet. The idea: a refusal is given after the tests before it were passed (`row-given`); so the packet fits the
 -- words, and the part of which the refusal speaks is there: a class whose bits are not zero, a fraction that is too large, the indicator of type 4, or a broken
 -- field of a body that has the words which its fields need.
-use Rattle.words.proofs.Kit.{_≡_, refl, sym, ap, _∙_, Bool, true, false, not, ⊎-elim, List, [], _∷_, ℕ, _+_, _^_, _≤_, _<_, arith, eqb-true, ne-eqb}
+use Rattle.words.proofs.Kit.{_≡_, refl, sym, ap, _∙_, Bool, true, false, not, ⊎-elim, List, ℕ, _+_, _^_, _≤_, _<_, arith, eqb-true, ne-eqb}
 use Rattle.words.proofs.Kit.{not-false, ltb-false, eqb, leb, length, getD}
 use native.Mathlib.Nat.{le-refl, mod-lt}
 use lib.Pow.{pow-pos}
 use Rattle.words.specs.declared.Where.{Where}
 use Rattle.words.specs.declared.Where.the-variants.{Nowhere, Word, Field}
 use Rattle.words.specs.Numbers.{EMPTY, TYPE, BITS, SHORT, CUT, CLASS, TIME, INDICATOR, LAYOUT, FIELD, STREAM, TABLE, PAD}
-use Rattle.words.specs.Tests.{pick, when, both, among}
+use Rattle.words.specs.Tests.{pick, when, both}
 use Rattle.words.specs.Word.{bits}
 use Rattle.words.specs.Outcome.{refused, accepted}
-use Rattle.words.specs.Told.{wordOf, bitOf, behind}
+use Rattle.words.specs.Told.{placeWord, placeBit, placeFurther}
 use Rattle.words.proofs.Cases.{true-or-false, true-is-false, both-left, both-right, both-no}
 use Rattle.words.proofs.RefusalLaws.{_else_, row-given}
 use Rattle.words.proofs.PartLaws.{part-length}
@@ -22,22 +22,18 @@ use Rattle.packet.specs.declared.Packet.{Packet}
 use Rattle.packet.specs.Header.{typeOf, classed, tsfOf, sizeOf}
 use Rattle.packet.specs.Parts.{streamed, hasFraction, classAt, fractionAt, bodyAt, bodyLength, requiredOf, wordIf, classHigh, fractionOf, bodyOf}
 use Rattle.packet.specs.Read.{timeOver, classBad, governed, listBy, readBy}
-use Rattle.packet.specs.Told.{whereOf}
+use Rattle.packet.specs.Told.{ofHeader, whereOf}
 use Rattle.packet.specs.inner.Steps.{FieldFits, Placeable}
 use Rattle.packet.proofs.RoomLaws.{Room, room, when-inside}
 use Rattle.packet.proofs.ReadLaws.{sized, read-accepts}
 
--- the numbers for which the header is told
-abbrev pub ofHeader : ℕ → Bool
-ofHeader n = among n (EMPTY ∷ TYPE ∷ BITS ∷ SHORT ∷ CUT ∷ [])
-
 -- of any other the place lies inside the packet, and the packet inside the words
 abbrev pub Inside : List ℕ → ℕ → Type 0
-Inside ws n = ofHeader n ≡ false → (wordOf (whereOf ws n) < sizeOf (getD ws 0 0)) × (sizeOf (getD ws 0 0) ≤ length ws)
+Inside ws n = ofHeader n ≡ false → (placeWord (whereOf ws n) < sizeOf (getD ws 0 0)) × (sizeOf (getD ws 0 0) ≤ length ws)
 
 -- a place is told with a number: a field's with FIELD, and else a word's
 abbrev pub PlaceTold : ℕ → Where → Type 0
-PlaceTold n place = place ≡ pick (eqb n FIELD) (Field (wordOf place) (bitOf place)) (Word (wordOf place))
+PlaceTold n place = place ≡ pick (eqb n FIELD) (Field (placeWord place) (placeBit place)) (Word (placeWord place))
 
 -- ---- what is refused is there
 
@@ -69,15 +65,15 @@ module _ (ws : List ℕ) where
     lies : Room header size
     lies = room header size h (le-refl size)
 
-    class-inside : classed header ≡ true → wordOf (whereOf ws CLASS) < size
+    class-inside : classed header ≡ true → placeWord (whereOf ws CLASS) < size
     unfolding whereOf
     class-inside c = omega (arith, when-inside (classed header) (classAt header) 2 size (lies .class) c)
 
-    time-inside : hasFraction header ≡ true → wordOf (whereOf ws TIME) < size
+    time-inside : hasFraction header ≡ true → placeWord (whereOf ws TIME) < size
     unfolding whereOf
     time-inside f = omega (arith, when-inside (hasFraction header) (fractionAt header) 2 size (lies .fraction) f)
 
-    pad-inside : wordOf (whereOf ws PAD) < size
+    pad-inside : placeWord (whereOf ws PAD) < size
     unfolding whereOf
     pad-inside =
         ⊎-elim (λ (c : classed header ≡ true). rw c (omega (arith, when-inside (classed header) (classAt header) 2 size (lies .class) c)))
@@ -88,11 +84,11 @@ module _ (ws : List ℕ) where
       unfolding requiredOf
       body-there = let f : bodyAt header + _ + when (eqb (typeOf header) 4) 1 ≤ size = h in let k = rw four at f in omega (arith, k)
 
-      indicator-inside : wordOf (whereOf ws INDICATOR) < size
+      indicator-inside : placeWord (whereOf ws INDICATOR) < size
       unfolding whereOf
       indicator-inside = body-there
 
-      layout-inside : wordOf (whereOf ws LAYOUT) < size
+      layout-inside : placeWord (whereOf ws LAYOUT) < size
       unfolding whereOf
       layout-inside = body-there
 
@@ -101,7 +97,7 @@ module _ (ws : List ℕ) where
     unfolding bodyOf
     body-length = part-length (bodyAt header) (bodyLength header) ws (omega (arith, lies .body))
 
-    field-inside : otherLength (bodyOf (getD ws 0 0) ws) ≡ false → ruleBroken (bodyOf (getD ws 0 0) ws) ≡ true → wordOf (whereOf ws FIELD) < size
+    field-inside : otherLength (bodyOf (getD ws 0 0) ws) ≡ false → ruleBroken (bodyOf (getD ws 0 0) ws) ≡ true → placeWord (whereOf ws FIELD) < size
     unfolding whereOf otherLength
     field-inside l b =
         let k = broken-some body b in
@@ -152,7 +148,7 @@ module _ (ws : List ℕ) where
     })
 
     -- and so it has sixteen bits
-    pub place-small : wordOf (whereOf ws n) < 2 ^ 16
+    pub place-small : placeWord (whereOf ws n) < 2 ^ 16
     unfolding whereOf
     place-small =
         ⊎-elim (λ (t : ofHeader n ≡ true). rw t (omega arith)) (λ (f : ofHeader n ≡ false). omega (arith, place-inside f .0, mod-lt header (pow-pos 16)))
@@ -210,7 +206,7 @@ module _ (ws : List ℕ) where
 
   -- of a packet that was read it lies inside too
   pub stream-inside : (survey : Bool) (p : Packet) → readBy survey ws ≡ accepted p
-      → (wordOf (whereOf ws STREAM) < sizeOf (getD ws 0 0)) × (sizeOf (getD ws 0 0) ≤ length ws)
+      → (placeWord (whereOf ws STREAM) < sizeOf (getD ws 0 0)) × (sizeOf (getD ws 0 0) ≤ length ws)
   stream-inside survey p e =
       let fits = sized header (length ws) (read-accepts survey ws p e .passes .size) in
       (rw stream-place (omega (arith, lies (fits .0) (fits .1) .identifier)), fits .1)
@@ -219,17 +215,18 @@ module _ (ws : List ℕ) where
   unfolding whereOf
   table-place = refl
 
-  pub bit-small : (n : ℕ) → bitOf (whereOf ws n) ≤ 30
+  pub bit-small : (n : ℕ) → placeBit (whereOf ws n) ≤ 30
   unfolding whereOf
   bit-small n =
       word-or (ofHeader n) 0 _ (word-or (eqb n CLASS) _ _ (word-or (eqb n TIME) _ _ (word-or (eqb n INDICATOR) _ _ (word-or (eqb n LAYOUT) _ _
       (field-or (eqb n FIELD) (brokenOf body) _ refl (word-or (eqb n PAD) _ _ (word-or (eqb n STREAM) _ Nowhere (omega arith))))))))
     where
-      word-or : (t : Bool) (at : ℕ) (place : Where) → bitOf place ≤ 30 → bitOf (pick t (Word at) place) ≤ 30
+      word-or : (t : Bool) (at : ℕ) (place : Where) → placeBit place ≤ 30 → placeBit (pick t (Word at) place) ≤ 30
       word-or true at place h = omega arith
       word-or false at place h = h
 
-      field-or : (t : Bool) (broken place : Where) → brokenOf body ≡ broken → bitOf place ≤ 30 → bitOf (pick t (behind (bodyAt header) broken) place) ≤ 30
+      field-or : (t : Bool) (broken place : Where) → brokenOf body ≡ broken → placeBit place ≤ 30
+          → placeBit (pick t (placeFurther (bodyAt header) broken) place) ≤ 30
       field-or true Nowhere place e h = omega arith
       field-or true (Word at) place e h = omega arith
       field-or true (Field at bit) place e h = broken-bit body at bit e .1

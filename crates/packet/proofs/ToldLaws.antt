@@ -1,15 +1,15 @@
 -- Where a packet is refused. The idea: each number is a line of `whereOf`; and what reading answers is told where by its number alone.
-use Rattle.words.proofs.Kit.{_≡_, refl, sym, ap, subst, _∙_, Bool, true, false, List, [], _∷_, _++_, ℕ, _+_, _-_, _^_, _≤_, _<_, arith, needs, ne-eqb}
+use Rattle.words.proofs.Kit.{_≡_, refl, sym, ap, subst, _∙_, Bool, true, false, List, ℕ, _+_, _-_, _≤_, arith, needs, ne-eqb}
 use Rattle.words.proofs.Kit.{length, take, drop, getD}
 use Rattle.words.specs.declared.Check.{Check}
 use Rattle.words.specs.declared.Check.the-variants.{Fine, Refused}
 use Rattle.words.specs.declared.Where.{Where}
 use Rattle.words.specs.declared.Where.the-variants.{Nowhere, Word}
 use Rattle.words.specs.declared.Refusal.{Refusal}
-use Rattle.words.specs.Numbers.{EMPTY, TYPE, BITS, SHORT, CUT, CLASS, TIME, INDICATOR, LAYOUT, FIELD, STREAM, PAD}
-use Rattle.words.specs.Tests.{when, among}
+use Rattle.words.specs.Numbers.{CLASS, TIME, INDICATOR, LAYOUT, FIELD, STREAM, PAD}
+use Rattle.words.specs.Tests.{when}
 use Rattle.words.specs.Outcome.{refused, accepted, checked}
-use Rattle.words.specs.Told.{told, refusal, behind}
+use Rattle.words.specs.Told.{refusal, placeFurther}
 use Rattle.words.proofs.RefusalLaws.{Numbered, number-among}
 use Rattle.words.proofs.PartLaws.{seen}
 use Rattle.words.proofs.ToldLaws.{told-accepted, refused-told}
@@ -20,14 +20,14 @@ use Rattle.packet.specs.Header.{classed, sizeOf}
 use Rattle.packet.specs.Parts.{streamed, classAt, fractionAt, bodyAt, bodyLength, bodyOf, requiredOf}
 use Rattle.packet.specs.Read.{sizedList, readBy, readOf}
 use Rattle.packet.specs.Survey.{readSurveyOf}
-use Rattle.packet.specs.Told.{whereOf, readTold, surveyTold}
+use Rattle.packet.specs.Told.{ofHeader, whereOf, readTold, surveyTold}
 use Rattle.packet.specs.inner.Steps.{FieldFits, sizedChecks}
 use Rattle.packet.proofs.FrontLaws.{required-fits, size-fits}
 
 -- ---- each number
 
 module _ (ws : List ℕ) (n w : ℕ) (e : w ≡ getD ws 0 0) where
-  pub where-header : (h : Bool) → h ≡ among n (EMPTY ∷ TYPE ∷ BITS ∷ SHORT ∷ CUT ∷ []) → h ≡ true → Word 0 ≡ whereOf ws n
+  pub where-header : (h : Bool) → h ≡ ofHeader n → h ≡ true → Word 0 ≡ whereOf ws n
   unfolding whereOf
   where-header h i t = rw (← i, t)
 
@@ -56,11 +56,11 @@ module _ (ws : List ℕ) (n w : ℕ) (e : w ≡ getD ws 0 0) where
     unfolding whereOf
     where-stream i t f a = rw (i, a, f, e)
 
-  pub where-field : n ≡ FIELD → (place : Where) → place ≡ behind (bodyAt w) (brokenOf (bodyOf w ws)) → place ≡ whereOf ws n
+  pub where-field : n ≡ FIELD → (place : Where) → place ≡ placeFurther (bodyAt w) (brokenOf (bodyOf w ws)) → place ≡ whereOf ws n
   unfolding whereOf
   where-field i place a = rw (i, a, e)
 
-  pub where-none : (h : Bool) → h ≡ among n (EMPTY ∷ TYPE ∷ BITS ∷ SHORT ∷ CUT ∷ []) → h ≡ false → (n ≡ CLASS → ⊥) → (n ≡ TIME → ⊥)
+  pub where-none : (h : Bool) → h ≡ ofHeader n → h ≡ false → (n ≡ CLASS → ⊥) → (n ≡ TIME → ⊥)
       → (n ≡ INDICATOR → ⊥) → (n ≡ LAYOUT → ⊥) → (n ≡ FIELD → ⊥) → (n ≡ PAD → ⊥) → (n ≡ STREAM → ⊥) → Nowhere ≡ whereOf ws n
   unfolding whereOf
   where-none h i f c t d l b p s =
@@ -72,7 +72,7 @@ module _ (ws : List ℕ) (n w : ℕ) (e : w ≡ getD ws 0 0) where
 
 -- the body that is lent
 pub broken-lent : (w at end : ℕ) (ws : List ℕ) (place r : Where) → at ≡ bodyAt w → end ≡ bodyAt w + bodyLength w
-    → place ≡ brokenOf (take (end - at) (drop at ws)) → r ≡ behind at place → r ≡ behind (bodyAt w) (brokenOf (bodyOf w ws))
+    → place ≡ brokenOf (take (end - at) (drop at ws)) → r ≡ placeFurther at place → r ≡ placeFurther (bodyAt w) (brokenOf (bodyOf w ws))
 unfolding bodyOf
 broken-lent w at end ws place r a e p q = q ∙ rw (p, seen at end (bodyLength w) ws (omega arith), a)
 

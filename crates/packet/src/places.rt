@@ -1,17 +1,15 @@
 // Where a packet is refused. This is worked out for a refusal alone, from its number and the words.
-ghost use Rattle.words.specs.Kit.{_≡_, [], _∷_, _^_, _≤_, _<_, length};
-ghost use Rattle.words.specs.Numbers.{EMPTY, TYPE, BITS, SHORT, CUT, FIELD};
-ghost use Rattle.words.specs.Tests.{among};
-ghost use Rattle.words.specs.Told.{refusal, wordOf, behind};
+ghost use Rattle.words.specs.Kit.{_≡_, _^_, _≤_, _<_, length};
+ghost use Rattle.words.specs.Told.{refusal, placeWord, placeFurther};
 ghost use Rattle.fields.specs.Broken.{brokenOf};
 ghost use Rattle.packet.specs.Header.{sizeOf};
 ghost use Rattle.packet.specs.Parts.{requiredOf, bodyAt, bodyOf};
-ghost use Rattle.packet.specs.Told.{whereOf};
+ghost use Rattle.packet.specs.Told.{ofHeader, whereOf};
 ghost use Rattle.packet.specs.inner.Steps.{FieldFits};
 
 // Whether a number is that of a refusal which the header is told for.
 fn is_header(number: u32) -> bool
-    ensures { λ r. ⌜ r ≡ among number (EMPTY ∷ TYPE ∷ BITS ∷ SHORT ∷ CUT ∷ []) ⌝ }
+    ensures { λ r. ⌜ r ≡ ofHeader number ⌝ }
 {
     if number == words::EMPTY {
         return true;
@@ -33,8 +31,8 @@ fn is_header(number: u32) -> bool
 
 // A place so many words further on.
 fn moved(n: usize, place: words::Where) -> words::Where
-    requires { ⌜ (n ≤ 7) × (wordOf place < 2 ^ 40) ⌝ }
-    ensures { λ r. ⌜ r ≡ behind n place ⌝ }
+    requires { ⌜ (n ≤ 7) × (placeWord place < 2 ^ 40) ⌝ }
+    ensures { λ r. ⌜ r ≡ placeFurther n place ⌝ }
 {
     match place {
         words::Where::Nowhere => words::Where::Nowhere,
@@ -46,7 +44,7 @@ fn moved(n: usize, place: words::Where) -> words::Where
 // Where the highest broken field stands of a packet whose header and size are right.
 fn broken_at(w: u32, ws: &[u32]) -> words::Where
     requires { ⌜ (requiredOf w ≤ sizeOf w) × (sizeOf w ≤ length (now ws)) ⌝ }
-    ensures { λ r. ⌜ r ≡ behind (bodyAt w) (brokenOf (bodyOf w (now (ws .entry)))) ⌝ }
+    ensures { λ r. ⌜ r ≡ placeFurther (bodyAt w) (brokenOf (bodyOf w (now (ws .entry)))) ⌝ }
 {
     let at = crate::header::body_at(w);
     let end = crate::prologue::body_end(w);

@@ -1,6 +1,6 @@
 -- A record and its body. The idea: their first words are the same; the rest of a body is the held words of the record's slots, and crate record's laws of
 -- squeezing say that slots give the words again and words the slots (`record-body`, `body-record`).
-use Rattle.words.proofs.Kit.{_≡_, refl, sym, ap, ap₂, _∙_, ⊎-elim, Bool, true, false, List, _++_, ℕ, _+_, _-_, _≤_, _<_}
+use Rattle.words.proofs.Kit.{_≡_, refl, sym, ap, ap₂, _∙_, ⊎-elim, Bool, true, false, List, _++_, ℕ, _+_, _≤_, _<_}
 use Rattle.words.proofs.Kit.{arith, eqb-true, eqb, length, drop, getD}
 use native.Mathlib.Nat.{zero-add}
 use lib.Bits.{bitAnd}

@@ -20,8 +20,8 @@ fn fold_answer(y: u32, answer: Played) -> u32 {
         Played::Refused(r) => {
             let place = r.place;
             let size = lines::inner::folded(lines::inner::folded(y, r.number as u64), 0);
-            let word = lines::inner::folded(size, words::inner::word_of(place) as u64);
-            let bit = lines::inner::folded(word, words::inner::bit_of(place) as u64);
+            let word = lines::inner::folded(size, words::inner::place_word(place) as u64);
+            let bit = lines::inner::folded(word, words::inner::place_bit(place) as u64);
             lines::inner::folded(bit, 0)
         }
     }

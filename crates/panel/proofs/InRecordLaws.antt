@@ -10,7 +10,7 @@ use mir.Val.{toZ, ofZ}
 use Rattle.words.specs.Tests.{pick}
 use Rattle.words.specs.Signed.{twosComplement}
 use Rattle.words.specs.All.{all}
-use Rattle.words.proofs.Cases.{given}
+use Rattle.words.proofs.Cases.{answered}
 use Rattle.words.proofs.AllLaws.{all-at}
 use Rattle.words.proofs.PartLaws.{getD-part}
 use Rattle.fields.specs.Sizes.{fieldSize}
@@ -43,28 +43,28 @@ module _ (r : List ℕ) (b at : ℕ) (l : length r ≡ recordWords) (lo : 10 ≤
   slot-word-first = rw (add-zero (headWords + at)) at (slot-word 0 (size-some b lo (omega arith)))
 
   module _ (h : Bool) (eh : h ≡ isHeld b r) (n : not h ≡ false) (q : Bool) (e : q ≡ isFrequency b) (first : ℕ) (f : first ≡ getD r (headWords + at) 0) where
-    shows-here : (s : Reading) → given s ≡ given (shownOf b (slotOf b r)) → given s ≡ given (recordShows b r)
+    shows-here : (s : Reading) → answered s ≡ answered (shownOf b (slotOf b r)) → answered s ≡ answered (recordShows b r)
     unfolding recordShows
     shows-here s p = rw (← eh, not-false h n) p
 
     pub here-frequency : (low : ℕ) (z hertz : ℤ) → q ≡ true → low ≡ getD r (headWords + at + 1) 0 → first < 2 ^ 32 → low < 2 ^ 32 → z ≡ unitsOf first low
         → mag z < 2 ^ 63 → hertz ≡ floorDiv (toZ w64 (ofZ w64 z)) 1048576 → mag hertz < 2 ^ 63
-        → given (frequency (toZ w64 (ofZ w64 hertz)) (low % 1048576)) ≡ given (recordShows b r)
+        → answered (frequency (toZ w64 (ofZ w64 hertz)) (low % 1048576)) ≡ answered (recordShows b r)
     here-frequency low z hertz t g hf hl ez hz eh′ hh =
         let two = frequency-words b hi (sym e ∙ t) in
         shows-here _ (shown-frequency b (slotOf b r) q e first low z hertz t (f ∙ slot-word-first) (g ∙ slot-word 1 (omega (arith, two))) hf hl ez hz eh′ hh)
 
     module _ (m : q ≡ false) where
-      pub here-level : (x : Float) → b ≡ 24 → x ≡ over 7 (twosComplement 16 (first % 65536)) → given (level x) ≡ given (recordShows b r)
+      pub here-level : (x : Float) → b ≡ 24 → x ≡ over 7 (twosComplement 16 (first % 65536)) → answered (level x) ≡ answered (recordShows b r)
       here-level x i d = shows-here _ (shown-level b (slotOf b r) q e m first x (f ∙ slot-word-first) i d)
 
       pub here-gain : (x y : Float) → (b ≡ 24 → ⊥) → b ≡ 23 → x ≡ over 7 (twosComplement 16 (first % 65536))
-          → y ≡ over 7 (twosComplement 16 (first / 65536 % 65536)) → given (gain x y) ≡ given (recordShows b r)
+          → y ≡ over 7 (twosComplement 16 (first / 65536 % 65536)) → answered (gain x y) ≡ answered (recordShows b r)
       here-gain x y i j d u = shows-here _ (shown-gain b (slotOf b r) q e m first x y (f ∙ slot-word-first) i j d u)
 
       pub here-temperature : (x : Float) → (b ≡ 24 → ⊥) → (b ≡ 23 → ⊥) → b ≡ 18 → x ≡ over 6 (twosComplement 16 (first % 65536))
-          → given (temperature x) ≡ given (recordShows b r)
+          → answered (temperature x) ≡ answered (recordShows b r)
       here-temperature x i j k d = shows-here _ (shown-temperature b (slotOf b r) q e m first x (f ∙ slot-word-first) i j k d)
 
-      pub here-other : (b ≡ 24 → ⊥) → (b ≡ 23 → ⊥) → (b ≡ 18 → ⊥) → given other ≡ given (recordShows b r)
+      pub here-other : (b ≡ 24 → ⊥) → (b ≡ 23 → ⊥) → (b ≡ 18 → ⊥) → answered other ≡ answered (recordShows b r)
       here-other i j k = shows-here _ (shown-other b (slotOf b r) q e m i j k)

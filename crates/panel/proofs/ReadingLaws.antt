@@ -7,7 +7,7 @@ use Rattle.words.specs.Numbers.{ROOM}
 use Rattle.words.specs.Tests.{when}
 use Rattle.words.specs.Part.{part, put}
 use Rattle.words.specs.Outcome.{refused, accepted, after, checked, measured, Meets}
-use Rattle.words.proofs.Cases.{given}
+use Rattle.words.proofs.Cases.{answered}
 use Rattle.words.proofs.RefusalLaws.{first-passed, either-passed, after-first}
 use Rattle.words.proofs.MeetLaws.{meets-refused, meets-length}
 use Rattle.words.proofs.PartLaws.{seen}
@@ -93,7 +93,7 @@ module _ (t : List ℕ) (s b : ℕ) where
     words-copied out last r f h = rw (words-asked, fine f) h
 
 -- ---- a field in a record: h is whether it is held, at where its slot begins, and z its words
-pub shows-absent : (r : List ℕ) (b : ℕ) (h : Bool) → h ≡ isHeld b r → not h ≡ true → given absent ≡ given (recordShows b r)
+pub shows-absent : (r : List ℕ) (b : ℕ) (h : Bool) → h ≡ isHeld b r → not h ≡ true → answered absent ≡ answered (recordShows b r)
 unfolding recordShows
 shows-absent r b h e i = rw (← e, not-true h i)
 

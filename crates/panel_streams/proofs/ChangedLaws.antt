@@ -14,7 +14,7 @@ use Rattle.words.specs.Word.{has, marked}
 use Rattle.words.specs.Part.{part}
 use Rattle.words.specs.All.{all}
 use Rattle.words.specs.Outcome.{refused, accepted, checked}
-use Rattle.words.proofs.Cases.{given, same-test, true-or-false, both-left, both-right, both-no, true-is-false, same-words, words-same}
+use Rattle.words.proofs.Cases.{answered, same-test, true-or-false, both-left, both-right, both-no, true-is-false, same-words, words-same}
 use Rattle.words.proofs.RefusalLaws.{first-passed, first-refused, first-fine, either-passed}
 use Rattle.words.proofs.BitLaws.{marked-small, marked-has, marked-none}
 use Rattle.words.proofs.AllLaws.{all-at, all-intro, all-more, all-fails}
@@ -176,10 +176,10 @@ module _ (r q : List ℕ) (b z n m : ℕ) (h g : Bool) (l : length r ≡ recordW
 -- ---- records that are lent from their places on
 pub changed-lent : (t u : List ℕ) (s v at to word : ℕ) → at ≡ base s → to ≡ base v
     → word ≡ changedIn (take (at + recordWords - at) (drop at t)) (take (to + recordWords - to) (drop to u))
-    → given word ≡ given (changedIn (recordAt s t) (recordAt v u))
+    → answered word ≡ answered (changedIn (recordAt s t) (recordAt v u))
 unfolding recordAt
 changed-lent t u s v at to word e f h =
-    ap given
+    ap answered
     (h ∙ ap₂ changedIn (seen at (at + recordWords) recordWords t refl ∙ ap (λ (a : ℕ). part a recordWords t) e)
     (seen to (to + recordWords) recordWords u refl ∙ ap (λ (a : ℕ). part a recordWords u) f))
 

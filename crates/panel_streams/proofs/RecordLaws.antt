@@ -7,7 +7,7 @@ use Rattle.words.specs.Numbers.{VALUE, ROOM}
 use Rattle.words.specs.Tests.{among}
 use Rattle.words.specs.Part.{part, put}
 use Rattle.words.specs.Outcome.{refused, accepted, measured, Meets}
-use Rattle.words.proofs.Cases.{given}
+use Rattle.words.proofs.Cases.{answered}
 use Rattle.words.proofs.MeetLaws.{meets-refused, meets-length}
 use Rattle.words.proofs.PartLaws.{getD-part}
 use Rattle.record.specs.Layout.{recordWords, countedTypes, orderOf, countAt, countWords}
@@ -25,7 +25,7 @@ unfolding recordAt
 word-there t s i h = getD-part (base s) recordWords i t h
 
 pub declared-there : (t : List ℕ) (s at : ℕ) → at ≡ base s
-    → given (record { identifier = getD t at 0; choice = getD t (at + 14) 0; held = getD t (at + 1) 0 }) ≡ given (declaredIn (recordAt s t))
+    → answered (record { identifier = getD t at 0; choice = getD t (at + 14) 0; held = getD t (at + 1) 0 }) ≡ answered (declaredIn (recordAt s t))
 unfolding declaredIn
 declared-there t s at e =
     let i : getD (recordAt s t) 0 0 ≡ getD t at 0 = word-there t s 0 (omega arith) ∙ ap (λ (n : ℕ). getD t n 0) (omega (arith, e)) in
@@ -42,12 +42,12 @@ module _ (t : List ℕ) (s kind at o c : ℕ) (e : at ≡ base s) (f : o ≡ ord
       ∙ word-there t s (countAt (orderOf kind) + i) (omega (arith, order-small kind))
       ∙ ap (λ (n : ℕ). getD t n 0) (omega (arith, e, f, g))
 
-  pub count-none : getD t (at + c + 2) 0 ≡ 0 → given notStarted ≡ given (typeCountIn kind (recordAt s t))
+  pub count-none : getD t (at + c + 2) 0 ≡ 0 → answered notStarted ≡ answered (typeCountIn kind (recordAt s t))
   unfolding typeCountIn countIn
   count-none z = rw (count-word 2 (omega arith), eq-eqb _ 0 z)
 
   pub count-some : (getD t (at + c + 2) 0 ≡ 0 → ⊥)
-      → given (started (getD t (at + c) 0) (getD t (at + c + 1) 0) (getD t (at + c + 2) 0 - 1)) ≡ given (typeCountIn kind (recordAt s t))
+      → answered (started (getD t (at + c) 0) (getD t (at + c + 1) 0) (getD t (at + c + 2) 0 - 1)) ≡ answered (typeCountIn kind (recordAt s t))
   unfolding typeCountIn countIn
   count-some z =
       let first : getD (countWords (orderOf kind) (recordAt s t)) 0 0 ≡ getD t (at + c) 0 =

@@ -10,7 +10,7 @@ use Rattle.words.specs.Refusals.{firstGiven}
 use Rattle.words.specs.Numbers.{FORMAT, COUNT, VALUE}
 use Rattle.words.proofs.RefusalLaws.{after-first, either-passed}
 use Rattle.fields.specs.Format.{realComplex}
-use Rattle.payload_format.specs.Format.{vectorSize, repeatSize, componentCount, formatBad}
+use Rattle.payload_format.specs.Format.{vectorSize, componentCount, formatBad}
 use Rattle.payload_format.specs.Count.{groupOf, countBad, neededList}
 use Rattle.payload_format.specs.inner.Checked.{itemsCheck}
 use Rattle.payload_format.proofs.FormatLaws.{items-few}

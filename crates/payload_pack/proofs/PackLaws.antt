@@ -1,5 +1,5 @@
 -- What is known where nothing of packing is refused, and the answers of `pack` by whether its checks pass.
-use Rattle.words.proofs.Kit.{_≡_, refl, sym, ap, _∙_, true, false, not, List, [], _∷_, ⊎-elim, ℕ, _+_, _-_, _*_, _^_, _≤_, _<_, arith, length, getD, ltb}
+use Rattle.words.proofs.Kit.{_≡_, refl, sym, ap, true, false, not, List, [], _∷_, ⊎-elim, ℕ, _+_, _-_, _*_, _^_, _≤_, _<_, arith, length, getD, ltb}
 use Rattle.words.proofs.Kit.{eqb, ltb-false, eqb-true, not-false}
 use lib.ListN.{List·getD-eq-default}
 use lib.Arith.{lt-one}

@@ -1,5 +1,5 @@
 -- What is known where nothing of unpacking is refused, what fields without tags hold, and the answers of `unpack`.
-use Rattle.words.proofs.Kit.{_≡_, refl, sym, ap, _∙_, false, not, List, [], _∷_, ℕ, _+_, _*_, _/_, _%_, _^_, _≤_, _<_, arith, length, getD, ltb, eqb}
+use Rattle.words.proofs.Kit.{_≡_, refl, sym, ap, _∙_, false, not, List, ℕ, _+_, _*_, _/_, _%_, _^_, _≤_, _<_, arith, length, getD, ltb, eqb}
 use Rattle.words.proofs.Kit.{ltb-false, eqb-true, not-false}
 use native.Mathlib.Nat.{mod-one, div-one}
 use Rattle.words.specs.declared.Check.{Check}

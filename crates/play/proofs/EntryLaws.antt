@@ -11,7 +11,7 @@ use Rattle.words.specs.Numbers.{STREAM, TABLE}
 use Rattle.words.specs.Tests.{when}
 use Rattle.words.specs.Outcome.{Outcome, refused, accepted, onward, numberOf, checked, Done, saidOf, leftOf, Meets}
 use Rattle.words.specs.Refusals.{firstGiven}
-use Rattle.words.specs.Told.{Told, told, refusal, wordOf, bitOf}
+use Rattle.words.specs.Told.{Told, told, refusal, placeWord, placeBit}
 use Rattle.words.proofs.Cases.{true-or-false, same-or-not}
 use Rattle.words.proofs.RefusalLaws.{Numbered, number-among, first-refused, row-given}
 use Rattle.words.proofs.ToldLaws.{told-said}
@@ -34,7 +34,7 @@ use Rattle.play.specs.declared.streams.Sought.the-variants.{Unknown}
 use Rattle.play.specs.Play.{tableList, heardOf, tableAfter, chosen, stepOf, playOf, playTold, playedPaper}
 use Rattle.play.specs.inner.Steps.{soughtOf, madeOf, soughtPaper}
 use Rattle.play.specs.Run.{goesOn, saidAt, leftAt, nextOf, Stepped, entryOf, entryAt, wordsOfEntry}
-use Rattle.play.specs.inner.Entered.{Headed, soughtIn, HeardAs, Entered, notedOf, Noted, saidBy, unreadNote, unreadEntry, unsoughtEntry}
+use Rattle.play.specs.inner.Entered.{Headed, soughtIn, HeardAs, Entered, notedOf, Noted, saidBy, unreadNote, unreadEntry, undeclaredEntry}
 use Rattle.play.proofs.StreamLaws.{sought-number}
 use Rattle.play.proofs.PlayLaws.{made-well, step-read, play-step, step-unheard}
 
@@ -90,8 +90,8 @@ module _ (size : ℕ) (x : Entry) where
   unfolding entryOf
   entry-said (refused r) h e =
       let i : x .number ≡ r .number = cc in
-      let a : x .what ≡ wordOf (r .place) = cc in
-      let b : x .which ≡ bitOf (r .place) = cc in
+      let a : x .what ≡ placeWord (r .place) = cc in
+      let b : x .which ≡ placeBit (r .place) = cc in
       rw (i, a, b, ne-eqb (r .number) 0 (λ z. omega arith)) (ap (λ (p : Where). refused (refusal (r .number) p)) (sym (h .2)))
   entry-said (accepted a) h e =
       let i : x .number ≡ 0 = cc in
@@ -120,7 +120,7 @@ module _ (t ws : List ℕ) (w : wellMade t ≡ true) where
   }
 
   entered-refused : (n size : ℕ) → stepOf t ws ≡ refused n → size ≡ when (eqb n STREAM) (sizeOf (getD ws 0 0))
-      → Entered t ws 0 (record { number = n; size = size; what = wordOf (whereOf ws n); which = bitOf (whereOf ws n); missing = 0 }) t
+      → Entered t ws 0 (record { number = n; size = size; what = placeWord (whereOf ws n); which = placeBit (whereOf ws n); missing = 0 }) t
   unfolding entryAt saidAt leftAt entryOf playTold
   entered-refused n size e i = record { entry = rw (play-step t ws w, e, i); table = rw (play-step t ws w, e) }
 
@@ -134,10 +134,10 @@ module _ (t ws : List ℕ) (w : wellMade t ≡ true) where
 
   -- of one that was read, with the header h: of no stream, and heard
   module _ (h : ℕ) (p : Headed h ws t) where
-    pub noted-unsought : (sought : Sought) (n m : ℕ) (r : Entry) → soughtPaper sought ≡ soughtIn h ws t → sought ≡ Unknown n
-        → m ≡ numberOf (soughtPaper sought) → r ≡ unsoughtEntry m h → Noted t ws r t
+    pub noted-undeclared : (sought : Sought) (n m : ℕ) (r : Entry) → soughtPaper sought ≡ soughtIn h ws t → sought ≡ Unknown n
+        → m ≡ numberOf (soughtPaper sought) → r ≡ undeclaredEntry m h → Noted t ws r t
     unfolding saidAt leftAt playTold
-    noted-unsought sought n m r e f u i =
+    noted-undeclared sought n m r e f u i =
         let k : m ≡ n = cc in
         let g : soughtIn h ws t ≡ refused n = cc in
         let j : n ≡ STREAM = sought-number (packetOf h ws .parts .kind) (packetOf h ws .parts .identifier) t n g in
@@ -165,8 +165,8 @@ note-entry : (x : Entry) (o : Told Heard) (size : ℕ) → Whole o size → word
 unfolding entryOf
 note-entry x (refused r) size h e g =
     let i : r .number ≡ STREAM = eqb-true (r .number) STREAM g in
-    let place : r .place ≡ Word (wordOf (r .place)) = rw i at (h .2) in
-    let none : bitOf (r .place) ≡ 0 = ap bitOf place in
+    let place : r .place ≡ Word (placeWord (r .place)) = rw i at (h .2) in
+    let none : placeBit (r .place) ≡ 0 = ap placeBit place in
     e ∙ rw (g, none)
 note-entry x (accepted a) size h e g = e
 

@@ -128,15 +128,15 @@ module _ (t ws : List ℕ) where
   abbrev pub Unheard : ℕ → Type 0
   Unheard n = (readBy (chosen t ws) ws ≡ refused n) ⊎ ((n ≡ STREAM) × ((p : Packet) × (readBy (chosen t ws) ws ≡ accepted p)))
 
-  unsought : (p : Packet) → readBy (chosen t ws) ws ≡ accepted p → (o : Outcome ℕ) (n : ℕ) → soughtOf (p .parts .kind) (p .parts .identifier) t ≡ o
+  undeclared : (p : Packet) → readBy (chosen t ws) ws ≡ accepted p → (o : Outcome ℕ) (n : ℕ) → soughtOf (p .parts .kind) (p .parts .identifier) t ≡ o
       → onward o (λ s. accepted (heardDone p s t ws)) ≡ refused n → Unheard n
-  unsought p e (refused m) n f g = inr (cc (sought-number (p .parts .kind) (p .parts .identifier) t m f), (p, e))
-  unsought p e (accepted s) n f g = let z : _≡_ {A = ℕ} 0 1 = cc in absurd (omega arith)
+  undeclared p e (refused m) n f g = inr (cc (sought-number (p .parts .kind) (p .parts .identifier) t m f), (p, e))
+  undeclared p e (accepted s) n f g = let z : _≡_ {A = ℕ} 0 1 = cc in absurd (omega arith)
 
   unstepped : (o : Outcome Packet) (n : ℕ) → readBy (chosen t ws) ws ≡ o
       → onward o (λ p. onward (soughtOf (p .parts .kind) (p .parts .identifier) t) (λ s. accepted (heardDone p s t ws))) ≡ refused n → Unheard n
   unstepped (refused m) n e f = let i : m ≡ n = cc in inl (rw (← i) e)
-  unstepped (accepted p) n e f = unsought p e (soughtOf (p .parts .kind) (p .parts .identifier) t) n refl f
+  unstepped (accepted p) n e f = undeclared p e (soughtOf (p .parts .kind) (p .parts .identifier) t) n refl f
 
   pub step-unheard : (n : ℕ) → wellMade t ≡ true → playOf t ws ≡ refused n → Unheard n
   step-unheard n w e = unstepped (readBy (chosen t ws) ws) n refl (sym (play-step w ∙ step-read t ws) ∙ e)

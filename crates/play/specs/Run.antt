@@ -5,7 +5,7 @@ use Rattle.words.specs.Numbers.{STREAM}
 use Rattle.words.specs.Tests.{pick, when}
 use Rattle.words.specs.Outcome.{Outcome, refused, accepted, Done, saidOf, leftOf}
 use Rattle.words.specs.Refusals.{firstGiven}
-use Rattle.words.specs.Told.{Told, wordOf, bitOf}
+use Rattle.words.specs.Told.{Told, placeWord, placeBit}
 use Rattle.packet.specs.Header.{sizeOf}
 use Rattle.play.specs.declared.Heard.{Heard}
 use Rattle.play.specs.declared.step.Happened.{Happened}
@@ -47,7 +47,7 @@ entryWords = 5
 
 -- the refusal's number or 0; the words that the walk goes on by; type, stream and missing, or of a refusal the word and the bit that are told, and 0
 unfoldable pub entryOf : Told Heard → ℕ → List ℕ
-entryOf (refused r) size = r .number ∷ when (eqb (r .number) STREAM) size ∷ wordOf (r .place) ∷ bitOf (r .place) ∷ 0 ∷ []
+entryOf (refused r) size = r .number ∷ when (eqb (r .number) STREAM) size ∷ placeWord (r .place) ∷ placeBit (r .place) ∷ 0 ∷ []
 entryOf (accepted h) size = 0 ∷ size ∷ h .kind ∷ h .stream ∷ h .missing ∷ []
 
 unfoldable pub entryAt : List ℕ → List ℕ → ℕ → List ℕ

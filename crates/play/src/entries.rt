@@ -9,7 +9,7 @@ ghost use Rattle.packet.specs.Header.{typeOf, sizeOf};
 ghost use Rattle.packet.specs.inner.Steps.{Placeable};
 ghost use Rattle.table.specs.Well.{wellMade};
 ghost use Rattle.play.specs.Play.{playedPaper};
-ghost use Rattle.play.specs.inner.Entered.{Sized, soughtIn, chosenAt, Noted, saidBy, unreadNote, unreadEntry, unsoughtEntry};
+ghost use Rattle.play.specs.inner.Entered.{Sized, soughtIn, chosenAt, Noted, saidBy, unreadNote, unreadEntry, undeclaredEntry};
 use crate::run::Entry;
 
 // What is noted of words that reading refuses: the number. A walk does not go on behind it.
@@ -27,8 +27,8 @@ fn note_unread(number: u32) -> Entry
 
 // The entry of a packet with the header w that is of no stream: STREAM, told at the identifier, or at the header where there is none. It looks at no other word,
 // so that none is kept at hand while a stream is sought.
-fn entry_unsought(number: u32, w: u32) -> Entry
-    ensures { λ r. ⌜ r ≡ unsoughtEntry number w ⌝ }
+fn entry_undeclared(number: u32, w: u32) -> Entry
+    ensures { λ r. ⌜ r ≡ undeclaredEntry number w ⌝ }
 {
     Entry {
         number,
@@ -79,7 +79,7 @@ fn enter_data(table: &mut [u32], given: &[u32], w: u32) -> Entry
         let words::Check::Fine = prologue else {
             return note_unread(crate::streams::number_of_check(prologue));
         };
-        return entry_unsought(crate::streams::number_of_sought(sought), w);
+        return entry_undeclared(crate::streams::number_of_sought(sought), w);
     };
     if crate::streams::is_survey(table, s) {
         return enter_survey(table, given, w, s);
@@ -107,7 +107,7 @@ fn enter_context(table: &mut [u32], given: &[u32], w: u32) -> Entry
     };
     let sought = crate::streams::seek(table, given, w);
     let crate::streams::Sought::At(s) = sought else {
-        return entry_unsought(crate::streams::number_of_sought(sought), w);
+        return entry_undeclared(crate::streams::number_of_sought(sought), w);
     };
     let missing = crate::streams::hear_context(table, s, given, w);
     entry_heard(w, s, missing)
@@ -122,8 +122,8 @@ pub fn entry_unread(number: u32, given: &[u32]) -> Entry
     Entry {
         number,
         size: 0,
-        what: words::inner::word_of(place) as u32,
-        which: words::inner::bit_of(place),
+        what: words::inner::place_word(place) as u32,
+        which: words::inner::place_bit(place),
         missing: 0,
     }
 }

@@ -5,7 +5,7 @@ use Rattle.words.specs.Kit.{_≡_, ℕ, List, [], _∷_}
 use Rattle.words.specs.declared.Refusal.{Refusal}
 use Rattle.words.specs.Word.{join}
 use Rattle.words.specs.Outcome.{Outcome, refused, accepted, numberOf, Done}
-use Rattle.words.specs.Told.{Told, wordOf, bitOf}
+use Rattle.words.specs.Told.{Told, placeWord, placeBit}
 
 -- the lent places afterwards: those of an accepted answer hold its values, a refusal leaves them as they were
 abbrev pub placesOf : {A L : Type 0} → (A → L) → Outcome A → L → L
@@ -20,15 +20,15 @@ pub record Tells {A L : Type 0} (values : A → L) (want : Outcome A) (before : 
 -- ---- a refusal that is told where (document 02, C-15). It writes nothing, so the field's bit and the word come in the number that the call gives
 
 -- its number, the bit and the word, from the right, and their widths
-abbrev pub numbersOf : Refusal → List ℕ
-numbersOf r = r .number ∷ bitOf (r .place) ∷ wordOf (r .place) ∷ []
+abbrev pub refusalParts : Refusal → List ℕ
+refusalParts r = r .number ∷ placeBit (r .place) ∷ placeWord (r .place) ∷ []
 
-abbrev pub numberWidths : List ℕ
-numberWidths = 8 ∷ 8 ∷ 16 ∷ []
+abbrev pub refusalWidths : List ℕ
+refusalWidths = 8 ∷ 8 ∷ 16 ∷ []
 
 -- all three in one
 unfoldable pub numberFor : Refusal → ℕ
-numberFor r = join numberWidths (numbersOf r)
+numberFor r = join refusalWidths (refusalParts r)
 
 abbrev pub inNumber : {A : Type 0} → Told A → Outcome A
 inNumber (refused r) = refused (numberFor r)

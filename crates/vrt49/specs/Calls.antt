@@ -13,7 +13,7 @@ use Rattle.words.specs.Tests.{when}
 use Rattle.words.specs.Word.{bits}
 use Rattle.words.specs.Outcome.{Outcome, refused, accepted, numberOf}
 use Rattle.words.specs.Refusals.{RefusalsOf, Refusals, firstGiven, givenIn}
-use Rattle.words.specs.Told.{Told, refusal, toldList, wordOf, bitOf, behind}
+use Rattle.words.specs.Told.{Told, refusal, toldList, placeWord, placeBit, placeFurther}
 use Rattle.fields.specs.Layout.{fieldCount, foundOf, contextList, contextOf}
 use Rattle.fields.specs.Broken.{brokenOf}
 use Rattle.packet.specs.Header.{classed}
@@ -98,7 +98,7 @@ PartsForC (answers want) = Unit
 PartsForC (tells want values lent list numbers) = Unit
 PartsForC (tellsWhere {H} {A} {L} want values lent list given) =
     (h : H) (r : ℕ) (after : L) (says : Refusal) → Tells values (inNumber (want h)) (lent h) r after → want h ≡ refused says
-    → (bits 7 0 r ≡ says .number) × (bits 15 8 r ≡ bitOf (says .place)) × (bits 31 16 r ≡ wordOf (says .place))
+    → (bits 7 0 r ≡ says .number) × (bits 15 8 r ≡ placeBit (says .place)) × (bits 31 16 r ≡ placeWord (says .place))
 
 -- 0 is the number of an accepted answer alone, and then the lent places hold its values
 abbrev pub ZeroForC : CallForC → Type 0
@@ -118,7 +118,7 @@ abbrev pub readGiven : ℕ → List ℕ → List Refusal
 readGiven w ws =
     refusal EMPTY (Word 0) ∷ refusal TYPE (Word 0) ∷ refusal BITS (Word 0) ∷ refusal SHORT (Word 0) ∷ refusal CUT (Word 0)
     ∷ refusal CLASS (Word (classAt w)) ∷ refusal TIME (Word (fractionAt w)) ∷ refusal INDICATOR (Word (bodyAt w)) ∷ refusal LAYOUT (Word (bodyAt w))
-    ∷ refusal FIELD (behind (bodyAt w) (brokenOf (bodyOf w ws))) ∷ []
+    ∷ refusal FIELD (placeFurther (bodyAt w) (brokenOf (bodyOf w ws))) ∷ []
 
 -- of 49A, PAD is last
 abbrev pub surveyGiven : ℕ → List ℕ → List Refusal

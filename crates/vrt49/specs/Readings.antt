@@ -6,7 +6,6 @@ use lib.Ieee.{Float, fin}
 use Rattle.words.specs.Outcome.{Outcome, refused, accepted}
 use Rattle.panel.specs.Readings.{Reading, frequency, level, gain, temperature, other, absent}
 use Rattle.vrt49.specs.declared.readings.Values.{Values}
-use Rattle.vrt49.specs.declared.readings.Columns.{Columns}
 
 -- ---- a reading as numbers
 
@@ -41,13 +40,9 @@ readingValues r = places (numbersOf r)
 
 -- ---- all readings of a stream, in columns
 
--- the numbers of some readings, a column for each: kinds, parts, whole hertz, first and second levels
+-- the numbers of some readings, a column for each: kinds, parts, whole hertz, first and second levels; entry i of each is that of bit 30 - i
 unfoldable pub columns : List Values → List ℕ × List ℕ × List ℤ × List Float × List Float
 columns vs = (map (λ v. v .kind) vs, map (λ v. v .parts) vs, map (λ v. v .hertz) vs, map (λ v. v .first) vs, map (λ v. v .second) vs)
-
--- the places of columns
-abbrev pub columnPlaces : Columns → List ℕ × List ℕ × List ℤ × List Float × List Float
-columnPlaces c = (c .kinds, c .parts, c .hertz, c .first, c .second)
 
 abbrev pub readingsValues : List Reading → List ℕ × List ℕ × List ℤ × List Float × List Float
 readingsValues rs = columns (map numbersOf rs)

@@ -3,7 +3,7 @@ ghost use Rattle.words.specs.Kit.{_≡_};
 ghost use Rattle.words.specs.Tests.{when};
 ghost use Rattle.words.specs.Word.{Within};
 ghost use Rattle.words.specs.Outcome.{measured};
-ghost use Rattle.vrt49.specs.Answers.{Tells, numbersOf, numberWidths, numberFor, plain};
+ghost use Rattle.vrt49.specs.Answers.{Tells, refusalParts, refusalWidths, numberFor, plain};
 
 // A flag as a word.
 pub fn flag(set: bool) -> u32
@@ -14,12 +14,12 @@ pub fn flag(set: bool) -> u32
 
 // The number that is given of a refusal that is told where: its own in bits 7-0, the field's bit in 15-8, the word in 31-16.
 pub fn number_for(r: words::Refusal) -> u32
-    requires { ⌜ Within numberWidths (numbersOf r) ⌝ }
+    requires { ⌜ Within refusalWidths (refusalParts r) ⌝ }
     ensures { λ k. ⌜ k ≡ numberFor r ⌝ }
 {
     let place = r.place;
-    let word = words::inner::word_of(place) as u32;
-    r.number + 0x100 * (words::inner::bit_of(place) + 0x100 * word)
+    let word = words::inner::place_word(place) as u32;
+    r.number + 0x100 * (words::inner::place_bit(place) + 0x100 * word)
 }
 
 // Tells a length, and gives 0; or gives the number of the refusal.

@@ -53,16 +53,6 @@ fn numbers_of(dial: panel::FieldReading) -> Values
     }
 }
 
-// The numbers of all readings of a stream, a column for each: entry i is that of bit 30 - i. It names the columns and their order, which `columnPlaces` gives
-// and `tools/check_header` holds the header to; the code stores them in the caller's arrays.
-pub struct Columns {
-    pub kinds: [u32; 21],
-    pub parts: [u32; 21],
-    pub hertz: [i64; 21],
-    pub first: [f32; 21],
-    pub second: [f32; 21],
-}
-
 // Seven rows of the columns, those from entry 7 * part on, where the rows before them are there and the others are those of absent fields. Each field is read
 // and its numbers are stored where the caller wants them, since arrays would be copied on their way. The place among the slots runs along; gives that of the
 // next part.

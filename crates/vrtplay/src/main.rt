@@ -27,7 +27,7 @@ fn show_refused(at: usize, r: Refusal) {
         .text(b"at ")
         .number(at as u64)
         .named(b"refused", r.number as u64)
-        .named(b"place", words::inner::word_of(place) as u64)
+        .named(b"place", words::inner::place_word(place) as u64)
         .text(b"\n")
         .write();
 }

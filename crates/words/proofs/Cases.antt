@@ -106,9 +106,9 @@ when-most false n = zero-le
 
 -- ---- answers
 
--- an accepted answer of a call that is refused with a number
-abbrev pub given : {A : Type 0} → A → Outcome A
-given a = accepted a
+-- an accepted answer where a refusal is a number: `accepted` alone leaves open what a refusal says
+abbrev pub answered : {A : Type 0} → A → Outcome A
+answered a = accepted a
 
 module _ {R A : Type 0} where
   -- the answer before an accepted rest was accepted

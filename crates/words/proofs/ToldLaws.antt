@@ -8,7 +8,7 @@ use Rattle.words.specs.Refusals.{Refusals, firstGiven}
 use Rattle.words.specs.Told.{refusal, told, toldList}
 
 module _ (place : ℕ → Where) {A : Type 0} where
-  -- what was accepted stays accepted, and nothing else becomes so
+  -- what is accepted with places was accepted without them
   pub told-accepted : (o : Outcome A) (a : A) → told place o ≡ accepted a → o ≡ accepted a
   told-accepted (refused n) a e = let z : _≡_ {A = ℕ} 0 1 = cc in absurd (omega arith)
   told-accepted (accepted b) a e = cc

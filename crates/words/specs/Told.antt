@@ -27,19 +27,19 @@ module _ (place : ℕ → Where) where
 -- ---- a place as numbers
 
 -- the word, and 0 where none is told
-abbrev pub wordOf : Where → ℕ
-wordOf Nowhere = 0
-wordOf (Word at) = at
-wordOf (Field at bit) = at
+abbrev pub placeWord : Where → ℕ
+placeWord Nowhere = 0
+placeWord (Word at) = at
+placeWord (Field at bit) = at
 
 -- the field's bit, and 0 where none is told
-abbrev pub bitOf : Where → ℕ
-bitOf Nowhere = 0
-bitOf (Word at) = 0
-bitOf (Field at bit) = bit
+abbrev pub placeBit : Where → ℕ
+placeBit Nowhere = 0
+placeBit (Word at) = 0
+placeBit (Field at bit) = bit
 
 -- a place so many words further on
-abbrev pub behind : ℕ → Where → Where
-behind n Nowhere = Nowhere
-behind n (Word at) = Word (n + at)
-behind n (Field at bit) = Field (n + at) bit
+abbrev pub placeFurther : ℕ → Where → Where
+placeFurther n Nowhere = Nowhere
+placeFurther n (Word at) = Word (n + at)
+placeFurther n (Field at bit) = Field (n + at) bit

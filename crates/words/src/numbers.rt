@@ -15,7 +15,7 @@ pub const SHORT: u32 = 4;
 // Size exceeds the words given.
 pub const CUT: u32 = 5;
 
-// Top eight class bits not zero.
+// Top eight class bits not zero; not given where 49A governs the packet.
 pub const CLASS: u32 = 6;
 
 // TSF is 2 and the fraction is 10^12 or more.
@@ -33,13 +33,14 @@ pub const FIELD: u32 = 10;
 // No identifier (types 0, 2), one not declared, or a stream number not in the table.
 pub const STREAM: u32 = 11;
 
-// 0 or over 32 identifiers, or one twice.
+// 0 or over 32 identifiers, or one twice; or choices that are not one for each, or not 0 or 1.
 pub const LIST: u32 = 12;
 
-// A buffer to be written is too short.
+// A buffer to be written is too short; or the contents of an index are full.
 pub const ROOM: u32 = 13;
 
-// A number to be written, or an item to be shown signed, does not fit its bits or type, or a field bit is not 30 to 10.
+// A number to be written, or an item to be shown signed, does not fit its bits or type; a field bit is not 30 to 10; a type is not counted; or no item has
+// such a number or such coordinates.
 pub const VALUE: u32 = 14;
 
 // A packet to be written, or a page, exceeds 65,535 words.
@@ -48,16 +49,16 @@ pub const SIZE: u32 = 15;
 // Rule of field 15 broken, a processing-efficient field of 33 to 63 bits, or an item width outside 1 to 64.
 pub const FORMAT: u32 = 16;
 
-// Wrong number of items or words.
+// Wrong number of items, which come in whole groups, or of words.
 pub const COUNT: u32 = 17;
 
 // Table not well made.
 pub const TABLE: u32 = 18;
 
-// Page not well made.
+// Page not well made; of an index its contents, or an entry from which a jump cannot go on.
 pub const PAGE: u32 = 19;
 
-// 49A: class or trailer absent, a class that does not fit its table, or a payload that is not padding and whole sample vectors.
+// 49A: class or trailer absent, a class that is not the Standard Data Packet's, or a payload that is not padding and whole sample vectors.
 pub const PAD: u32 = 20;
 
 // Jumping: a packet number above the packets that the index has taken in.

@@ -125,8 +125,8 @@ fn low_kept(bits: u32, body: &[u32], from: usize) -> bool
     true
 }
 
-// Whether the fields of some bits of an indicator, which stand in a body from word 1 on, obey their rules. Those above bit 17 are walked in two parts: a loop of
-// at most ten turns between known bits is unrolled by the compiler, which then knows each size and each limit (docs/SPEED.md).
+// Whether the fields of some bits of an indicator, which stand in a body from word 1 on, obey their rules. Those above bit 17 are walked in two parts: a loop
+// of at most ten turns between known bits is unrolled by the compiler, which then knows each size and each limit (docs/SPEED.md).
 pub fn rules_kept(bits: u32, body: &[u32]) -> bool
     ensures { λ r. ⌜ r ≡ obeyed (bitsOf 31 bits) (drop 1 (now (body .entry))) ⌝ }
 {

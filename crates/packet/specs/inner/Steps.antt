@@ -3,7 +3,7 @@ use Rattle.words.specs.Kit.{_≡_, ℕ, _^_, _≤_, _<_, Bool, true, List, [], 
 use Rattle.words.specs.Numbers.{FIELD, PAD}
 use Rattle.words.specs.Outcome.{Outcome, accepted}
 use Rattle.words.specs.Refusals.{Refusals, firstGiven, onlyWhere}
-use Rattle.words.specs.Told.{wordOf}
+use Rattle.words.specs.Told.{placeWord}
 use Rattle.packet_survey.specs.Payload.{padBad}
 use Rattle.packet.specs.Header.{typeOf, classed, trailed, sizeOf}
 use Rattle.packet.specs.Parts.{requiredOf, bodyLength, bodyOf}
@@ -17,7 +17,7 @@ FieldFits n ws = n ≡ FIELD → let w = getD ws 0 0 in (requiredOf w ≤ sizeOf
 -- and the place of any number fits a word
 pub record Placeable (n : ℕ) (ws : List ℕ) : Type 0 where
   pub field : FieldFits n ws
-  pub small : wordOf (whereOf ws n) < 2 ^ 32
+  pub small : placeWord (whereOf ws n) < 2 ^ 32
 
 -- of a header, a size, a prologue and a body
 unfoldable pub headerChecks : ℕ → Outcome Unit

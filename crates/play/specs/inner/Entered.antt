@@ -4,7 +4,7 @@ use Rattle.words.specs.declared.Where.the-variants.{Word, Field}
 use Rattle.words.specs.Numbers.{FIELD, STREAM}
 use Rattle.words.specs.Tests.{pick, when}
 use Rattle.words.specs.Outcome.{Outcome, refused, accepted}
-use Rattle.words.specs.Told.{Told, refusal, wordOf, bitOf}
+use Rattle.words.specs.Told.{Told, refusal, placeWord, placeBit}
 use Rattle.packet.specs.Header.{sizeOf}
 use Rattle.packet.specs.Parts.{streamed, packetOf}
 use Rattle.packet.specs.Read.{readBy}
@@ -62,7 +62,7 @@ saidBy e =
 abbrev pub notedOf : Told Heard → ℕ → List ℕ
 notedOf (refused r) size =
     let goes = eqb (r .number) STREAM in
-    r .number ∷ when goes size ∷ when goes (wordOf (r .place)) ∷ 0 ∷ 0 ∷ []
+    r .number ∷ when goes size ∷ when goes (placeWord (r .place)) ∷ 0 ∷ 0 ∷ []
 notedOf (accepted h) size = 0 ∷ size ∷ h .kind ∷ h .stream ∷ h .missing ∷ []
 
 pub record Noted (t ws : List ℕ) (r : Entry) (left : List ℕ) : Type 0 where
@@ -77,11 +77,11 @@ abbrev pub unreadEntry : ℕ → List ℕ → Entry
 unreadEntry number ws = record {
   number = number;
   size = 0;
-  what = wordOf (whereOf ws number);
-  which = bitOf (whereOf ws number);
+  what = placeWord (whereOf ws number);
+  which = placeBit (whereOf ws number);
   missing = 0;
 }
 
 -- the entry of a packet with the header w that is of no stream
-abbrev pub unsoughtEntry : ℕ → ℕ → Entry
-unsoughtEntry number w = record { number = number; size = sizeOf w; what = when (streamed w) 1; which = 0; missing = 0 }
+abbrev pub undeclaredEntry : ℕ → ℕ → Entry
+undeclaredEntry number w = record { number = number; size = sizeOf w; what = when (streamed w) 1; which = 0; missing = 0 }

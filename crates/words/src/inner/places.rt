@@ -1,10 +1,10 @@
 // Where a packet is refused, as numbers.
 ghost use Rattle.words.specs.Kit.{_≡_};
-ghost use Rattle.words.specs.Told.{wordOf, bitOf};
+ghost use Rattle.words.specs.Told.{placeWord, placeBit};
 
 // The word, and 0 where none is told.
-pub fn word_of(place: crate::Where) -> usize
-    ensures { λ r. ⌜ r ≡ wordOf place ⌝ }
+pub fn place_word(place: crate::Where) -> usize
+    ensures { λ r. ⌜ r ≡ placeWord place ⌝ }
 {
     match place {
         crate::Where::Nowhere => 0,
@@ -14,8 +14,8 @@ pub fn word_of(place: crate::Where) -> usize
 }
 
 // The field's bit, and 0 where none is told.
-pub fn bit_of(place: crate::Where) -> u32
-    ensures { λ r. ⌜ r ≡ bitOf place ⌝ }
+pub fn place_bit(place: crate::Where) -> u32
+    ensures { λ r. ⌜ r ≡ placeBit place ⌝ }
 {
     match place {
         crate::Where::Nowhere => 0,

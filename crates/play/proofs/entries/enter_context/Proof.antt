@@ -2,7 +2,7 @@
 -- are held.
 use Rattle.play.proofs.StreamLaws.{sized-parts, sized-whole, found, found-below, found-few}
 use Rattle.play.proofs.CheckedLaws.{unread-prologue, unread-body, headed-context}
-use Rattle.play.proofs.EntryLaws.{noted-unread, noted-unsought, noted-heard}
+use Rattle.play.proofs.EntryLaws.{noted-unread, noted-undeclared, noted-heard}
 use borrow.Author.Needs.{needs}
 use Rattle.play.proofs.entries.enter_context.Statement.{statement}
 use Rattle.play.proofs.entries.enter_context.Tie as tie
@@ -15,6 +15,6 @@ enter-context-spec =
     (λ c κs. search needs) (λ c. search (noted-unread, unread-prologue)) (λ c κs. search (sized-parts, sized-whole))
     (λ c. search needs) (λ c. search needs) (λ c κs. search needs) (λ c κs. search needs)
     (λ c. search (noted-unread, unread-body)) (λ c κs. search needs) (λ c. search needs) (λ c. search needs) (λ c κs. search needs)
-    (λ c κs. search needs) (λ c. search needs) (λ c. search (noted-unsought, headed-context))
+    (λ c κs. search needs) (λ c. search needs) (λ c. search (noted-undeclared, headed-context))
     (λ c κs. search (found-below, headed-context)) (λ c κs. search found-few) (λ c. search needs)
     (λ c. search (noted-heard, found, headed-context)))

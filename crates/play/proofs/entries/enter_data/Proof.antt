@@ -5,7 +5,7 @@ use Rattle.play.specs.inner.Entered.{Headed}
 use Rattle.play.proofs.StreamLaws.{sized-parts, sized-whole, found, found-below, found-few, found-data}
 use Rattle.play.proofs.CheckedLaws.{unread-plain, headed-plain, unread-data, headed-data}
 use Rattle.play.proofs.PlayLaws.{heard-data}
-use Rattle.play.proofs.EntryLaws.{noted-unread, noted-unsought, noted-heard}
+use Rattle.play.proofs.EntryLaws.{noted-unread, noted-undeclared, noted-heard}
 use borrow.Author.Needs.{needs}
 use Rattle.play.proofs.entries.enter_data.Statement.{statement}
 use Rattle.play.proofs.entries.enter_data.Tie as tie
@@ -17,7 +17,7 @@ enter-data-spec =
     (λ c κs. search needs) (λ c. search needs) (λ c. search needs) (λ c κs. search (sized-parts, sized-whole)) (λ c. search needs) (λ c. search needs)
     (λ c κs. search needs) (λ c κs. search needs) (λ c. search needs) (λ c. search (noted-unread, unread-plain))
     (λ c κs. search needs) (λ c κs. search needs) (λ c. search needs)
-    (λ c. search (noted-unsought, headed-plain)) (λ c κs. search found-below)
+    (λ c. search (noted-undeclared, headed-plain)) (λ c κs. search found-below)
     (λ c κs. (search, (search found, sym (c .before .before .is-survey .ensures) ∙ c .before .if1 .taken))) (λ c. search needs) (λ c. search needs)
     (λ c κs. search (sized-parts, sized-whole)) (λ c. search needs) (λ c. search needs) (λ c κs. search needs)
     (λ c κs. search needs) (λ c. search needs) (λ c. search (noted-unread, unread-data)) (λ c κs. search (found-below, found-data))

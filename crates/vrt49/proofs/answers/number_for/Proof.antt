@@ -2,12 +2,12 @@
 use Rattle.words.proofs.Kit.{_≡_, ℕ, _+_, _*_, arith, needs}
 use Rattle.words.specs.declared.Refusal.{Refusal}
 use Rattle.words.specs.Word.{join}
-use Rattle.words.specs.Told.{wordOf, bitOf}
+use Rattle.words.specs.Told.{placeWord, placeBit}
 use Rattle.vrt49.specs.Answers.{numberFor}
 use Rattle.vrt49.proofs.answers.number_for.Statement.{statement}
 use Rattle.vrt49.proofs.answers.number_for.Tie as tie
 
-joined : (r : Refusal) (bit word : ℕ) → bit ≡ bitOf (r .place) → word ≡ wordOf (r .place) → r .number + 256 * (bit + 256 * word) ≡ numberFor r
+joined : (r : Refusal) (bit word : ℕ) → bit ≡ placeBit (r .place) → word ≡ placeWord (r .place) → r .number + 256 * (bit + 256 * word) ≡ numberFor r
 unfolding numberFor join
 joined r bit word e f = rw (e, f) (omega arith)
 
