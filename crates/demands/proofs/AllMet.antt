@@ -23,7 +23,7 @@ use Rattle.demands.proofs.ItemsNumbered.{numbered, as-figures}
 use Rattle.demands.proofs.ShownAs.{shown-as}
 use Rattle.demands.proofs.RightLaws.{start-accepts, right-start, right-on, answers-on, past-on}
 use Rattle.demands.proofs.Resumed.{saves, resumes, no-room, days}
-use Rattle.demands.proofs.Jumped.{starts-index, grows, jumps, jumps-right, place-exact}
+use Rattle.demands.proofs.Jumped.{starts-index, starts-where, grows, grows-where, grows-full, as-run, hands, jumps, jumps-right, place-exact, page-exact}
 use Rattle.demands.proofs.Lights.{lights-out}
 use Rattle.demands.proofs.PanelShows.{shows, changes}
 use Rattle.demands.proofs.OwnRight.{own-right}
@@ -101,10 +101,16 @@ demand-3 = record {
   no-room = no-room;
   days = λ list first packets t last answers stops r d. days list first t r packets last answers stops d;
   starts-index = starts-index;
+  starts-where = starts-where;
   grows = grows;
+  grows-where = grows-where;
+  grows-full = grows-full;
+  as-run = as-run;
+  hands = hands;
   jumps = jumps;
   jumps-right = jumps-right;
   place-exact = place-exact;
+  page-exact = page-exact;
   apart = λ list t u d e x y s h ps qs a. apart list (d .leaves) (e .leaves) (right-start list t d x) (right-start list u e y) s h ps qs a;
   refused-apart = refused-apart;
 }

@@ -8,6 +8,7 @@ use Rattle.table.specs.Well.{wellMade}
 use Rattle.play.specs.declared.Played.{Played}
 use Rattle.play.specs.Play.{playedPaper}
 use Rattle.page.specs.PutBack.{putBackOf}
+use Rattle.index_jump.specs.declared.Landed.{Landed}
 use Rattle.demands.specs.Listing.{Listing}
 use Rattle.demands.specs.Program.{ours, playAll, saidAll}
 use Rattle.demands.specs.Right.{Right, layoutOf}
@@ -19,7 +20,7 @@ use Rattle.demands.specs.CallsMade.{StartMade, PlaysMade, none, next, Sa
 use Rattle.demands.specs.CallsMade as Made
 use Rattle.demands.proofs.RightLaws.{right-start, right-on, answers-on}
 use Rattle.demands.proofs.Resumed.{page-words, saved-page, resumes, days}
-use Rattle.demands.proofs.Jumped.{jumps}
+use Rattle.demands.proofs.Jumped.{jumps, jumps-right}
 use Rattle.demands.proofs.Separate.{apart}
 
 -- ---- outcomes
@@ -85,6 +86,11 @@ grown-over (Made.started lent m e) = let k = meets-accepted m e in rw (k .leaves
 grown-over (Made.grown given rest g c m e) =
     let k = meets-accepted m e in
     left-over _ _ _ _ _ _ (k .leaves) (Jumped.grown (grown-over g) given rest c (k .done) (k .wants))
+grown-over (Made.moved kept g room e) = Jumped.moved kept (grown-over g) room e
+grown-over (Made.landed u g e) = Jumped.landed u (grown-over g) e
+
+landed-says : (l : Landed) {a b : ℕ} → l .length ≡ a → l .place ≡ b → l ≡ record { length = a; place = b }
+landed-says l e f = rw (← e, ← f)
 
 pub demand-3-made : Demand3Made
 demand-3-made = record {
@@ -99,12 +105,15 @@ demand-3-made = record {
   unbroken = λ list lent t last whole packets answers all stops a d p.
       let k = days list [] t (started list lent t a) packets last (map playedPaper answers) stops (day d) in
       (k .same-table ∙ ap (layoutOf list) (sym (played p .0)), k .same-answers ∙ sym (played p .1));
-  jumps = λ ws first taken t ix g n h from given w lent last r room m whole answers p.
+  jumps = λ ws first taken t ix g n h from given w lent last r room m.
       let l = jumps ws first taken t ix (grown-over g) n h from given w lent room in
-      let left : last ≡ l .done .leaves = m .buffer ∙ ap (λ o. leftOf o lent) (l .accepts) in (
-        (l .done .says, m .answer ∙ ap saidOf (l .accepts)),
-        rw (left, played p .0) (l .table),
-      );
+      let left : last ≡ l .done .leaves = m .buffer ∙ ap (λ o. leftOf o lent) (l .accepts) in
+      record {
+        accepts = m .answer ∙ ap saidOf (l .accepts) ∙ ap accepted (landed-says (l .done .says) (l .length) (l .place));
+        table = λ whole answers p. rw (left, played p .0) (l .table);
+        past = rw left (l .past);
+        right = λ list before q. rw left (jumps-right list before ws first q ix n from given lent l [] .right);
+      };
   apart = λ list lent room t u last other ps qs answers others s a x b y h alter.
       let k = apart list t u (started list lent t a) (started list room u b) s h ps qs alter in
       (rw (played x .0, played y .0) (k .0), rw (played x .1, played y .1) (k .1));

@@ -1,20 +1,23 @@
 -- An index grown over a recording. The idea: by induction over how it was grown, the recording has the packets that were taken in, and they lead to the place
 -- and the table of the index and the caller; and each entry has the place and the page of the table that its 1,024 j packets lead to (`GrownTo`). A packet that
--- is taken in is played alike from the words that are given and from the recording, so it leads one packet further.
-use Rattle.words.proofs.Kit.{_≡_, sym, ap, _∙_, true, false, ⊎-elim, List, _++_, ℕ, suc, _+_, _*_, _≤_, _<_, arith, ltb-false, not-false}
-use Rattle.words.proofs.Kit.{length, drop, getD}
+-- is taken in is played alike from the words that are given and from the recording, and on any table with the layout of the unbroken play (`same-left`), so it
+-- leads one packet further.
+use Rattle.words.proofs.Kit.{_≡_, refl, sym, ap, _∙_, true, false, ⊎-elim, List, _++_, ℕ, suc, _+_, _*_, _≤_, _<_, arith, ltb-false, not-false}
+use Rattle.words.proofs.Kit.{length, take, drop, getD}
 use native.Mathlib.Numerals.{add-one}
 use lib.ListN.{List·getD-append}
-use Rattle.words.specs.Outcome.{accepted, Done}
+use Rattle.words.specs.Outcome.{accepted, Done, saidOf, leftOf}
 use Rattle.words.proofs.Cases.{le-or-lt, true-or-false, accepted-same}
 use Rattle.words.proofs.RefusalLaws.{first-passed}
 use Rattle.fields.proofs.PlaceLaws.{first-word}
+use Rattle.table.specs.Layout.{streamsOf, layoutWords}
 use Rattle.table.specs.Well.{wellMade}
 use Rattle.play.specs.Play.{playTold}
 use Rattle.play.specs.Run.{goesOn, saidAt, leftAt, nextOf}
+use Rattle.play.proofs.KeepLaws.{Kept, kept-at}
 use Rattle.play.proofs.BeyondLaws.{goes-inside, play-beyond}
 use Rattle.page.specs.Layout.{pageOf}
-use Rattle.index.specs.Layout.{spacing, entriesIn, packetsTaken, placeReached, entryPlace, pageIn}
+use Rattle.index.specs.Layout.{spacing, entriesIn, packetsTaken, placeReached, entryPlace, pageIn, pagesEnd}
 use Rattle.index.specs.Good.{indexGood}
 use Rattle.index.specs.Start.{startWords, startedIndex, startIndexList, startIndexOf}
 use Rattle.index.proofs.GoodLaws.{index-of}
@@ -24,9 +27,10 @@ use Rattle.index_grow.specs.Grow.{tableTaken, placeThen, reachesEntry, indexThe
 use Rattle.index_grow.proofs.AnswerLaws.{GrowTaken, grow-taken}
 use Rattle.index_grow.proofs.KeptLaws.{then-good, then-packets, then-place, then-entries, then-more, then-same, then-entry}
 use Rattle.index_jump.specs.Onward.{Behind, behindPackets}
-use Rattle.index_jump.proofs.BehindLaws.{behind-none, behind-more}
+use Rattle.index_jump.proofs.BehindLaws.{behind-none, behind-more, behind-kept}
 use Rattle.demands.specs.Program.{ours}
-use Rattle.demands.specs.Jumped.{GrownOver, started, grown, moved}
+use Rattle.demands.proofs.SameLayout.{same-said, same-left, same-page}
+use Rattle.demands.specs.Jumped.{GrownOver, started, grown, moved, landed}
 
 -- ---- what is known where starting or growing accepts
 
@@ -51,11 +55,14 @@ pub record EntryOver (ws first ix : List ℕ) (j : ℕ) : Type 0 where
   pub behind : behindPackets (spacing * j) ws 0 first ≡ standing (entryPlace ix j) table
   pub page : pageIn ix j ≡ pageOf table
 
+-- `unbroken` is the table of the unbroken play; t has its layout
 pub record GrownTo (ws first : List ℕ) (n : ℕ) (t ix : List ℕ) : Type 0 where
   pub good : indexGood ix ≡ true
   pub packets : packetsTaken ix ≡ n
   pub well : wellMade first ≡ true
-  pub behind : behindPackets n ws 0 first ≡ standing (placeReached ix) t
+  pub unbroken : List ℕ
+  pub behind : behindPackets n ws 0 first ≡ standing (placeReached ix) unbroken
+  pub same : take (layoutWords (streamsOf first)) t ≡ take (layoutWords (streamsOf first)) unbroken
   pub entries : (j : ℕ) → j < entriesIn ix → EntryOver ws first ix j
 
 module _ (ws first : List ℕ) where
@@ -77,27 +84,44 @@ module _ (ws first : List ℕ) where
         good = good;
         packets = s .packets;
         well = k .0;
+        unbroken = first;
         behind = here (placeReached (startedIndex first lent)) (s .reached);
+        same = refl;
         entries = λ j h.
             let none : j ≡ 0 = omega (arith, h, index-of (startedIndex first lent) good .entries, s .packets) in
             rw none (record { table = first; behind = here (entryPlace (startedIndex first lent) 0) (s .place); page = s .page });
       })
 
   module _ (n : ℕ) (t ix : List ℕ) (g : GrownTo ws first n t ix) where
-    -- ---- it is moved to a longer buffer
+    -- ---- it is kept elsewhere
 
-    grown-moved : (more : List ℕ) → GrownTo ws first n t (ix ++ more)
-    grown-moved more =
+    grown-moved : (kept : List ℕ) → pagesEnd ix ≤ length kept → take (pagesEnd ix) kept ≡ take (pagesEnd ix) ix → GrownTo ws first n t kept
+    grown-moved kept room e =
         let good = g .good in
         record {
-          good = moved-good ix more good;
-          packets = moved-packets ix more good ∙ g .packets;
+          good = moved-good ix kept good room e;
+          packets = moved-packets ix kept good room e ∙ g .packets;
           well = g .well;
-          behind = g .behind ∙ ap (λ (p : ℕ). standing p t) (sym (moved-place ix more good));
+          unbroken = g .unbroken;
+          behind = g .behind ∙ ap (λ (p : ℕ). standing p (g .unbroken)) (sym (moved-place ix kept good room e));
+          same = g .same;
           entries = λ j h.
-              let i : j < entriesIn ix = omega (arith, h, moved-entries ix more good) in
-              entry-same ix (ix ++ more) j (moved-entry ix more good j i .place) (moved-page ix more good j i) (g .entries j i);
+              let i : j < entriesIn ix = omega (arith, h, moved-entries ix kept good room e) in
+              entry-same ix kept j (moved-entry ix kept good room e j i .place) (moved-page ix kept good room e j i) (g .entries j i);
         }
+
+    -- ---- the table is another with the same layout
+
+    grown-landed : (u : List ℕ) → take (layoutWords (streamsOf first)) u ≡ take (layoutWords (streamsOf first)) t → GrownTo ws first n u ix
+    grown-landed u e = record {
+      good = g .good;
+      packets = g .packets;
+      well = g .well;
+      unbroken = g .unbroken;
+      behind = g .behind;
+      same = e ∙ g .same;
+      entries = g .entries;
+    }
 
     -- ---- it takes in a packet, from words that are given
 
@@ -109,13 +133,39 @@ module _ (ws first : List ℕ) where
       played : playTold t (drop (placeReached ix) ws) ≡ playTold t given
       played = ap (playTold t) cut ∙ play-beyond t given rest (k .ready .table) (k .goes)
 
-      goes-there : goesOn (saidAt t ws (placeReached ix)) ≡ true
-      unfolding saidAt
-      goes-there = rw played (k .goes)
+      -- the same packet on the table of the unbroken play
+      abbrev whole : List ℕ
+      whole = g .unbroken
 
-      left-there : leftAt t ws (placeReached ix) ≡ tableTaken t given
+      abbrev after : List ℕ
+      after = leftAt (g .unbroken) ws (placeReached ix)
+
+      before : Kept first whole
+      before = rw (g .behind) at (behind-kept n ws 0 first)
+
+      whole-well : wellMade whole ≡ true
+      whole-well = before .well (g .well)
+
+      whole-same : take (layoutWords (streamsOf whole)) t ≡ take (layoutWords (streamsOf whole)) whole
+      whole-same = rw (before .streams) (g .same)
+
+      goes-there : goesOn (saidAt (g .unbroken) ws (placeReached ix)) ≡ true
+      unfolding saidAt
+      goes-there =
+          ap goesOn (sym (same-said whole t whole-well (k .ready .table) whole-same (drop (placeReached ix) ws))) ∙ ap (λ o. goesOn (saidOf o)) played ∙ k .goes
+
+      same-then : take (layoutWords (streamsOf first)) (tableTaken t given) ≡ take (layoutWords (streamsOf first)) after
       unfolding leftAt tableTaken
-      left-there = rw played
+      same-then =
+          ap (λ o. take (layoutWords (streamsOf first)) (leftOf o t)) (sym played)
+          ∙ rw (before .streams) at (same-left whole t whole-well (k .ready .table) whole-same (drop (placeReached ix) ws))
+
+      later : Kept whole after
+      later = kept-at whole ws (placeReached ix)
+
+      page-then : pageOf (tableTaken t given) ≡ pageOf after
+      page-then =
+          same-page after (tableTaken t given) (later .well whole-well) (k .well) (rw (later .streams, before .streams) same-then)
 
       header-there : getD ws (placeReached ix) 0 ≡ getD given 0 0
       unfolding saidAt
@@ -124,24 +174,24 @@ module _ (ws first : List ℕ) where
           sym (first-word (placeReached ix) ws) ∙ ap (λ (l : List ℕ). getD l 0 0) cut
           ∙ List·getD-append given rest 0 0 (omega (arith, inside .0, inside .1))
 
-      next-there : nextOf t ws (placeReached ix) ≡ placeThen given ix
+      next-there : nextOf (g .unbroken) ws (placeReached ix) ≡ placeThen given ix
       unfolding nextOf
       next-there = rw (goes-there, header-there)
 
-      one-more : behindPackets (n + 1) ws 0 first ≡ standing (placeThen given ix) (tableTaken t given)
+      one-more : behindPackets (n + 1) ws 0 first ≡ standing (placeThen given ix) after
       one-more =
           let there : behindPackets n ws 0 first .all ≡ true = ap (λ (b : Behind). b .all) (g .behind) in
-          rw (g .behind, next-there, left-there) at (behind-more n ws 0 first there (rw (g .behind) goes-there))
+          rw (g .behind, next-there) at (behind-more n ws 0 first there (rw (g .behind) goes-there))
 
       last-entry : reachesEntry ix ≡ true → EntryOver ws first (indexThen t given ix) (entriesIn ix)
       last-entry r =
           let s = then-entry t given ix (g .good) (k .well) (k .fits) r in
           record {
-            table = tableTaken t given;
+            table = after;
             behind =
                 ap (λ (i : ℕ). behindPackets i ws 0 first) (s .2 ∙ ap (λ (i : ℕ). i + 1) (g .packets)) ∙ one-more
-                ∙ ap (λ (p : ℕ). standing p (tableTaken t given)) (sym (s .0));
-            page = s .1;
+                ∙ ap (λ (p : ℕ). standing p after) (sym (s .0));
+            page = s .1 ∙ page-then;
           }
 
       entries-then : (j : ℕ) → j < entriesIn (indexThen t given ix) → EntryOver ws first (indexThen t given ix) j
@@ -166,11 +216,14 @@ module _ (ws first : List ℕ) where
             good = then-good t given ix (g .good) (k .well) (k .fits);
             packets = then-packets t given ix (g .good) (k .well) (k .fits) ∙ ap (λ (i : ℕ). i + 1) (g .packets);
             well = g .well;
-            behind = one-more ∙ ap (λ (p : ℕ). standing p (tableTaken t given)) (sym place);
+            unbroken = after;
+            behind = one-more ∙ ap (λ (p : ℕ). standing p after) (sym place);
+            same = same-then;
             entries = entries-then;
           })
 
   pub grown-to : {n : ℕ} {t ix : List ℕ} → GrownOver ours ws first n t ix → GrownTo ws first n t ix
   grown-to (started {lent = lent} d e) = grown-started lent d e
   grown-to (grown {n = n} {t = t} {ix = ix} g given rest cut d e) = grown-on n t ix (grown-to g) given rest cut d e
-  grown-to (moved {n = n} {t = t} {ix = ix} more g) = grown-moved n t ix (grown-to g) more
+  grown-to (moved {n = n} {t = t} {ix = ix} kept g room e) = grown-moved n t ix (grown-to g) kept room e
+  grown-to (landed {n = n} {t = t} {ix = ix} u g e) = grown-landed n t ix (grown-to g) u e

@@ -7,7 +7,7 @@ pub mod Answered
 pub mod Once
 -- each call gives the first refusal of its list that applies
 pub mod InOrder
--- which tables and pages are well made
+-- which tables, pages and contents of an index are well made
 pub mod WellMade
 -- where a packet is refused
 pub mod PlacesTold
@@ -44,6 +44,8 @@ pub mod PanelShows
 pub mod OwnRight
 -- stopping and resuming, any number of times
 pub mod Resumed
+-- two tables with one layout
+pub mod SameLayout
 -- an index grown over a recording, and jumps
 pub mod GrownLaws
 pub mod Jumped

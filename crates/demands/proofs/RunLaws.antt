@@ -21,7 +21,7 @@ said-goes : (before : Trace) (x : Told Arrival) → goesOn (answerTo before x) �
 said-goes before (refused n) = refl
 said-goes before (accepted a) = refl
 
-on-same : (list : Listing) (before : List (List ℕ)) (t : List ℕ) → Right list before t → (ws : List ℕ)
+pub on-same : (list : Listing) (before : List (List ℕ)) (t : List ℕ) → Right list before t → (ws : List ℕ)
     → goesOn (saidOf (playTold t ws)) ≡ goesPast (heardBy list ws)
 on-same list before t r ws = ap goesOn (right-answer list before t r ws) ∙ said-goes (traceOf list before) (heardBy list ws)
 

@@ -49,4 +49,4 @@ unfolding refusedAt readTold whereOf brokenOf firstBroken breaks placeOf classBa
     trailed tsmOf reservedOf streamed hasSeconds hasFraction classAt secondsAt fractionAt bodyAt requiredOf bodyLength wordIf classHigh classLow fractionOf
     partsOf bodyOf packetOf timeOver readBy
 refused-at =
-    refl and refl and refl and refl and refl and refl and refl and refl and refl and refl and refl and refl and refl and refl and tt
+    refl and refl and refl and refl and refl and refl and refl and refl and refl and refl and refl and refl and refl and refl and refl and tt

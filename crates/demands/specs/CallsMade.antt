@@ -10,19 +10,18 @@ use Rattle.play.specs.declared.Played.{Played}
 use Rattle.play.specs.Play as Play
 use Rattle.page.specs.Save.{saveOf}
 use Rattle.page.specs.PutBack.{putBackOf}
-use Rattle.index.specs.Layout.{placeReached}
+use Rattle.index.specs.Layout.{placeReached, pagesEnd}
 use Rattle.index.specs.Start.{startIndexOf}
 use Rattle.index_grow.specs.declared.Taken.{Taken}
 use Rattle.index_grow.specs.declared.Grown.{Grown}
 use Rattle.index_grow.specs.Grow.{growTold, grownPaper}
-use Rattle.index_jump.specs.declared.Landed.{Landed}
 use Rattle.index_jump.specs.declared.Jumped.{Jumped}
 use Rattle.index_jump.specs.Jump.{jumpOf, jumpedPaper}
 use Rattle.demands.specs.Listing.{Listing, streamsIn}
 use Rattle.demands.specs.Trace.{traceOf, answersAfter}
 use Rattle.demands.specs.Right.{Right, layoutOf}
 use Rattle.demands.specs.Resumed.{Stop}
-use Rattle.demands.specs.Jumped.{packetsBehind, Handed}
+use Rattle.demands.specs.Jumped.{packetsBehind, placeBehind, Reaching}
 use Rattle.demands.specs.Altered.{Altered, ownAnswers}
 
 -- `start` was called with a list and a lent table, was accepted, and left the table t
@@ -71,14 +70,27 @@ SamePagesMade t [] = Unit
 SamePagesMade t (s ∷ later) =
     ((u page : List ℕ) (heard : List Played) → PlaysMade t (s .after) heard u → SaveMade u page → page ≡ s .page) × SamePagesMade t later
 
--- `start_index` was called with the table `first`, and `grow` with each packet of the recording ws, one after the other, and all were accepted; the packets,
--- and the table and the index at last
+-- `start_index` was called with the table `first`, and `grow` with each packet of the recording ws, one after the other, and all were accepted; in between the
+-- index may have been kept elsewhere, and the table be another with the same layout; the packets, and the table and the index at last
 pub data GrowsMade (ws first : List ℕ) : ℕ → List ℕ → List ℕ → Type 0 where
   started : {ix : List ℕ} {r : Length} {n : ℕ} (lent : List ℕ) → Meets measured (startIndexOf first lent) lent r ix → measured r ≡ accepted n
       → GrowsMade ws first 0 first ix
   grown : {n : ℕ} {t ix after index : List ℕ} {r : Grown} {x : Taken} (given rest : List ℕ) → GrowsMade ws first n t ix
       → drop (placeReached ix) ws ≡ given ++ rest → Meets grownPaper (growTold t given ix) (t, ix) r (after, index) → grownPaper r ≡ accepted x
       → GrowsMade ws first (suc n) after index
+  moved : {n : ℕ} {t ix : List ℕ} (kept : List ℕ) → GrowsMade ws first n t ix → pagesEnd ix ≤ length kept
+      → take (pagesEnd ix) kept ≡ take (pagesEnd ix) ix → GrowsMade ws first n t kept
+  landed : {n : ℕ} {t ix : List ℕ} (u : List ℕ) → GrowsMade ws first n t ix
+      → take (layoutWords (streamsOf first)) u ≡ take (layoutWords (streamsOf first)) t → GrowsMade ws first n u ix
+
+-- `jump` has answered, and left a table in the words that were lent: that of the calls of `play` with all earlier packets on the first table, and then the
+-- words past it as they were; and if the first was right for some packets, it is right for them and the earlier ones
+pub record JumpMade (ws first : List ℕ) (n : ℕ) (lent : List ℕ) (r : Jumped) (last : List ℕ) : Type 0 where
+  pub accepts : jumpedPaper r ≡ accepted (record { length = layoutWords (streamsOf first); place = placeBehind n ws 0 })
+  pub table : (whole : List ℕ) (answers : List Played) → PlaysMade first (packetsBehind n ws 0) answers whole
+      → take (layoutWords (streamsOf first)) last ≡ take (layoutWords (streamsOf first)) whole
+  pub past : drop (layoutWords (streamsOf first)) last ≡ drop (layoutWords (streamsOf first)) lent
+  pub right : (list : Listing) (before : List (List ℕ)) → Right list before first → Right list (before ++ packetsBehind n ws 0) last
 
 -- what the rules say of played packets: the table, and the answers
 pub record Ruled (list : Listing) (before packets : List (List ℕ)) (answers : List Played) (t : List ℕ) : Type 0 where
@@ -102,10 +114,8 @@ pub record Demand3Made : Type 0 where
       → (layoutOf list last ≡ layoutOf list whole) × (map Play.playedPaper answers ≡ map Play.playedPaper all)
   -- document 02, C-16: "the table equals that from playing all earlier packets on the first", of `jump` called with such an index
   pub jumps : (ws first : List ℕ) (taken : ℕ) (t ix : List ℕ) → GrowsMade ws first taken t ix → (n : ℕ) → n ≤ taken → (from : ℕ) (given : List ℕ)
-      → Handed ws ix n from given → (lent last : List ℕ) (r : Jumped) → layoutWords (streamsOf first) ≤ length lent
-      → Meets jumpedPaper (jumpOf given from ix n lent) lent r last → (whole : List ℕ) (answers : List Played)
-      → PlaysMade first (packetsBehind n ws 0) answers whole
-      → ((l : Landed) × (jumpedPaper r ≡ accepted l)) × (take (layoutWords (streamsOf first)) last ≡ take (layoutWords (streamsOf first)) whole)
+      → Reaching ws ix n from given → (lent last : List ℕ) (r : Jumped) → layoutWords (streamsOf first) ≤ length lent
+      → Meets jumpedPaper (jumpOf given from ix n lent) lent r last → JumpMade ws first n lent r last
   -- "other streams' packets may be altered at will, none becoming this stream's, without altering this stream's answers or record"
   pub apart : (list : Listing) (lent room t u last other : List ℕ) (ps qs : List (List ℕ)) (answers others : List Played) (s : ℕ)
       → StartMade list lent t → PlaysMade t ps answers last → StartMade list room u → PlaysMade u qs others other → s < streamsIn list → Altered list s ps qs

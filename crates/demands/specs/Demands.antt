@@ -44,7 +44,8 @@ use Rattle.demands.specs.PanelShows.{changedBy, PanelShows}
 use Rattle.demands.specs.OwnRight.{OwnRight}
 use Rattle.demands.specs.Resumed.{Saves, Resumes, Stop, Day, DayRight}
 use Rattle.demands.specs.Recording.{Runs}
-use Rattle.demands.specs.Jumped.{StartsIndex, Grows, Jumps, JumpsRight, PlaceExact}
+use Rattle.demands.specs.Jumped.{StartsIndex, StartsWhere, Grows, GrowsWhere, GrowsFull, AsRun, Hands, Jumps, JumpsRight, PlaceExact}
+use Rattle.demands.specs.Jumped.{PageExact}
 use Rattle.demands.specs.PastUnread.{IsLayout, PastUnread}
 use Rattle.demands.specs.Altered.{Altered, ownAnswers, RefusedApart}
 
@@ -59,7 +60,7 @@ pub record Demand1 : Type 1 where
   pub once : Each OneOutcome calls
   -- "Bad packets, tables, pages and formats are refused with the number in our list, given exactly when the list says."
   pub numbers : InOrder
-  -- and which tables and pages are bad
+  -- and which tables, pages and contents of an index are bad
   pub well-made : Judged
   -- "A refusal changes no word of any buffer it was lent."
   pub refusals : Each RefusalLeaves calls
@@ -176,13 +177,21 @@ pub record Demand3 (P : Program) : Type 0 where
   -- and so all day, with any number of stops: "every answer and the final table equal those of the unbroken play", and so does every page
   pub days : (list : Listing) (first packets : List (List ℕ)) (t last : List ℕ) (answers : List (Told Heard)) (stops : List Stop) → Right list first t
       → Day P [] t packets answers stops last → DayRight P list first t packets answers stops last
-  -- document 02, C-16: "Demand 3's resuming now speaks of jumps both ways". An index is started with well-made contents, and growing is play; a jump to any
-  -- packet taken in leaves the table of playing all earlier packets on the first, and where that one was right, a right one; PLACE is given exactly above them
+  -- document 02, C-16: "Demand 3's resuming now speaks of jumps both ways". An index is started with well-made contents, and growing is play; both wherever
+  -- there is room, and full contents refuse the next packet with ROOM. Packets are numbered as a run goes over them. A jump to any packet taken in leaves the
+  -- table of playing all earlier packets on the first, and where that one was right, a right one; PLACE is given exactly above them, and PAGE exactly for
+  -- contents or an entry
   pub starts-index : StartsIndex P
+  pub starts-where : StartsWhere P
   pub grows : Grows P
+  pub grows-where : GrowsWhere P
+  pub grows-full : GrowsFull P
+  pub as-run : AsRun P
+  pub hands : Hands P
   pub jumps : Jumps P
   pub jumps-right : JumpsRight P
   pub place-exact : PlaceExact P
+  pub page-exact : PageExact P
   -- "With the list unchanged, other streams' packets may be altered at will, none becoming this stream's, without altering this stream's answers or record."
   pub apart : (list : Listing) (t u : List ℕ) (d e : Done ℕ (List ℕ)) → P .start (list .ids) (list .choices) t ≡ accepted d
       → P .start (list .ids) (list .choices) u ≡ accepted e → (s : ℕ) → s < streamsIn list

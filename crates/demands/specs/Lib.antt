@@ -34,7 +34,7 @@ pub mod CallsMade
 pub mod Recording
 -- the refusals of each call, in order
 pub mod Refusals
--- which tables and pages are well made
+-- which tables, pages and contents of an index are well made
 pub mod WellMade
 -- where a packet is refused
 pub mod PlacesTold
