@@ -740,6 +740,27 @@ def some_index(r, pages, left=None):
     return index_of(r, [r.choice(pages) for _ in range(entries)], packets, places, r.choice((0, 0, 1, 50)))
 
 
+def high_place(r, most):
+    """A word place of at most so many words, often beside a multiple of 2^32."""
+    if r.randrange(4) == 0:
+        return r.randrange(most + 1)
+    return min(most, r.choice((1, 1, 1, 2, 15)) * 2**32 + r.randrange(-70, 6))
+
+
+def high_index(r, one, left=None):
+    """An index of so many entries that places have two words, and an entry of it: that one has
+    the page, and the others have pages of no words."""
+    entries = r.choice((66, 66, 67, 130, r.randrange(66, index.MOST_ENTRIES + 1)))
+    entry = r.randrange(65, entries)
+    packets = index.EVERY * (entries - 1) + (r.choice((0, 1, 8, 1022, 1023)) if left is None else left)
+    most = index.MOST_PACKET_WORDS
+    places = [r.randrange(most * index.EVERY * number + 1) for number in range(entries)]
+    places[entry] = high_place(r, most * index.EVERY * entry)
+    places.append(high_place(r, most * packets))
+    pages = [one if number == entry else [] for number in range(entries)]
+    return index_of(r, pages, packets, places, r.choice((0, 0, 1, 50))), entry
+
+
 def bent_index(r, words):
     """One word of the contents changed, or the words cut."""
     bent = list(words)
@@ -781,7 +802,8 @@ def grow(r):
     lent = lent_table(r)
     good = table.well_made(lent)
     own = page.page_of(table.table_of(lent)) if good else page.page_of(making.some_streams(r, 1))
-    kept = some_index(r, [own], r.choice((None, None, 1023)))
+    left = r.choice((None, None, 1023))
+    kept = some_index(r, [own], left) if r.randrange(4) else high_index(r, own, left)[0]
     # at a boundary the page behind the packet fits, or just does not, mostly
     if r.randrange(2):
         kept += noisy(r, len(own) + r.choice((-1, 0, 0, 1, 20, 80))).entries
@@ -813,8 +835,9 @@ def jump(r):
     for _ in range(r.choice((0, 1, 2, 3, 5, 8))):
         made = sent(r, lent, r.choice((0, 1, 1, 1, 3, 4, 4, 5, 2)))
         words += making.bent_packet(r, made) if r.randrange(25) == 0 else made
-    kept = some_index(r, [page.page_of(streams)])
-    entry = r.randrange(kept[0])
+    own = page.page_of(streams)
+    kept, entry = (some_index(r, [own]), None) if r.randrange(4) else high_index(r, own)
+    entry = r.randrange(kept[0]) if entry is None else entry
     n = index.EVERY * entry + r.choice((0, 0, 1, 2, 3, 5, 8))
     place = index.place_of(kept, entry)
     first = max(0, place - r.choice((0, 0, 0, 1, 30)))
@@ -822,7 +845,8 @@ def jump(r):
     if r.randrange(3) == 0 and kept[1] < n <= index.EVERY * kept[0]:
         kept[1] = n if n < index.EVERY * kept[0] else kept[1]
     if r.randrange(10) == 0:
-        first = r.choice((0, first + 1, place + len(words), place + len(words) + 1, 2**64 - 1, 2**32))
+        ends = (place + len(words), place + len(words) + 1, 2**64 - 1, 2**32)
+        first = r.choice((0, first + 1, first ^ 2**32, first + 2**32, place % 2**32, *ends))
     if r.randrange(10) == 0:
         n = r.choice((kept[1], kept[1] + 1, 2**32, 2**32 + n, 2**64 - 1))
     if r.randrange(10) == 0:

@@ -6,7 +6,7 @@ of a state word; of survey packets every data type, pad count and bit of the cla
 choice of a list of streams; the place of every refusal of a packet, behind every choice of
 class, seconds and fraction, and the bit of every two fields that break their rules; of an index
 every bit of its contents that is looked at, the packets around an entry, pages that just fit,
-contents that are full, and every number of words from an entry on."""
+contents that are full, every number of words from an entry on, and word places beside 2^32."""
 
 import itertools
 import random
@@ -1019,6 +1019,7 @@ def grow(r):
         return calls.grow_of(r, lent, words, kept or index_before(r, 3, [page_of_fresh]))
 
     yield from play_refused(ask, ask_stream=0)
+    yield from grow_high(r, fresh, page_of_fresh)
     # the packets around an entry, and room for its page, one word less, and none
     for packets in (0, 1, 1022, 1023, 1024, 2046, 2047, 2048, 1023 * 1024 - 1, 1023 * 1024, 1024 * 1024 - 2):
         for room in (0, 18, 19, 20):
@@ -1053,6 +1054,32 @@ def grow(r):
         yield ask(fresh, [], kept)
 
 
+def grow_high(r, fresh, page_words):
+    """Packets that end just before 2^32, at it and behind it, at a boundary that has an entry
+    and at others."""
+    for words in ([0x00000001], [0x10000002, 7], [0x10000002, 8], context(body_of(29)), [0x1000FFFF, 7, *[0] * 65533]):
+        held = 2 * (len(words) == 5)
+        for packets in (65538, 65 * 1024, 66 * 1024 - 2, 66 * 1024 - 1):
+            for over in (-1, 0, 1, len(words) - 1):
+                kept = index_before(r, packets, [[]], 19 + held, 0)
+                kept[2:4] = index.two_words(2**32 + over - len(words))
+                case = sure(calls.grow_of(r, fresh, words, kept), 0)
+                after = index.two_words(2**32 + over)
+                assert [*case.after[2][1:4]] == [packets + 1, *after]
+                assert packets % 1024 < 1023 or [*case.after[2][268:272]] == [*after, 4100, 19 + held]
+                yield case
+    # the least numbers of packets that may reach 2^32 - 1 and 2^32, and one packet less
+    last = 2**32 - 1
+    for packets, place, number in ((65537, last, 0), (65537, last + 1, 19), (65538, last + 1, 0), (65536, last, 19)):
+        kept = index_before(r, packets, [page_words], 0, 0)
+        kept[2:4] = index.two_words(place)
+        yield sure(calls.grow_of(r, fresh, [0x10000002, 7], kept), number)
+    # without room the place stays
+    kept = index_before(r, 66 * 1024 - 1, [[]], 18, 0)
+    kept[2:4] = index.two_words(2**32 - 1)
+    yield sure(calls.grow_of(r, fresh, [0x10000002, 7], kept), 13)
+
+
 def bent_contents(r, page_words):
     """Every bit of the words that are looked at, of one entry, of two and of three; places that
     are as far as they may be; and words behind the pages."""
@@ -1084,6 +1111,7 @@ def jump(r):
     def ask(words, first, kept, n, room=layout):
         return calls.jump_of(r, words, first, kept, n, room)
 
+    yield from jump_high(r, saved, recording, ends)
     # every number of packets and of words, from the entry on, from before it and from behind it
     for left in range(16):
         for words in range(0, len(recording) + 1, 1 if left < 6 else 9):
@@ -1125,6 +1153,47 @@ def jump(r):
     for kept in bent_contents(r, page.page_of([fresh_stream(7)])):
         yield ask(recording, 0, kept, 0)
         yield ask(recording, 0, kept, 1)
+
+
+def jump_high(r, saved, recording, ends):
+    """Jumps from an entry whose word place is beside 2^32, or has another high word."""
+
+    def ask(words, first, place, left, number=65, room=table.layout_length(2)):
+        pages = [saved if one == number else [] for one in range(number + 2)]
+        places = [place if one == number else 0 for one in range(number + 3)]
+        kept = calls.index_of(r, pages, 1024 * (number + 1), places)
+        return calls.jump_of(r, words, first, kept, 1024 * number + left, room)
+
+    # it lands just before 2^32, at it and behind it, with the words from the entry on and from before it
+    for left in range(16):
+        for over in (-1, 0, 1):
+            place = 2**32 + over - ends[left]
+            for before in (0, 1, 30):
+                case = sure(ask([ONES] * before + recording, place - before, place, left), 0)
+                assert case.after[6][0] == 2**32 + over
+                yield case
+    for place in (2**32 - 3, 2**32 - 1, 2**32, 2**32 + 5):
+        for left in (0, 1, 2, 3, 15):
+            case = sure(ask(recording, place, place, left), 0)
+            assert case.after[6][0] == place + ends[left]
+            yield case
+            for first in (place + 1, place ^ 2**32, place + 2**32, place & 7, 2**63, 2**64 - 1):
+                yield sure(ask(recording, first, place, left), 19)
+            yield sure(ask(recording, place, place, left, room=178), 13)
+        # the words end before the entry, at it and within its packets
+        yield sure(ask([ONES] * 29, place - 30, place, 0), 19)
+        yield sure(ask([ONES] * 30, place - 30, place, 0), 0)
+        for words in range(len(recording) + 1):
+            yield sure(ask(recording[:words], place, place, 3), 0 if ends[3] <= words else 19)
+    # the most that an entry may have, and one more; words that are 2^32 away
+    for number in (65, 128, 129, 1022):
+        most = number * 1024 * 65535
+        for place, answer in ((most, 0), (most + 1, 19)):
+            yield sure(ask(recording, place, place, 3, number), answer)
+        for first in (most - 2**32, most % 2**32, most + 2**32):
+            yield sure(ask(recording, first, most, 3, number), 19)
+    yield sure(ask(recording, 2**32 + 5, 2**33 + 5, 3, 129), 19)
+    yield sure(ask(recording, 2**33 + 5, 2**33 + 5, 3, 129), 0)
 
 
 # What a table says of a stream: state words and field 22; the rest is among the other cases.

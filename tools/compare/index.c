@@ -127,9 +127,15 @@ static void grow(void) {
     printf(" table %" PRIu32 " index %" PRIu32 "\n", fold(table, table_n), fold(kept, kept_n));
 }
 
+static uint64_t two_words(void) {
+    uint64_t high = next();
+    return high << 32 | next();
+}
+
 static void jump(void) {
-    uint64_t first = next(), high = next(), n = high << 32 | next(), place = 0;
-    size_t room = below(TABLE), length = 0, from = first < recording_n ? first : recording_n;
+    size_t left_out = next();
+    uint64_t first = two_words(), n = two_words(), place = 0;
+    size_t room = below(TABLE), length = 0, from = left_out < recording_n ? left_out : recording_n;
     uint32_t *lent = made(room, 0, 0), refusal;
     refusal = vrt49_jump(recording + from, recording_n - from, first, kept, kept_n, n, lent, room, &length, &place);
     if (refusal && (length || place))

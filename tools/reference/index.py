@@ -1,7 +1,7 @@
 """A reference index: it starts beside a recording, grows over it packet by packet, and a
 jump gives the table just before a packet.
 
-It is written from C-16 of document 02, with the words of an index that the team has fixed,
+It is written from C-16 of document 02, with the words of an index that this project has fixed,
 and from nothing else.  Tables are those of table.py and pages those of page.py.  Words are
 whole numbers from 0 to 2^32 - 1 in a list; the sentences in quotation marks are C-16's own,
 or those of document 01, C-13 or C-15 where they are named.

@@ -40,6 +40,10 @@ CONTENTS = 4100
 # The place of a boundary for each entry before it.
 MOST_STEP = 65535 * 1024
 
+# The first place that needs its high word, and places beside it.
+HIGH = 1 << 32
+BESIDE_HIGH = (HIGH - 3, HIGH - 1, HIGH, HIGH + 5)
+
 # A jump over so many packets is a long one.
 LONG = 200
 
@@ -66,6 +70,8 @@ class Coverage:
         # Of an index as it was grown: the packets taken in and the packet jumped to.
         self.jumps = set()
         self.held_to_play = 0
+        # Those of them that land at a place of two words.
+        self.held_high = 0
         self.ways = set()
         # Numbers of packets that are undeclared, with their places.
         self.undeclared = set()
@@ -73,6 +79,8 @@ class Coverage:
         self.told = set()
         self.rooms = set()
         self.firsts = set()
+        # Jumps from entries at places beside 2^32.
+        self.high = set()
         self.walks = set()
         self.entries = set()
         self.others = set()
@@ -87,10 +95,13 @@ cover = Coverage()
 
 
 class Grown:
-    """An index as it was grown over a recording: the table, the index and the recording's
-    words so far, and the table and the place of each boundary."""
+    """An index as it was grown over a recording: the packets taken in and the word place at
+    first, the table, the index and the recording's words since then, and the table of each
+    boundary with its place among these words."""
 
     def __init__(self, lent, found):
+        self.packets = found[1]
+        self.base = found[2] << 32 | found[3]
         self.lent = list(lent)
         self.index = list(found)
         self.words = []
@@ -320,6 +331,12 @@ def start(answer=ACCEPTED):
     m.done([START], f"{line} fold {fold(m.index)}")
 
 
+def grown_on():
+    """From these contents, made by hand, the index grows on with the recording's words."""
+    fail(m.at != 0 or not contents_good(m.index), f"operation {m.number()} cannot grow on")
+    m.grown = Grown(m.table, m.index)
+
+
 def index_after(before, size, lent):
     """The words of an index behind a packet, laid out; lent is the table behind it."""
     packets = before[1] + 1
@@ -471,35 +488,41 @@ def grow(most, taken=None, refused=None, alone=0):
     )
 
 
-def check_grown(n, room, first, answer, lent):
+def check_grown(n, room, first, left_out, answer, lent):
     """A jump over an index as it was grown, held to playing all packets one by one."""
     one = m.grown
     if one is None or m.index[: len(one.index)] != one.index:
         return
-    packets = len(one.places) - 1
+    packets = one.packets + len(one.places) - 1
     fail(m.index[1] != packets, f"operation {m.number()}: another number of packets")
     if n > packets:
         cover.jumps.add((packets, n))
         fail(answer != ("refused", PLACE), f"operation {m.number()}: {n} of {packets}")
         return
-    place = one.places[n]
+    # The boundary of the entry, which was there already, or not.
+    begin = n // 1024 * 1024 - one.packets
+    if begin < 0:
+        return
+    place = one.places[n - one.packets]
     if m.words[:place] != one.words[:place]:
         if answer[0] == "jumped" and n % 1024:
             cover.others.add("a changed recording that goes on")
         return
-    if first > one.places[n // 1024 * 1024]:
+    if first != one.base + left_out or left_out > one.places[begin]:
         return
-    layout = list(one.tables[n])
+    layout = list(one.tables[n - one.packets])
     if room < len(layout):
         fail(answer != ("refused", ROOM), f"operation {m.number()} finds room")
         return
     cover.jumps.add((packets, n))
-    fail(answer != ("jumped", len(layout), place), f"operation {m.number()} jumps elsewhere")
+    right = ("jumped", len(layout), one.base + place)
+    fail(answer != right, f"operation {m.number()} jumps elsewhere")
     fail(
         lent != layout + [PATTERN] * (room - len(layout)),
         f"operation {m.number()} has another table than playing all packets",
     )
     cover.held_to_play += 1
+    cover.held_high += one.base + place >= HIGH
     if m.last_jump is not None:
         cover.others.add("backwards" if n < m.last_jump else "forwards")
     m.last_jump = n
@@ -509,13 +532,17 @@ def check_grown(n, room, first, answer, lent):
         cover.others.add("a longer index than it was grown in")
 
 
-def jump(n, answer=None, first=0, room=None):
-    """A jump; if no room is named there is enough, for the streams of the table."""
+def jump(n, answer=None, first=0, room=None, left_out=None):
+    """A jump, with the words from first on, or all but those that are left out, of which the
+    next then stands at the word place first; if no room is named there is enough, for the
+    streams of the table."""
     if room is None:
         streams = m.table[0] if m.table and 1 <= m.table[0] <= 32 else 1
         room = min(table.layout_length(streams) + m.number() % 4, MOST_ROOM)
+    left_out = first if left_out is None else left_out
     fail(room > MOST_ROOM or not 0 <= n < 1 << 64, "a jump that cannot be given")
-    words = m.words[first:]
+    fail(not 0 <= first < 1 << 64 or left_out > ONES, "a place that cannot be given")
+    words = m.words[left_out:]
     untouched = [PATTERN] * room
     before = list(m.index)
     found, lent = index.jump(words, first, m.index, n, untouched)
@@ -534,19 +561,9 @@ def jump(n, answer=None, first=0, room=None):
         layout = table.layout(played)
         fail(found != ("jumped", len(layout), place), f"operation {m.number()}: another answer")
         fail(lent != layout + untouched[len(layout) :], f"operation {m.number()}: another table")
-        cover.rooms.add(("jump", layout[0], min(room - len(layout), 2)))
-        cover.beside.add(m.index[0])
         line = f"jump {found[1]} place {found[2]}"
         cover.add("jump")
-        _, at, *_ = entry_words(m.index, n // 1024)
-        kind = "at" if first == at else "before" if first else "whole"
-        cover.firsts.add((kind, min(n % 1024, 2)))
-        if at == first + len(words):
-            cover.firsts.add("at the end of the words")
-        if 2 <= m.index[0] <= 3:
-            pages = [entry_words(m.index, number)[2:] for number in range(m.index[0])]
-            if not all(page.well_made(m.index[one : one + two]) for one, two in pages):
-                cover.others.add("an entry beside one that is not well made")
+        note_landed(words, first, n, room, layout, place)
     else:
         fail(lent != untouched, f"operation {m.number()} is refused and has written")
         line = f"jump refused {number}"
@@ -556,10 +573,36 @@ def jump(n, answer=None, first=0, room=None):
             cover.rooms.add(("jump", streams, room - table.layout_length(streams)))
         if faults == ["entry"]:
             note_walk(words, first, n)
-    check_grown(n, room, first, found, lent)
+    check_grown(n, room, first, left_out, found, lent)
     if faults in ([], ["entry"], ["room"]) and n % 1024 >= LONG:
         cover.long_jumps += 1
-    m.done([JUMP, first, n >> 32, n & ONES, room], f"{line} table {fold(lent)}")
+    given = [JUMP, left_out, *index.two_words(first), *index.two_words(n), room]
+    m.done(given, f"{line} table {fold(lent)}")
+
+
+def note_landed(words, first, n, room, layout, place):
+    """What a jump that is accepted shows; place is where it lands."""
+    cover.rooms.add(("jump", layout[0], min(room - len(layout), 2)))
+    cover.beside.add(m.index[0])
+    high, low, *_ = entry_words(m.index, n // 1024)
+    at = high << 32 | low
+    kind = "at" if first == at else "before" if first else "whole"
+    cover.firsts.add((kind, min(n % 1024, 2)))
+    if at == first + len(words):
+        cover.firsts.add("at the end of the words")
+    if 2 <= m.index[0] <= 3:
+        pages = [entry_words(m.index, number)[2:] for number in range(m.index[0])]
+        if not all(page.well_made(m.index[one : one + two]) for one, two in pages):
+            cover.others.add("an entry beside one that is not well made")
+    cover.high.add((kind, at))
+    if at == first + len(words):
+        cover.high.add(("end", at))
+    if first < HIGH <= at:
+        cover.high.add("an entry over 2^32, the words from below it")
+    if at < HIGH <= place:
+        cover.high.add(("over", at, place))
+    if at == MOST_STEP * (n // 1024) >= HIGH:
+        cover.high.add(("most", n // 1024))
 
 
 def note_walk(words, first, n):
@@ -571,11 +614,14 @@ def note_walk(words, first, n):
     place = high << 32 | low
     if place < first:
         cover.walks.add("before the words")
+        cover.high.add(("behind", place, first - place))
     elif place - first > len(words):
+        cover.high.add(("past", place, place - first - len(words)))
         if place - first == len(words) + 1:
             cover.walks.add("one past the words")
-        if high and low - first <= len(words):
+        if 0 <= place - HIGH - first <= len(words):
             cover.walks.add("past the words by 2^32")
+            cover.high.add(("past by 2^32", first >= HIGH))
     else:
         found = table.table_of(page.candidate(m.index[offset : offset + length]))
         for packets in range(n % 1024):
@@ -583,6 +629,8 @@ def note_walk(words, first, n):
             if at is None:
                 answer = table.read(found, words[place - first :])
                 cover.walks.add(answer[1])
+                if place < HIGH <= first + len(words):
+                    cover.high.add("a packet that passes 2^32 does not go on")
                 if packets == n % 1024 - 1:
                     cover.walks.add("the last packet")
                 if packets == 0:
@@ -1584,6 +1632,176 @@ def random_indexes():
             poke(place, old)
 
 
+# Places beside 2^32.
+
+# Words before those of the packets, which no jump may read.
+FRONT = [ONES] * 30
+
+
+def packets_beside():
+    """Packets of the streams 7, of survey packets, and 8; from 2^32 - 3 on the boundaries
+    behind the first three are at 2^32 - 1, at 2^32 and at 2^32 + 5."""
+    begin = [short_packet(3, 8, 1), [0x20000001], context(1 << 29, [0, 7], identifier=8)]
+    return begin + recorded(1614, [7, 8], [1, 0], 30, chance=5)
+
+
+def ends_of(packets):
+    """The places behind so many of the packets."""
+    ends = [0]
+    for words in packets:
+        ends.append(ends[-1] + len(words))
+    return ends
+
+
+def contents_beside(entries, left, places):
+    """An index of two streams with so many entries, so many packets behind the last, and these
+    places of entries, which have pages."""
+    one, two, _ = pages_by_hand()
+    given = [(MOST_STEP * number, []) for number in range(entries)]
+    given[0] = (0, one)
+    for number, place in places.items():
+        given[number] = (place, two)
+    started_table([7, 8], [1, 0])
+    new_index(CONTENTS + 500)
+    packets = 1024 * (entries - 1) + left
+    lay_out(packets, 65535 * packets, given)
+
+
+def entry_stands(number, place):
+    poke(4 + 4 * number, *index.two_words(place))
+
+
+def jumps_beside():
+    """An entry at each of the places, with the words from it on, from before it and from
+    behind it, and from far away."""
+    packets = packets_beside()
+    words_are(FRONT + together(packets))
+    contents_beside(67, 40, {65: HIGH - 3, 66: HIGH + 5})
+    for place in BESIDE_HIGH:
+        entry_stands(65, place)
+        for back, r in ((0, 0), (0, 1), (0, 2), (0, 3), (0, 33), (1, 1), (8, 3), (30, 0), (30, 9)):
+            jump(65 * 1024 + r, ACCEPTED, place - back, left_out=30 - back)
+        for r, left_out in ((0, 31), (1, 31), (0, 30), (3, 30)):
+            jump(65 * 1024 + r, PAGE, place + 1, left_out=left_out)
+        for first in (place ^ HIGH, place & 7, place + HIGH, 1 << 63, (1 << 64) - 1):
+            jump(65 * 1024 + 1, PAGE, first, left_out=30)
+    # The entry behind it, with words from below 2^32 and from 2^32 on.
+    for first in (HIGH - 25, HIGH - 3, HIGH - 1, HIGH, HIGH + 5):
+        for r in (0, 1, 40):
+            answer = PAGE if r == 40 else ACCEPTED
+            jump(66 * 1024 + r, answer, first, left_out=first - HIGH + 25)
+    jump(66 * 1024 + 41, PLACE, HIGH, left_out=25)
+    jump(66 * 1024, ROOM, HIGH, room=178, left_out=25)
+
+
+def cuts_beside():
+    """The same entry where the words end before it, at it and within the packets behind it, and
+    where one of these packets does not go on."""
+    packets = packets_beside()
+    ends = ends_of(packets)
+    contents_beside(67, 40, {65: HIGH - 3})
+    for cut in (0, 1, 2, 3, 7, 8):
+        words_are(FRONT + together(packets)[:cut])
+        for place in BESIDE_HIGH:
+            entry_stands(65, place)
+            for r in range(4) if place < HIGH else (0, 1, 3):
+                jump(65 * 1024 + r, ACCEPTED if ends[r] <= cut else PAGE, place, left_out=30)
+            if cut == 0:
+                jump(65 * 1024, ACCEPTED, place - 30, left_out=0)
+                jump(65 * 1024 + 1, PAGE, place - 30, left_out=0)
+                jump(65 * 1024, PAGE, place - 31, left_out=0)
+                jump(65 * 1024, PAGE, place - 1, left_out=30)
+    entry_stands(65, HIGH - 3)
+    for k, bad in enumerate(([0x60000002, 8], [0x60000001], [0x60000005, 8, 0, 0, 0])):
+        words_are(together([*packets[:k], bad, *packets[k + 1 :]]))
+        for r in (k, k + 1, 4):
+            jump(65 * 1024 + r, ACCEPTED if r <= k else PAGE, HIGH - 3, left_out=0)
+
+
+def jumps_far():
+    """Entries at places with other high words, those that are the most for their entries too."""
+    packets = packets_beside()
+    words_are(FRONT + together(packets))
+    places = {number: MOST_STEP * number for number in (65, 128, 1023)}
+    places[129] = 2 * HIGH + 5
+    contents_beside(1024, 1023, places)
+    for number, place in places.items():
+        for back, r in ((0, 0), (0, 20), (30, 3)):
+            jump(number * 1024 + r, ACCEPTED, place - back, left_out=30 - back)
+        jump(number * 1024, PAGE, place + 1, left_out=31)
+        for first in (place - HIGH, place & ONES, place + HIGH, place - HIGH - 20):
+            jump(number * 1024, PAGE, first, left_out=30)
+    # One word above the most that an entry may have.
+    entry_stands(1023, MOST_STEP * 1023 + 1)
+    jump(1023 * 1024, PAGE, MOST_STEP * 1023 + 1, left_out=30)
+
+
+def grown_beside(ends, k, place):
+    """Grows over a boundary that has an entry, which stands at the place behind k packets, and
+    jumps from there."""
+    started_table([7, 8], [1, 0])
+    reached = place - ends[k]
+    poke(0, 66, 66 * 1024 - k, *index.two_words(reached))
+    at(0)
+    grown_on()
+    if k > 1:
+        grow(k - 1, k - 1)
+        jump(66 * 1024, PLACE, reached, left_out=0)
+    grow(1, 1, alone=k % 2)
+    entry(66)
+    grow(15, 15, alone=1 - k % 2)
+    for r in (0, 1, 15):
+        jump(66 * 1024 + r, ACCEPTED, place, left_out=ends[k])
+    jump(66 * 1024 + 7, ACCEPTED, reached, left_out=0)
+    jump(66 * 1024 + 7, PAGE, place + 1, left_out=ends[k] + 1)
+    jump(66 * 1024 + 16, PLACE, place, left_out=ends[k])
+
+
+def growing_beside():
+    """Growing from just below 2^32 on, and past it."""
+    packets = recorded(1615, [7, 8], [1, 0], 40, chance=5)
+    ends = ends_of(packets)
+    contents_beside(66, 1023, {65: HIGH - 3})
+    words_are(together(packets))
+    for place in BESIDE_HIGH:
+        for k in (1, 6):
+            grown_beside(ends, k, place)
+    # The recording's words from below 2^32 on are long enough to pass it behind the entry.
+    grown_beside(ends, 2, HIGH - 20)
+    # One word short for the page: the place stays below 2^32, and then becomes it.
+    started_table([7, 8], [1, 0])
+    words_are([0x00000001])
+    new_index(CONTENTS + 35)
+    given = [(HIGH - 9 if number == 65 else 0, []) for number in range(66)]
+    lay_out(66 * 1024 - 1, HIGH - 1, given)
+    at(0)
+    grow(1, 0, ROOM)
+    longer(CONTENTS + 36)
+    grow(1, 1)
+    entry(66)
+    jump(66 * 1024, ACCEPTED, HIGH - 1, left_out=0)
+
+
+def reached_beside():
+    """The packets with which the place of the boundary reached may be 2^32 - 1 and 2^32, at the
+    least: 65,535 words each."""
+    contents_beside(65, 1, {})
+    words_are([0x00000001, 0x20000001, *short_packet(3, 8, 1)])
+    at(4)
+    for packets, place, good in (
+        (65537, HIGH - 1, True), (65537, HIGH, False), (65536, HIGH - 1, False),
+        (65538, HIGH, True), (65538, HIGH + 65534, True), (65538, HIGH + 65535, False),
+    ):
+        probe({1: packets, 2: place >> 32, 3: place & ONES}, good)
+    poke(1, 65537, 0, ONES)
+    at(0)
+    grow(1, 1)
+    grow(1, 1)
+    grow(2, 1, (EMPTY, 0, None), alone=1)
+    jump(65540, PAGE, HIGH - 1, left_out=0)
+    jump(65541, PLACE, HIGH - 1, left_out=0)
+
+
 def build():
     long_recordings()
     endings()
@@ -1598,6 +1816,11 @@ def build():
     other_lists()
     orders()
     random_indexes()
+    jumps_beside()
+    cuts_beside()
+    jumps_far()
+    growing_beside()
+    reached_beside()
 
 
 # Each answer, and the least number of its operations.
@@ -1680,12 +1903,28 @@ def check():
     fail("at the end of the words" not in cover.firsts, "no entry at the end of the words")
     fail(not WALKS <= cover.walks, f"jumping: {WALKS - cover.walks} not there")
     fail(not OTHERS <= cover.others, f"{OTHERS - cover.others} not there")
-    wanted = {1, 2, 130, 1023, ("high", True), ("high", False)}
+    check_beside()
+    wanted = {1, 2, 66, 130, 1023, ("high", True), ("high", False)}
     fail(not wanted <= cover.entries, f"entries {wanted - cover.entries} not made by growing")
-    fail(not {1, 2, 3, 130, 1024} <= cover.beside, "not each number of entries is jumped in")
+    fail(not {1, 2, 3, 67, 130, 1024} <= cover.beside, "not each number of entries is jumped in")
     fail(cover.held_to_play < 150, f"{cover.held_to_play} jumps are held to playing")
     fail(cover.grown > 40_000, f"{cover.grown} packets are taken in, more than 40,000")
     fail(cover.long_jumps > 150, f"{cover.long_jumps} long jumps, more than 150")
+
+
+def check_beside():
+    """Jumps from entries beside 2^32 and above it."""
+    wanted = {
+        *[(kind, place) for kind in ("at", "before", "end") for place in BESIDE_HIGH],
+        # The words begin one behind the entry, or end one before it.
+        *[(kind, place, 1) for kind in ("behind", "past") for place in BESIDE_HIGH],
+        *[("over", HIGH - 3, place) for place in (HIGH, HIGH + 5)],
+        "an entry over 2^32, the words from below it", "a packet that passes 2^32 does not go on",
+        ("past by 2^32", False), ("past by 2^32", True), ("most", 65), ("most", 1023),
+    }
+    fail(not wanted <= cover.high, f"{wanted - cover.high} not there")
+    n = cover.held_high
+    fail(n < 25, f"{n} jumps to places over 2^32 are held to playing")
 
 
 def check_rooms():
@@ -1713,7 +1952,7 @@ def main():
     given = b"".join(word.to_bytes(4, "big") for word in m.given)
     text = "".join(line + "\n" for line in m.lines)
     fail(len(given) > 900_000, f"the input has {len(given)} bytes, more than 900,000")
-    fail(not 400 <= len(m.lines) <= 3000, f"{len(m.lines)} lines")
+    fail(not 400 <= len(m.lines) <= 3500, f"{len(m.lines)} lines")
     with open(sys.argv[1], "wb") as file:
         file.write(given)
     with open(sys.argv[2], "w", encoding="ascii", newline="\n") as file:
@@ -1723,7 +1962,8 @@ def main():
     for name in index.RULES:
         print(f"rule {name}: {cover.rules[(name,)]} broken")
     print(f"packets taken in {cover.grown}")
-    print(f"long jumps {cover.long_jumps}, held to playing {cover.held_to_play}")
+    print(f"long jumps {cover.long_jumps}, held to playing {cover.held_to_play}", end="")
+    print(f", of these at places over 2^32 {cover.held_high}")
     print(f"operations {len(m.lines)}")
 
 

@@ -291,7 +291,7 @@ def unpack(first, second, n, words, rooms):
 
 
 # The order of the items.  C-12: "the numbering from an item to time, channel,
-# component and repeat and back".  The refusals of both calls are the team's own:
+# component and repeat and back".  The refusals of both calls are this project's own:
 # FORMAT, COUNT, and VALUE for an item or a coordinate that n items do not reach.
 
 # Up to so many items are listed.

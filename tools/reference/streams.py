@@ -2,7 +2,7 @@
 counted, a table of it alone, and which held fields two streams do not share.
 
 It is written from document 01 and from nothing else but the rules of these calls,
-which are the team's own and stand with each.  Tables and their words are those of
+which are this project's own and stand with each.  Tables and their words are those of
 table.py.  The sentences in quotation marks are document 01's own.
 """
 

@@ -248,6 +248,22 @@ class Grow(unittest.TestCase):
         self.assertEqual(answer, ("heard", 2, 1, 0, 0))
         self.assertEqual(behind[:4], [1024, 1048575, 1, 1])
 
+    def test_high_places(self):
+        # "with its word place": behind 67,584 packets it may need a second word
+        lent = started(7)
+        for reached, size, high, low in (
+            (ONES - 1, 1, 0, ONES), (ONES, 1, 1, 0), (ONES - 1, 2, 1, 0), (ONES - 3, 9, 1, 5),
+            (ONES + 6, 1, 1, 6),
+        ):
+            words = [size] + [0] * (size - 1)
+            for packets, entries in ((67582, 66), (67583, 67)):
+                found = by_hand(66, packets, reached, [(0, 4100, 0)] * 66, 4119)
+                answer, _, behind = index.grow(lent, words, found)
+                self.assertEqual(answer, ("undeclared", size, 0))
+                self.assertEqual(behind[:4], [entries, packets + 1, high, low])
+                entry = [high, low, 4100, 19] if entries == 67 else [PATTERN] * 4
+                self.assertEqual(behind[268:272], entry)
+
     def test_order(self):
         # "growing TABLE, PAGE for contents, reading refusals, ROOM"
         right, wrong = started(7), started(7)
@@ -371,6 +387,40 @@ class Jump(unittest.TestCase):
         # A place just at the end of the words, and one past it.
         self.assertEqual(index.jump(recording[:3], 0, found, 1024, lent)[0], ("jumped", 90, 3))
         self.assertEqual(index.jump(recording[:2], 0, found, 1024, lent)[0], ("refused", PAGE))
+
+    def test_high_places(self):
+        # The words of a recording from a place of two words on: packets of 2, 4 and 1 words.
+        words = DATA + STRANGE + NAMELESS
+        lent = [PATTERN] * 90
+        for place, behind in (
+            (0xFFFFFFFD, (0xFFFFFFFD, 0xFFFFFFFF, 0x100000003, 0x100000004)),
+            (0xFFFFFFFF, (0xFFFFFFFF, 0x100000001, 0x100000005, 0x100000006)),
+            (0x100000000, (0x100000000, 0x100000002, 0x100000006, 0x100000007)),
+            (0x100000005, (0x100000005, 0x100000007, 0x10000000B, 0x10000000C)),
+        ):
+            given = [(0, 4100, 0)] * 65 + [(place, 4100, 19)]
+            found = by_hand(66, 66600, 0, given, 4119)
+            found[4100:] = page.page_of(table.table_of(started(7)))
+            for r in range(4):
+                for before in (0, 9):
+                    handed, first = [ONES] * before + words, place - before
+                    answer, after = index.jump(handed, first, found, 66560 + r, lent)
+                    self.assertEqual(answer, ("jumped", 90, behind[r]))
+                    played = started(7) if r == 0 else table.play_lent(started(7), DATA)[1]
+                    self.assertEqual(after, played)
+                for first in (place + 1, place - 0x100000000, place + 0x100000000, place & 7):
+                    if first >= 0:
+                        answer = index.jump(words, first, found, 66560 + r, lent)
+                        self.assertEqual(answer, (("refused", PAGE), lent))
+            # The words end at the entry, one before it, and one before the last packet's end.
+            for given_words, first, r, right in (
+                ([ONES] * 9, place - 9, 0, ("jumped", 90, place)),
+                ([ONES] * 8, place - 9, 0, ("refused", PAGE)),
+                (words[:-1], place, 2, ("jumped", 90, behind[2])),
+                (words[:-1], place, 3, ("refused", PAGE)),
+                (words[:5], place, 2, ("refused", PAGE)),
+            ):
+                self.assertEqual(index.jump(given_words, first, found, 66560 + r, lent)[0], right)
 
     def test_order(self):
         # "jumping PAGE for contents, PLACE, PAGE for the entry, ROOM"

@@ -72,7 +72,14 @@ fn grown_by(g: Growth, packet: Taken, n: usize) -> Growth {
         Taken::Undeclared(p) => Growth {
             taken,
             undeclared: std::num::wrapping_add_u32(g.undeclared, 1),
-            answers: fold_five(g.answers, 11, p.size as u64, p.place as u64, 0, 0),
+            answers: fold_five(
+                g.answers,
+                words::STREAM as u64,
+                p.size as u64,
+                p.place as u64,
+                0,
+                0,
+            ),
             at: behind(g.at, p.size, n),
             ..g
         },
@@ -85,8 +92,8 @@ fn ended_by(g: Growth, r: Refusal) -> Growth {
     Growth {
         goes_on: false,
         number: r.number,
-        place: words::inner::word_of(place),
-        bit: words::inner::bit_of(place),
+        place: words::inner::place_word(place),
+        bit: words::inner::place_bit(place),
         ..g
     }
 }
