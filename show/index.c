@@ -8,12 +8,32 @@
 
 /* ---- the index as it is found */
 
+/* What is said where its list is not the recording's. */
+#define OF_ANOTHER "it is the index of another recording: "
+
+void refuse_index(const index_file *kept, const char *why)
+{
+    end_progress();
+    fprintf(stderr, "vrtshow: %s: refused %d %s: %s\n", kept->path, VRT49_PAGE,
+            vrt49_name(VRT49_PAGE), why);
+    exit(TROUBLE);
+}
+
 /* Says that the file has no index, and ends. */
 static void no_index(const index_file *kept)
 {
-    fprintf(stderr, "vrtshow: %s: refused %d %s: it is no index, or a damaged one: not written "
-            "over\n", kept->path, VRT49_PAGE, vrt49_name(VRT49_PAGE));
-    exit(TROUBLE);
+    refuse_index(kept, "it is no index, or a damaged one: not written over");
+}
+
+void check_inside(const index_file *kept, const recording *from, uint64_t place)
+{
+    char why[WHY_ROOM];
+    if (kept->front + place <= from->size / 4)
+        return;
+    snprintf(why, sizeof why, "it has taken in more than the recording has: it goes to word "
+             "%" PRIu64 ", and the recording has %" PRIu64 " words", kept->front + place,
+             from->size / 4);
+    refuse_index(kept, why);
 }
 
 /* Whether the words are an index, and nothing stands behind it: a jump to packet 0 plays nothing,
@@ -26,8 +46,44 @@ static int is_index(const index_file *kept, size_t words_n, uint32_t *table, siz
            vrt49_index_words(kept->words) == words_n;
 }
 
+/* Holds a stream of an entry's table to that of the recording. */
+static void check_stream(const index_file *kept, uint64_t entry, const survey *all, size_t s,
+                         uint32_t identifier, uint32_t choice)
+{
+    const stream *of = &all->streams[s];
+    int is_survey = choice == VRT49_SURVEY;
+    char why[WHY_ROOM];
+    if (identifier == of->identifier && choice == of->choice)
+        return;
+    if (identifier != of->identifier)
+        snprintf(why, sizeof why, OF_ANOTHER "its entry %s has 0x%08" PRIX32 " as stream %d, and "
+                 "the list has 0x%08" PRIX32, grouped(entry), identifier, (int)s, of->identifier);
+    else
+        snprintf(why, sizeof why, "it was grown with another choice of 49A: its entry %s has "
+                 "stream %d (0x%08" PRIX32 ") as %s, and --survey %s it", grouped(entry), (int)s,
+                 identifier, is_survey ? "49A" : "plain", is_survey ? "does not name" : "names");
+    refuse_index(kept, why);
+}
+
+void check_streams(const index_file *kept, uint64_t entry, const uint32_t *table, size_t length,
+                   const survey *all)
+{
+    uint32_t identifier, choice, held;
+    char why[WHY_ROOM];
+    size_t s;
+    if (length != all->layout) {
+        snprintf(why, sizeof why, OF_ANOTHER "its entry %s has %" PRIu32 " streams, and the list "
+                 "has %" PRIu32, grouped(entry), table[0], all->streams_n);
+        refuse_index(kept, why);
+    }
+    for (s = 0; s < all->streams_n; s++) {
+        accepted(vrt49_identity(table, length, s, &identifier, &choice, &held), "vrt49_identity");
+        check_stream(kept, entry, all, s, identifier, choice);
+    }
+}
+
 /* Holds an index that was found to the recording: it was started with the same list and the same
-   choices, and has taken in no more than there is. */
+   choices, before any packet, and has taken in no more than there is. */
 static void check_index(const index_file *kept, size_t words_n, const survey *all,
                         const recording *from)
 {
@@ -35,11 +91,11 @@ static void check_index(const index_file *kept, size_t words_n, const survey *al
     size_t length;
     if (!is_index(kept, words_n, table, &length))
         no_index(kept);
-    if (length != all->layout || memcmp(table, all->table, length * sizeof table[0]) != 0)
-        wrong_file(kept->path, "is the index of another recording: its list, or its choice of 49A, "
-                               "is not this one's");
-    if (kept->front + vrt49_index_reached(kept->words) > from->size / 4)
-        wrong_file(kept->path, "has taken in more than the recording has");
+    check_streams(kept, 0, table, length, all);
+    if (memcmp(table, all->table, length * sizeof table[0]) != 0)
+        refuse_index(kept, "it was not started with a fresh table: that of its entry 0 has counted "
+                           "packets already");
+    check_inside(kept, from, vrt49_index_reached(kept->words));
 }
 
 void take_index(index_file *kept, const survey *all, const recording *from)
@@ -66,20 +122,25 @@ static int is_waiting(const recording *from, uint32_t refusal)
     return !from->ended && !from->failed && (number == VRT49_EMPTY || number == VRT49_CUT);
 }
 
-/* Takes packets in until one is refused: gives the refusal, EMPTY at the recording's end. */
+/* Takes packets in until one is refused: gives the refusal, EMPTY at the recording's end. With the
+   first of them it is known that the file will be written, and it is seen that it can be. */
 static uint32_t take_packets(index_file *kept, survey *all, recording *from)
 {
+    uint64_t before = vrt49_index_packets(kept->words);
     vrt49_entry entry;
     uint32_t refusal;
     do {
         refusal = vrt49_grow_entry(all->table, all->layout, from->words + from->at,
                                    from->have - from->at, kept->words, INDEX_ROOM, &entry);
-        if (refusal == VRT49_OK)
+        if (refusal == VRT49_OK) {
             from->at += entry.size;
-        else if (is_waiting(from, refusal))
+            if (vrt49_index_packets(kept->words) == before + 1)
+                try_store(kept->path);
+        } else if (is_waiting(from, refusal)) {
             refill(from);
-        else
+        } else {
             return refusal;
+        }
     } while (!from->failed);
     return VRT49_OK;
 }

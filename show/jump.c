@@ -1,6 +1,8 @@
 /* jump.c: the table just before a packet. Packets are numbered as vrt49_play_run goes on over them:
    one of no declared stream has a number, and any other refusal ends the recording. */
+#include <inttypes.h>
 #include <stdlib.h>
+#include <string.h>
 
 #include "vrtshow.h"
 
@@ -50,31 +52,53 @@ static size_t span_of(const index_file *kept, uint64_t n)
     return (size_t)(there < most ? there : most);
 }
 
-/* Says why a jump was refused, and ends. */
-static void not_reached(const index_file *kept, uint32_t number, uint64_t n)
+/* What it may be where a jump does not land as it should. */
+#define DAMAGED ": it is damaged, or the recording is not the one that it was grown over"
+
+/* Says that a jump to packet n was refused, and ends: n was taken in and the table is long enough,
+   so it is by PAGE, of the entry. */
+static void not_reached(const index_file *kept, uint64_t n)
 {
-    end_progress();
-    fprintf(stderr, "vrtshow: %s: refused %u %s: its entry %s is damaged, or the recording is not "
-            "the one that it was grown over\n", kept->path, (unsigned)number, vrt49_name(number),
-            grouped(n / VRT49_INDEX_SPACING));
-    exit(TROUBLE);
+    char why[WHY_ROOM];
+    snprintf(why, sizeof why, "packet %" PRIu64 " is not reached from its entry %s" DAMAGED, n,
+             grouped(n / VRT49_INDEX_SPACING));
+    refuse_index(kept, why);
+}
+
+/* Holds the place where a jump to packet n landed to the one that the index has reached, where n is
+   the packets taken in: the next packet that is taken in is noted at that place. */
+static void check_place(const index_file *kept, uint64_t n, uint64_t place)
+{
+    uint64_t reached = vrt49_index_reached(kept->words);
+    char why[WHY_ROOM];
+    if (n != vrt49_index_packets(kept->words) || place == reached)
+        return;
+    snprintf(why, sizeof why, "packet %" PRIu64 " is at word %" PRIu64 " from its entry %s on, and "
+             "at word %" PRIu64 " by its words 2 and 3" DAMAGED, n, kept->front + place,
+             grouped(n / VRT49_INDEX_SPACING), kept->front + reached);
+    refuse_index(kept, why);
 }
 
 uint64_t jump_to(const index_file *kept, survey *all, recording *from, uint64_t n)
 {
+    uint32_t table[VRT49_TABLE_WORDS(VRT49_STREAMS_MAX)], number;
     uint64_t first = vrt49_index_from(kept->words, n), place = 0;
-    size_t span = span_of(kept, n), have;
-    uint32_t *words = span != 0 ? malloc(span * sizeof *words) : NULL, number;
+    size_t span = span_of(kept, n), have, length = 0;
+    uint32_t *words = span != 0 ? malloc(span * sizeof *words) : NULL;
     if (span != 0 && !words)
         trouble(kept->path, "no memory for the packets of a jump");
-    if (kept->front + first > from->size / 4)
-        wrong_file(kept->path, "has taken in more than the recording has");
+    check_inside(kept, from, first);
     have = read_words(from, kept->front + first, words, span);
-    number = vrt49_jump(words, have, first, kept->words, vrt49_index_words(kept->words), n,
-                        all->table, VRT49_TABLE_WORDS(VRT49_STREAMS_MAX), &all->layout, &place);
+    number = vrt49_jump(words, have, first, kept->words, vrt49_index_words(kept->words), n, table,
+                        VRT49_TABLE_WORDS(VRT49_STREAMS_MAX), &length, &place);
     free(words);
-    if (number != VRT49_OK && !from->failed)
-        not_reached(kept, number, n);
+    if (from->failed)
+        return kept->front;
+    if (number != VRT49_OK)
+        not_reached(kept, n);
+    check_streams(kept, n / VRT49_INDEX_SPACING, table, length, all);
+    check_place(kept, n, place);
+    memcpy(all->table, table, length * sizeof table[0]);
     all->packets = n;
     take_streams(all);
     return kept->front + place;

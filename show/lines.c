@@ -33,7 +33,7 @@ static const struct {
     {VRT49_BIT_TIMESTAMP_CALIBRATION_TIME, "timestamp calibration time"},
     {VRT49_BIT_DEVICE, "device"},
     {VRT49_BIT_STATE, "state"},
-    {VRT49_BIT_FORMAT, "payload format"},
+    {VRT49_BIT_FORMAT, "format"},
     {VRT49_BIT_GPS_GEOLOCATION, "GPS geolocation"},
     {VRT49_BIT_INS_GEOLOCATION, "INS geolocation"},
     {VRT49_BIT_ECEF_EPHEMERIS, "ECEF ephemeris"},

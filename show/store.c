@@ -23,15 +23,19 @@ static long words_of(FILE *file, uint32_t *into, size_t most)
 long load_words(const char *path, uint32_t *into, size_t most)
 {
     struct stat there;
+    int found = stat(path, &there) == 0;
     FILE *file;
     long n;
-    if (stat(path, &there) != 0 && errno == ENOENT)
+    if (!found && errno == ENOENT) {
+        if (lstat(path, &there) == 0)
+            wrong_file(path, "is a link to a file that is not there: give that file's name");
         return -1;
+    }
+    if (found && !S_ISREG(there.st_mode)) /* not opened: a pipe would wait for its other end */
+        wrong_file(path, "is not a regular file");
     file = fopen(path, "rb");
     if (!file)
         trouble(path, "cannot be read");
-    if (fstat(fileno(file), &there) != 0 || !S_ISREG(there.st_mode))
-        wrong_file(path, "is not a regular file");
     n = words_of(file, into, most);
     if (ferror(file))
         trouble(path, "cannot be read");
@@ -84,10 +88,26 @@ static FILE *open_beside(const char *path, char *beside, size_t room)
     return NULL;
 }
 
+/* The file that a path leads to: a link stays one. */
+static const char *real_of(const char *path, char *whole)
+{
+    return realpath(path, whole) ? whole : path;
+}
+
+void try_store(const char *path)
+{
+    char whole[PATH_MAX], beside[PATH_MAX + 8];
+    FILE *file = open_beside(real_of(path, whole), beside, sizeof beside);
+    if (!file)
+        trouble(path, "cannot be written");
+    fclose(file);
+    unlink(beside);
+}
+
 void store_words(const char *path, const uint32_t *words, size_t n)
 {
     char whole[PATH_MAX], beside[PATH_MAX + 8];
-    const char *real = realpath(path, whole) ? whole : path; /* a link stays one */
+    const char *real = real_of(path, whole);
     FILE *file = open_beside(real, beside, sizeof beside);
     int good, why;
     if (!file)

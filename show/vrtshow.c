@@ -39,7 +39,8 @@ static const char USAGE[] =
     "\n"
     "In lines ~ stands before a frequency that is rounded, to a millihertz.\n"
     "Exit status: 0 played to its end, or to packet N; 1 ended by a refusal before that (STREAM\n"
-    "does not end it); 2 wrong use, or a file that cannot be read or written.\n";
+    "does not end it), or, with --index alone, a full index; 2 wrong use, or a file that cannot be\n"
+    "read or written.\n";
 
 enum { LARGE = 1 << 26 }; /* bytes of a recording whose progress is shown */
 

@@ -271,6 +271,18 @@ typedef struct {
    the file has no index, or not one of this recording's list, it says so, and ends. */
 void take_index(index_file *kept, const survey *all, const recording *from);
 
+/* Says why the index is refused, by PAGE, and ends; it takes so many characters at most. */
+enum { WHY_ROOM = 256 };
+void refuse_index(const index_file *kept, const char *why);
+
+/* Ends where a word place of the index is behind the recording's last word, and says so. */
+void check_inside(const index_file *kept, const recording *from, uint64_t place);
+
+/* Holds the table of an entry to the survey's streams: where it has not as many, or another
+   identifier or choice of one, it says so, and ends. */
+void check_streams(const index_file *kept, uint64_t entry, const uint32_t *table, size_t length,
+                   const survey *all);
+
 /* Takes in what the recording has behind the packets that were taken in, and writes the file. The
    survey has the table behind them then, and the recording goes on there. */
 void grow_index(index_file *kept, survey *all, recording *from);
@@ -285,8 +297,12 @@ void tell_index(const index_file *kept, const recording *from);
 /* ---- files of words, big-endian */
 
 /* Reads the words of a regular file: gives how many. -1: there is none; -2: it has no whole words,
-   or more than so many. Where it cannot be read it says so, and ends. */
+   or more than so many. Where it cannot be read, or is a link to no file, it says so, and ends. */
 long load_words(const char *path, uint32_t *into, size_t most);
+
+/* Sees that a file can be made beside it, and leaves none. Where it cannot be made it says so, and
+   ends. */
+void try_store(const char *path);
 
 /* Writes words into a file beside it, which takes its place when it is whole. */
 void store_words(const char *path, const uint32_t *words, size_t n);

@@ -88,7 +88,7 @@ VALUES = {
 TUNING = {29, 28, 27, 26, 25, 24, 23, 21}
 OTHERS = {
     30: "reference point", 20: "timestamp adjustment", 19: "timestamp calibration time",
-    17: "device", 16: "state", 15: "payload format", 14: "GPS geolocation",
+    17: "device", 16: "state", 15: "format", 14: "GPS geolocation",
     13: "INS geolocation", 12: "ECEF ephemeris", 11: "relative ephemeris",
     10: "ephemeris reference",
 }
@@ -899,13 +899,14 @@ class Walk:
         self.packets, self.end, self.tail = len(self.places) - 1, at, len(data) % 4
         self.tables[self.packets] = self.table
 
-    def index(self):
-        """The words of its index: contents, of which those that are not used are 0, and pages."""
+    def index(self, others={}):
+        """The words of its index: contents, of which those that are not used are 0, and pages;
+        others: tables that stand in place of those just before some packets."""
         entries = range(0, self.packets + 1, EVERY)
         made = [len(entries), self.packets, *index.two_words(self.places[-1] - self.front)]
         pages = []
         for number in entries:
-            saved = page.page_of(self.tables[number])
+            saved = page.page_of(others.get(number, self.tables[number]))
             place = index.two_words(self.places[number] - self.front)
             made += [*place, index.CONTENTS_WORDS + len(pages), len(saved)]
             pages += saved
@@ -1838,131 +1839,277 @@ def tables():
     hold_tables("49A, not chosen", data, [0, 1, 2], orders=("big",))
 
 
-def indexes():
-    """The file of an index: made, gone on with, left alone, and what is said of others."""
-    data = make_survey.survey(2600, 3, 41, 12, 2, loss=0.02, sparing=1)
-    words = vrtplay.words_of(data)
-    whole = Walk(data)
-    # a recording that grows, cut at packets, inside words and inside packets
-    kept, path = fresh(), Path(folder.name, "growing")
+class Beside:
+    """A recording of 2,600 packets, and the file of an index beside it; the bytes of a good index,
+    and of one that has taken in 1,500 packets."""
+
+    def __init__(self):
+        self.data = make_survey.survey(2600, 3, 41, 12, 2, loss=0.02, sparing=1)
+        self.words, self.whole = vrtplay.words_of(self.data), Walk(self.data)
+        self.path, self.kept = file_of(self.data, "growing"), fresh()
+        self.good = to_bytes(self.whole.index())
+        self.short = to_bytes(self.until(1500).index())
+
+    def until(self, packets):
+        return Walk(self.data[: 4 * self.whole.places[packets]])
+
+    def put(self, content):
+        self.kept.write_bytes(content)
+        return content
+
+    def serves(self, what, *numbers):
+        """The tables just before packets are those of the recording."""
+        for number in numbers:
+            arguments = ["--index", self.kept, self.path]
+            hold_table(f"{what}, --at {number}", self.whole, number, arguments, self.path)
+
+    def refuses(self, what, text, *arguments):
+        """The index is refused, and its file is left as it is."""
+        before, done = self.kept.read_bytes(), run("--index", self.kept, *arguments)
+        says(f"{what} {arguments}", done, [], [f"vrtshow: {self.kept}: refused 19 PAGE: {text}"], 2)
+        if self.kept.read_bytes() != before:
+            differs(what, "it is written over")
+        alone(what, self.kept)
+
+    def refuses_all(self, what, content, text, *more, name=None):
+        """It is refused whatever is asked for."""
+        self.put(content)
+        for asked in ([], ["--at", 2100], ["--at", 3]):
+            self.refuses(what, text, *asked, *more, name or self.path)
+
+
+NO_INDEX = "it is no index, or a damaged one: not written over"
+DAMAGED = "it is damaged, or the recording is not the one that it was grown over"
+
+
+def more_than(word, words):
+    """What is said of an index that goes to a word, where the recording has so many words."""
+    longer = "it has taken in more than the recording has"
+    return f"{longer}: it goes to word {word}, and the recording has {words} words"
+
+
+def index_grown(beside):
+    """A recording that grows, cut at packets, inside words and inside packets; packets of every
+    length, more of them than are read at once; packets in reach and out of it."""
+    whole, path, kept = beside.whole, beside.path, beside.kept
     cuts = [0, 1, 700, 1023, 1024, 1025, 1999, 2047, 2048, 2049, 2600]
     for number, extra in [(at, by) for at in cuts for by in (0, 3, 4)]:
-        path.write_bytes(data[: 4 * whole.places[number] + extra])
+        path.write_bytes(beside.data[: 4 * whole.places[number] + extra])
         walk, done = Walk(path.read_bytes()), run("--index", kept, path)
-        errors = [f"vrtshow: {path}: stopped at word {walk.end}: {walk.refused.why()}"] if walk.refused else []
+        stopped = walk.refused and f"vrtshow: {path}: stopped at word {walk.end}: {walk.refused.why()}"
+        errors = [stopped] if stopped else []
         says(f"grown to {number}, {extra}", done, [walk.index_line()], errors, bool(errors))
         hold_index(f"grown to {number}, {extra}", walk, kept)
-    # packets of every length, more of them than are read at once
     sizes = [65535, 3, 65534, 2, 40000, 65535, 65535, 65535, 65535, 1000, 65535]
     long = [packet(1, [i] * (size - 2), identifier=7, count=i % 16) for i, size in enumerate(sizes)]
     hold_tables("long packets", recording_of([7], *long), [11, 10, 5, 0], orders=("big",))
     # one whose index does not reach the packet goes on, and one that does stays
-    kept = fresh()
-    path.write_bytes(data[: 4 * whole.places[1500]])
-    run("--index", kept, path)
-    short = kept.read_bytes()
-    path.write_bytes(data)
-    hold_table("in reach", whole, 1024, ["--index", kept, path], path)
-    if kept.read_bytes() != short:
+    path.write_bytes(beside.data)
+    beside.put(beside.short)
+    beside.serves("in reach", 1024)
+    if kept.read_bytes() != beside.short:
         differs("in reach", "the index is written")
-    hold_table("out of reach", whole, 2048, ["--index", kept, path], path)
+    beside.serves("out of reach", 2048)
     hold_index("out of reach", whole, kept)
-    good = kept.read_bytes()
-    # by a link, which stays one; with the rights that it had
-    link = fresh("link")
+    # a new one has all packets, also where it is asked for packet 0
+    kept.unlink()
+    beside.serves("new", 0)
+    hold_index("new", whole, kept)
+
+
+def index_links(beside):
+    """By a link, which stays one, with the rights that the file had; by a link to no file, which
+    stays one too; on a disk that is full, which leaves the old one."""
+    path, kept, link, nowhere = beside.path, beside.kept, fresh("link"), fresh("nowhere")
     link.symlink_to(kept)
-    kept.write_bytes(short)
+    beside.put(beside.short)
     kept.chmod(0o640)
-    says("a link", run("--index", link, path), [whole.index_line()])
-    hold_index("a link", whole, kept)
+    says("a link", run("--index", link, path), [beside.whole.index_line()])
+    hold_index("a link", beside.whole, kept)
     if not link.is_symlink() or kept.stat().st_mode & 0o777 != 0o640:
         differs("a link", "it is none any more, or its file has other rights")
-
-    def left(what, content, text, *more, name=path):
-        kept.write_bytes(content)
-        for asked in ([], ["--at", 2100], ["--at", 3]):
-            done = run(*asked, "--index", kept, *more, name)
-            says(f"{what} {asked}", done, [], [f"vrtshow: {text}"], 2)
-            if kept.read_bytes() != content:
-                differs(what, "it is written over")
-            alone(what, kept)
-
-    # a disk that is full leaves the old one
-    kept.write_bytes(short)
-    command = [*COMMAND, "--index", str(kept), str(path)]
+    for lead in (nowhere, nowhere.name, "no folder/nowhere"):
+        fresh("link").symlink_to(lead)
+        error = f"vrtshow: {link}: is a link to a file that is not there: give that file's name"
+        for asked in ([], ["--at", 3]):
+            says(f"a link to no file, {lead}", run(*asked, "--index", link, path), [], [error], 2)
+        if not link.is_symlink() or nowhere.exists():
+            differs(f"a link to no file, {lead}", "it is none any more, or its file was made")
+    beside.put(beside.short)
     least = (resource.RLIMIT_FSIZE, (8192, 8192))
     done = subprocess.run(
-        command, capture_output=True, restore_signals=False,
+        [*COMMAND, "--index", str(kept), str(path)], capture_output=True, restore_signals=False,
         preexec_fn=lambda: resource.setrlimit(*least),
     )
     says("a full disk", done, [], [f"vrtshow: {kept}: cannot be written: File too large"], 2)
     alone("a full disk", kept)
-    if kept.read_bytes() != short:
+    if kept.read_bytes() != beside.short:
         differs("a full disk", "the old index is not there any more")
 
-    # what is no index, and damaged contents
-    no_index = f"{kept}: refused 19 PAGE: it is no index, or a damaged one: not written over"
+
+def index_damaged(beside):
+    """What is no index, and damaged contents; an entry that is damaged: it alone is not served."""
+    good = beside.good
     for what, content in (
-        ("nothing", b""), ("a text", b"text"), ("the recording's words", data), ("zeros", bytes(20000)),
-        ("a byte too few", good[:-1]), ("a word too few", good[:-4]), ("a word more", good + bytes(4)),
-        ("a byte more", good + b"1"), ("no page", good[: 4 * 4100]), ("contents cut", good[: 4 * 4099]),
+        ("nothing", b""), ("a text", b"text"), ("the recording's words", beside.data),
+        ("zeros", bytes(20000)), ("a byte too few", good[:-1]), ("a word too few", good[:-4]),
+        ("a word more", good + bytes(4)), ("a byte more", good + b"1"),
+        ("no page", good[: 4 * 4100]), ("contents cut", good[: 4 * 4099]),
         ("the other order", little(good)), ("too long", good + bytes(12_000_000)),
     ):
-        left(what, content, no_index)
-    for place in (0, 1, 4, 5, 6, 7, 10, 11, 14, 15, 4100, 4101):
+        beside.refuses_all(what, content, NO_INDEX)
+    for place in (0, 1, 2, 4, 5, 6, 7, 10, 11, 14, 15, 4100, 4101):
         bent = bytearray(good)
         bent[4 * place + 3] ^= 0xFF if place == 1 else 1
         bent[4 * place + 2] ^= 0x08 if place == 1 else 0
-        left(f"word {place} bent", bytes(bent), no_index)
-    # an entry that is damaged: it alone is not served
+        beside.refuses_all(f"word {place} bent", bytes(bent), NO_INDEX)
     bent = bytearray(good)
-    offset = whole.index()[4 + 4 + 2]
-    bent[4 * offset + 3] ^= 0x40
-    kept.write_bytes(bytes(bent))
-    entry = f"vrtshow: {kept}: refused 19 PAGE: its entry 1 is damaged, or the recording is not the one that it was grown over"
+    bent[4 * beside.whole.index()[4 + 4 + 2] + 3] ^= 0x40
+    beside.put(bytes(bent))
     for number in (1024, 1025, 2047):
-        says(f"a damaged page, {number}", run("--at", number, "--index", kept, path), [], [entry], 2)
-    for number in (0, 1023, 2048, 2600):
-        hold_table(f"beside a damaged page, {number}", whole, number, ["--index", kept, path], path)
-    # places that do not lie in the recording, or are those of other packets
-    for what, place, value, numbers in (
-        ("a place too far", 9, 0x3FFF000, (1024, 1500)), ("a place inside a packet", 9, words[0], (1500,)),
+        text = f"packet {number} is not reached from its entry 1: {DAMAGED}"
+        beside.refuses("a damaged page", text, "--at", number, beside.path)
+    beside.serves("beside a damaged page", 0, 1023, 2048, 2600)
+
+
+def index_places(beside):
+    """Places that do not lie in the recording, or are those of other packets: that of an entry, and
+    the one reached, words 2 and 3, before the recording has grown and after it."""
+    whole, path = beside.whole, beside.path
+
+    def bent_by(content, place, by):
+        bent = vrtplay.words_of(content)
+        bent[place] += by
+        return beside.put(to_bytes(bent))
+
+    bent_by(beside.good, 9, 0x3000000)
+    for number in (1024, 1500):
+        text = more_than(whole.places[1024] + 0x3000000, whole.end)
+        beside.refuses("a place too far", text, "--at", number, path)
+    bent_by(beside.good, 9, whole.front + 3 - whole.places[1024])
+    text = f"packet 1500 is not reached from its entry 1: {DAMAGED}"
+    beside.refuses("a place inside a packet", text, "--at", 1500, path)
+    beside.refuses_all("word 3 too high", bent_by(beside.good, 3, 1), more_than(whole.end + 1, whole.end))
+    bent_by(beside.good, 3, -1)
+    text = f"packet 2600 is not reached from its entry 2: {DAMAGED}"
+    for asked in ([], ["--at", 2600], ["--at", 2601]):
+        beside.refuses("word 3 too low", text, *asked, path)
+    for packets in (1, 1024, 1500, 2048):
+        walk = beside.until(packets)
+        at = f"packet {packets} is at word {walk.end} from its entry {packets // EVERY} on"
+        for by in (1, 7) if packets % EVERY else (1, 7, -1):
+            bent_by(to_bytes(walk.index()), 3, by)
+            text = f"{at}, and at word {walk.end + by} by its words 2 and 3: {DAMAGED}"
+            for asked in ([], ["--at", packets + 1], ["--at", packets]):
+                beside.refuses(f"word 3 off by {by}", text, *asked, path)
+            beside.serves(f"word 3 off by {by} at {packets}", packets - 1)
+
+
+OF_ANOTHER = "it is the index of another recording: its entry"
+OTHER_CHOICE = "it was grown with another choice of 49A: its entry"
+
+
+def index_of_another(beside):
+    """Of another list, of another choice, of a longer recording, and started behind other packets:
+    these are counted, and fields are held or not."""
+    data, good, whole = beside.data, beside.good, beside.whole
+    first, second, third = (f"0x{word:08X}" for word in beside.words[1:4])
+    swapped = file_of(to_bytes([3, *beside.words[3:0:-1]]) + data[16:], "other")
+    text = f"{OF_ANOTHER} 0 has {first} as stream 0, and the list has {third}"
+    beside.refuses_all("another order of the list", good, text, name=swapped)
+    two = file_of(to_bytes([2, *beside.words[1:3]]) + data[16:], "other")
+    text = f"{OF_ANOTHER} 0 has 3 streams, and the list has 2"
+    beside.refuses_all("two of its streams", good, text, name=two)
+    text = f"{OTHER_CHOICE} 0 has stream 1 ({second}) as plain, and --survey names it"
+    beside.refuses_all("another choice", good, text, "--survey", second)
+    chosen = copy.deepcopy(whole.tables[0])
+    chosen[1]["choice"] = 1
+    text = f"{OTHER_CHOICE} 0 has stream 1 ({second}) as 49A, and --survey does not name it"
+    beside.refuses_all("no choice", to_bytes(whole.index({0: chosen})), text)
+    for what, cut in (("a recording that is cut", data[:-4]), ("a list alone", data[:16])):
+        text = more_than(whole.end, len(cut) // 4)
+        beside.refuses_all(what, good, text, name=file_of(cut, "other"))
+    text = "it was not started with a fresh table: that of its entry 0 has counted packets already"
+    for taken in (("counts",), ("counts", "held")):
+        found = copy.deepcopy(whole.tables[0])
+        found[1].update((what, whole.tables[700][1][what]) for what in taken)
+        beside.refuses_all(f"not fresh, {taken}", to_bytes(whole.index({0: found})), text)
+
+
+def index_entries(beside):
+    """A later entry with another list, or another choice: what lies behind the others is served."""
+    first, second, third = (f"0x{word:08X}" for word in beside.words[1:4])
+    for what, bend, text in (
+        ("fewer streams", lambda found: found.pop(), "2 streams, and the list has 3"),
+        (
+            "more streams", lambda found: found.append(dict(found[0], identifier=1)),
+            "4 streams, and the list has 3",
+        ),
+        (
+            "another identifier", lambda found: found[1].update(identifier=99),
+            f"0x00000063 as stream 1, and the list has {second}",
+        ),
+        (
+            "another order", lambda found: found.reverse(),
+            f"{third} as stream 0, and the list has {first}",
+        ),
+        (
+            "another choice", lambda found: found[2].update(choice=1),
+            f"stream 2 ({third}) as 49A, and --survey does not name it",
+        ),
     ):
-        bent = bytearray(good)
-        bent[4 * place : 4 * place + 4] = value.to_bytes(4, "big")
-        kept.write_bytes(bytes(bent))
-        for number in numbers:
-            done = run("--at", number, "--index", kept, path)
-            if done.returncode != 2 or done.stdout or b"vrtshow: " not in done.stderr:
-                differs(what, done)
-            tried["runs"] += 1
-    # of another list, of another choice, of a longer recording
-    other = f"{kept}: is the index of another recording: its list, or its choice of 49A, is not this one's"
-    swapped = to_bytes([3, *words[3:0:-1]]) + data[16:]
-    left("another order of the list", good, other, name=file_of(swapped, "other"))
-    left("two of its streams", good, other, name=file_of(to_bytes([2, *words[1:3]]) + data[16:], "other"))
-    left("another choice", good, other, "--survey", f"{words[1]}")
-    longer = f"{kept}: has taken in more than the recording has"
-    left("a recording that is cut", good, longer, name=file_of(data[:-4], "other"))
-    left("a recording of a list alone", good, longer, name=file_of(data[:16], "other"))
-    # in the recording's place, in a folder that is none, and no regular files
+        for entry, at in ((1, EVERY), (2, 2 * EVERY)):
+            found = copy.deepcopy(beside.whole.tables[at])
+            bend(found)
+            beside.put(to_bytes(beside.whole.index({at: found})))
+            known, start = f"{what} in entry {entry}", OF_ANOTHER if "list" in text else OTHER_CHOICE
+            # read by 49A, the packets behind the entry may be refused
+            asks = [["--at", at + by] for by in ((0,) if start == OTHER_CHOICE else (0, 1, 500))]
+            for asked in asks + [[]] * (entry == 2 and start == OF_ANOTHER):
+                beside.refuses(known, f"{start} {entry} has {text}", *asked, beside.path)
+            beside.serves(known, 3, at - 1, EVERY if entry == 2 else 2 * EVERY)
+
+
+def index_files(beside):
+    """In the recording's place, in a folder that is none, and no regular files."""
+    data, path, whole, pipe = beside.data, beside.path, beside.whole, fresh("pipe")
+    os.mkfifo(pipe)
     for arguments, text in (
         ([path, "--index", path], f"{path}: is the recording: not written over"),
         (["--index", folder.name, path], f"{folder.name}: is not a regular file"),
         (["--index", "/dev/null", path], "/dev/null: is not a regular file"),
-        (["--index", "nothing/there", path], "nothing/there: cannot be written: No such file or directory"),
-        (["--index", fresh("never"), "/dev/null"], "/dev/null: is not a regular file: it has no index"),
+        (["--index", pipe, path], f"{pipe}: is not a regular file"),
+        (
+            ["--index", "nothing/there", path],
+            "nothing/there: cannot be written: No such file or directory",
+        ),
+        (
+            ["--index", fresh("never"), "/dev/null"],
+            "/dev/null: is not a regular file: it has no index",
+        ),
     ):
         says(f"{arguments}", run(*arguments), [], [f"vrtshow: {text}"], 2)
     if path.read_bytes() != data or Path(folder.name, "never").exists():
         differs("--index", "a file is written")
     done = run("--index", fresh("never"), data=data)
-    says("by a pipe", done, [], ["vrtshow: standard input: is not a regular file: it has no index"], 2)
+    error = "vrtshow: standard input: is not a regular file: it has no index"
+    says("by a pipe", done, [], [error], 2)
     # standard input that is a file, from a byte on
     shifted = file_of(b"skip it" + data, "shifted")
     for number in (0, 1025, 2600):
         done = run("--at", number, "--index", fresh("shifted index"), file=shifted, skip=7)
-        says("from a byte on", done, table_lines(whole.tables[number], number, whole.places[number]))
+        wanted = table_lines(whole.tables[number], number, whole.places[number])
+        says("from a byte on", done, wanted)
+
+
+def indexes():
+    """The file of an index: made, gone on with, left alone, and what is said of others."""
+    beside = Beside()
+    for part in (
+        index_grown, index_links, index_damaged, index_places, index_of_another, index_entries,
+        index_files,
+    ):
+        part(beside)
 
 
 def full():
@@ -2005,29 +2152,50 @@ def full():
     says("a full index, too far", run("--at", packets + 1, "--index", kept, path), [], [is_full, error], 1)
     if kept.stat().st_mtime_ns != before:
         differs("a full index", "it is written again")
+    # of so many packets the place reached may be above 2^32: word 2 bent
+    bent = bytearray(kept.read_bytes())
+    bent[11] ^= 1
+    kept.write_bytes(bent)
+    far = more_than(2**32 + place_of(MOST_TAKEN), place_of(packets))
+    error = f"vrtshow: {kept}: refused 19 PAGE: {far}"
+    for asked in ([], ["--at", packets], ["--at", 3]):
+        says(f"a full index, word 2 bent {asked}", run(*asked, "--index", kept, path), [], [error], 2)
+    if kept.read_bytes() != bent:
+        differs("a full index, word 2 bent", "it is written over")
+
+
+def on_terminal(*arguments):
+    """What a run says on standard error, which is a terminal; and its status."""
+    ours, theirs = pty.openpty()
+    command = [*COMMAND, *map(str, arguments)]
+    done = subprocess.Popen(command, stderr=theirs, stdout=subprocess.DEVNULL)
+    os.close(theirs)
+    said, more = b"", b" "
+    while more:
+        try:
+            more = os.read(ours, 65536)
+        except OSError:  # the other end is closed
+            more = b""
+        said += more
+    os.close(ours)
+    tried["runs"] += 1
+    return said, done.wait()
 
 
 def progress():
-    """How far it is, on a terminal, of a large recording; nothing of a small one."""
+    """How far it is, on a terminal, of a large recording; nothing of a small one. An index that
+    cannot be written is told of before the recording is played."""
     one = to_bytes(packet(1, [0] * 65000, identifier=7))
     for many, expected in ((270, True), (3, False)):
-        path = file_of(to_bytes([1, 7]) + one * many)
-        ours, theirs = pty.openpty()
-        done = subprocess.Popen([*COMMAND, "-q", path], stderr=theirs, stdout=subprocess.DEVNULL)
-        os.close(theirs)
-        said = b""
-        while True:
-            try:
-                said += os.read(ours, 65536)
-            except OSError:
-                break
-            if not said:
-                break
-        done.wait()
-        os.close(ours)
-        if (b" 50 %" in said) != expected or (not expected and said):
-            differs(f"progress of {many} packets", said[:300])
-        tried["runs"] += 1
+        path, kept = file_of(to_bytes([1, 7]) + one * many), fresh()
+        for more in (["-q"], ["--index", kept]):
+            said, status = on_terminal(*more, path)
+            if (b" 50 %" in said) != expected or (not expected and said) or status:
+                differs(f"progress of {many} packets {more}", status, said[:300])
+        said, status = on_terminal("--index", "nothing/there", path)
+        error = b"vrtshow: nothing/there: cannot be written: No such file or directory\r\n"
+        if not said.endswith(error) or b" 50 %" in said or status != 2:
+            differs(f"an index of {many} packets that cannot be written", status, said[-300:])
 
 
 GROUPS = {
