@@ -17,18 +17,18 @@
 
    Calls are reentrant: nothing is kept between them, nothing is shared, and nothing is allocated;
    threads may call at once, where none writes what another has handed over.
-   The stack that a call takes is fixed: 12728 bytes for vrt49_jump and 11960 for vrt49_grow, which
+   The stack that a call takes is fixed: 12888 bytes for vrt49_jump and 12104 for vrt49_grow, which
    hold a table of 32 streams, 584 for vrt49_put_back, and less than 500 for every other (`make
    stack`). memcpy, memmove and memset are all that is asked of the C library.
 
    What a call costs in S, the number of streams: vrt49_play, vrt49_well_made, vrt49_page_length,
    vrt49_save, vrt49_put_back, vrt49_reading, vrt49_readings, vrt49_held_words, vrt49_identity,
-   vrt49_counts and vrt49_own_table test a whole table each time, 270 to 530 instructions for each
+   vrt49_counts and vrt49_own_table test a whole table each time, 270 to 540 instructions for each
    stream that holds six fields, and vrt49_changed tests two; of a stream's fields vrt49_readings
    gives all for one test. vrt49_start_index tests a table too, vrt49_grow a table and the contents
-   of an index, which have up to 1,024 entries, and vrt49_jump these contents. vrt49_play_run is the
-   fast one: it tests the table once, and then takes 109 instructions for a sample packet, 212 for
-   one of 49A, and 6 for each stream before its own (docs/SPEED.md).
+   of an index, which have up to 1,024 index entries, and vrt49_jump these contents. vrt49_play_run
+   is the fast one: it tests the table once, and then takes 109 instructions for a sample packet,
+   212 for one of 49A, and 6 for each stream before its own (docs/SPEED.md).
 
    What a caller owes: every pointer is valid, and aligned as its type asks; a buffer has as many
    entries as its number says, and an array of a fixed length, such as levels[2], has them all; a
@@ -76,8 +76,9 @@ enum vrt49_refusal {
     VRT49_TABLE = 18,    /* table not well made */
     VRT49_PAGE = 19,     /* page not well made; or an index: its contents, or an entry, not well
                             made, or one from which the recording does not reach the packet */
-    VRT49_PAD = 20,      /* 49A: class or trailer absent, a class that does not fit its table, or a
-                            payload that is not whole sample vectors and its padding */
+    VRT49_PAD = 20,      /* 49A: class or trailer absent, a class that is not the Standard Data
+                            Packet's, or a payload that is not whole sample vectors and its
+                            padding */
     VRT49_PLACE = 21     /* a packet's number is above those that the index has taken in */
 };
 
@@ -100,7 +101,9 @@ enum vrt49_refusal {
        FIELD                           the first word of the highest field that breaks its rule
        PAD                             the class's first word, or 0 where there is no class
        STREAM                          1, the identifier, or 0 where there is none
-       TABLE                           none: it is of no packet, and 18 alone is given */
+       TABLE                           none: it is of no packet, and 18 alone is given
+       PAGE, ROOM                      none: they are of vrt49_grow's index; 19 or 13 alone is given
+   */
 #define VRT49_NUMBER(refusal) ((uint32_t)(refusal) & 0xFFu)
 #define VRT49_BIT(refusal) ((uint32_t)(refusal) >> 8 & 0xFFu)
 #define VRT49_PLACE(refusal) ((uint32_t)(refusal) >> 16)
@@ -140,14 +143,14 @@ static inline const char *vrt49_name(uint32_t number)
 #define VRT49_STREAMS_MAX 32                 /* streams of a table */
 #define VRT49_PACKET_WORDS 65535             /* a packet, at most */
 #define VRT49_FIELD_WORDS 13                 /* a held field, at most */
-#define VRT49_ENTRY_WORDS 5                  /* an entry of vrt49_play_run */
+#define VRT49_ENTRY_WORDS 5                  /* a run entry, as vrt49_play_run writes it */
 #define VRT49_TABLE_WORDS(s) (1 + 89 * (s))  /* the layout of a table of s streams */
 #define VRT49_PAGE_WORDS(s) (2 + 90 * (s))   /* a page of s streams, at most */
 #define VRT49_ITEMS_MAX 2097120              /* items that are packed or unpacked at once */
 
-/* Of an index: the words of its contents, the entries that they have room for, the packets from an
-   entry to the next, and the words of an index of so many entries of s streams, at most. A full one
-   has taken in 1,048,575 packets. */
+/* Of an index: the words of its contents, the index entries that they have room for, the packets
+   from an index entry to the next, and the words of an index of so many index entries of s streams,
+   at most. A full one has taken in 1,048,575 packets. */
 #define VRT49_INDEX_CONTENTS 4100
 #define VRT49_INDEX_ENTRIES 1024
 #define VRT49_INDEX_SPACING 1024
@@ -245,7 +248,8 @@ static inline const char *vrt49_field_name(uint32_t bit)
     }
 }
 
-/* The bits of a trailer's enables and of its indicators: one says something where both are set. */
+/* The bits of a trailer's enables and of its indicators. An indicator says something where its
+   enable is set: yes where it is set too, no where it is clear. */
 enum vrt49_trailer_bit {
     VRT49_TRAILER_CALIBRATED_TIME = 0x800,
     VRT49_TRAILER_VALID_DATA = 0x400,
@@ -399,18 +403,18 @@ typedef struct vrt49_coordinates {
 typedef struct vrt49_heard {
     uint32_t size;    /* words of the packet */
     uint32_t type;    /* enum vrt49_type */
-    uint32_t stream;  /* place in the list of identifiers, from 0 */
+    uint32_t stream;  /* its number in the list of identifiers, from 0 */
     uint32_t missing; /* counts passed over before it, 0 to 15 */
 } vrt49_heard;
 
-/* What a run says of each packet, and vrt49_grow of the one that it takes in. Where it is refused,
-   the members type and stream have the place and the bit of the refusal; vrt49_entry_refusal gives
-   all three in one. */
+/* A run entry: what a run says of each packet, and vrt49_grow of the one that it takes in. Where it
+   is refused, the members type and stream have the place and the bit of the refusal;
+   vrt49_entry_refusal gives all three in one. An index has entries of another kind. */
 typedef struct vrt49_entry {
     uint32_t number;  /* 0, or the number of a refusal alone */
     uint32_t size;    /* words that the run goes on by; 0 where a refusal ends it */
     uint32_t type;    /* enum vrt49_type; of a refusal, the place of the refused word */
-    uint32_t stream;  /* place in the list of identifiers, from 0; of a refusal, the bit or 0 */
+    uint32_t stream;  /* its number in the list, from 0; of a refusal, the field's bit or 0 */
     uint32_t missing; /* counts passed over before it, 0 to 15; of a refusal, 0 */
 } vrt49_entry;
 
@@ -561,10 +565,10 @@ uint32_t vrt49_well_made(const uint32_t *table, size_t table_n);
 uint32_t vrt49_play(uint32_t *table, size_t table_n, const uint32_t *words, size_t words_n,
                     vrt49_heard *answer);
 
-/* Plays packets one after the other from word `from` on: TABLE. Each has an entry of five words, as
-   vrt49_entry names them, that of a refused packet with the place of its refusal;
+/* Plays packets one after the other from word `from` on: TABLE. Each has a run entry of five words,
+   as vrt49_entry names them, that of a refused packet with the place of its refusal;
    vrt49_play_entries takes them by name. The run ends where the words end, the answers are full, or
-   a packet is refused but for STREAM. packets: how many have an entry. next: the place after the
+   a packet is refused but for STREAM. packets: how many have a run entry. next: the place after the
    last of them; where a refusal ended the run, the place of the refused packet. */
 uint32_t vrt49_play_run(uint32_t *table, size_t table_n, const uint32_t *words, size_t words_n,
                         size_t from, uint32_t *answers, size_t answers_n, size_t *packets,
@@ -586,9 +590,10 @@ uint32_t vrt49_put_back(const uint32_t *page, size_t page_n, uint32_t *table, si
 
 /* ---- the index beside a recording
 
-   An index has an entry for packet 0 and one for every 1,024th packet behind it: the packet's word
-   place, and the page of the table just before it. So the table just before any packet is played
-   from an entry on, over 1,023 packets at most.
+   An index has an index entry for packet 0 and one for every 1,024th packet behind it: the packet's
+   word place, and the page of the table just before it. So the table just before any packet is
+   played from an index entry on, over 1,023 packets at most. An index begins with its contents,
+   VRT49_INDEX_CONTENTS words, and the pages stand behind them.
 
    Packets are numbered from 0, as vrt49_play_run goes on over them: one of no declared stream has a
    number, and any other refusal ends the recording. Word places count from packet 0 on. A list in
@@ -605,17 +610,19 @@ uint32_t vrt49_start_index(const uint32_t *table, size_t table_n, uint32_t *inde
    reading), PAD, ROOM. A refusal has its place, as that of vrt49_play; TABLE, PAGE and ROOM have
    none. The table is the one that the last packet left, and is played on. words: the recording's
    from the packet on, its own alone or any that stand behind them too; where none is left it is
-   EMPTY. answer: the packet's entry, as vrt49_entry names it; a packet of no declared stream is
-   taken in, with VRT49_STREAM in its entry. vrt49_grow_entry takes the entry by name. ROOM is given
-   where the page of the next entry does not fit, so that the index goes on when it is moved into a
-   longer buffer; and where all entries are there. */
+   EMPTY. answer: the packet's run entry, as vrt49_entry names it; a packet of no declared stream is
+   taken in, with VRT49_STREAM in its run entry. vrt49_grow_entry takes it by name. ROOM is given
+   only where the packet reaches the next index entry: where the page of that does not fit, and then
+   the index is moved into a longer buffer and the packet handed over again; or where
+   VRT49_INDEX_ENTRIES are there already, after 1,048,575 packets. */
 uint32_t vrt49_grow(uint32_t *table, size_t table_n, const uint32_t *words, size_t words_n,
                     uint32_t *index, size_t index_n, uint32_t answer[5]);
 
 /* Gives the table just before packet n, which is 0 to the packets taken in: PAGE (of the contents),
    PLACE, PAGE (of the entry), ROOM. words: the recording's from the word place first on; those from
-   vrt49_index_from to vrt49_index_to are enough. Words past the layout stay. length: the layout's
-   words. place: the word place of packet n. */
+   vrt49_index_from to vrt49_index_to are enough. index_n: the words that are there; of an index
+   from a file those that were read, and a jump to 0 with no words tests it. Words past the layout
+   stay. length: the layout's words. place: the word place of packet n. */
 uint32_t vrt49_jump(const uint32_t *words, size_t words_n, uint64_t first, const uint32_t *index,
                     size_t index_n, uint64_t n, uint32_t *table, size_t table_n, size_t *length,
                     uint64_t *place);
@@ -758,7 +765,7 @@ static inline vrt49_coordinates vrt49_sample_at(uint32_t second, uint32_t instan
     return coordinates;
 }
 
-/* vrt49_play_run with room for so many entries: TABLE. The pointer to the entries is handed over as
+/* vrt49_play_run with room for so many run entries: TABLE. The pointer to them is handed over as
    one to their first word (C99 6.7.2.1). */
 static inline uint32_t vrt49_play_entries(uint32_t *table, size_t table_n, const uint32_t *words,
                                           size_t words_n, size_t from, vrt49_entry *entries,
@@ -768,7 +775,7 @@ static inline uint32_t vrt49_play_entries(uint32_t *table, size_t table_n, const
                           VRT49_ENTRY_WORDS * entries_n, packets, next);
 }
 
-/* The refusal of an entry's packet, with its place and its bit, as vrt49_play gives it; VRT49_OK of
+/* The refusal of a run entry, with its place and its bit, as vrt49_play gives it; VRT49_OK of
    one that was accepted. Nothing is refused. */
 static inline uint32_t vrt49_entry_refusal(const vrt49_entry *entry)
 {
@@ -778,7 +785,7 @@ static inline uint32_t vrt49_entry_refusal(const vrt49_entry *entry)
 }
 
 /* vrt49_grow with an entry: TABLE, PAGE (of the contents), EMPTY to FIELD (as in reading), PAD,
-   ROOM. */
+   ROOM. It is a run entry. */
 static inline uint32_t vrt49_grow_entry(uint32_t *table, size_t table_n, const uint32_t *words,
                                         size_t words_n, uint32_t *index, size_t index_n,
                                         vrt49_entry *answer)
@@ -789,7 +796,7 @@ static inline uint32_t vrt49_grow_entry(uint32_t *table, size_t table_n, const u
 /* What the contents of an index say: of one that vrt49_start_index or vrt49_grow has left, or that
    vrt49_jump has accepted. Nothing is tested, and nothing is refused.
 
-   The entries, and the packets that were taken in. */
+   The index entries, and the packets that were taken in. */
 static inline uint64_t vrt49_index_entries(const uint32_t *index)
 {
     return index[0];
@@ -807,8 +814,9 @@ static inline uint64_t vrt49_index_reached(const uint32_t *index)
     return (uint64_t)index[2] << 32 | index[3];
 }
 
-/* The words that a jump to packet n plays lie from the first of these word places, the entry's, up
-   to the second, the next entry's or the place reached. n is at most the packets taken in. */
+/* The words that a jump to packet n plays lie from the first of these word places, that of its
+   index entry, up to the second, that of the next one or the place reached. n is at most the
+   packets taken in. */
 static inline uint64_t vrt49_index_from(const uint32_t *index, uint64_t n)
 {
     const uint32_t *entry = index + 4 + 4 * (n / VRT49_INDEX_SPACING);
