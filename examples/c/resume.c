@@ -66,33 +66,54 @@ static int failed(const char *name, const char *what)
     return 2;
 }
 
-/* A table to go on with, and the place: of the words saved, or fresh where there are none. */
+/* Says what was refused: the page, in the file SAVED; the list; or a packet, at a word of the
+   recording, and which word of it. Gives the exit status. */
+static int refused(const char *name, size_t at, uint32_t refusal)
+{
+    if (refusal == VRT49_PAGE)
+        fprintf(stderr, "%s", name);
+    else
+        fprintf(stderr, "at word %zu", at);
+    fprintf(stderr, " refused: %u %s", VRT49_NUMBER(refusal), vrt49_name(refusal));
+    if (VRT49_NUMBER(refusal) == VRT49_FIELD)
+        fprintf(stderr, " %u, %s", VRT49_BIT(refusal), vrt49_field_name(VRT49_BIT(refusal)));
+    if (VRT49_NUMBER(refusal) <= VRT49_FIELD) /* the others are of no packet */
+        fprintf(stderr, ", word %u of the packet, %zu of the recording", VRT49_PLACE(refusal),
+                at + VRT49_PLACE(refusal));
+    fputs("\n", stderr);
+    return 1;
+}
+
+/* A table to go on with, and the place: of the words saved, or fresh where there are none. A list
+   that is refused is at word 0. */
 static uint32_t begin(size_t length, size_t n, size_t *layout, size_t *at)
 {
-    size_t room = sizeof table / sizeof table[0], streams = n ? words[0] : 0;
-    *at = length ? saved[0] : 1 + streams;
-    if (length)
+    size_t room = sizeof table / sizeof table[0];
+    uint32_t number = VRT49_LIST;
+    if (length) {
+        *at = saved[0];
         return vrt49_put_back(saved + 1, length - 1, table, room, layout);
-    if (streams < n && streams <= VRT49_STREAMS_MAX)
-        return vrt49_start(words + 1, streams, plain, streams, table, room, layout);
-    return VRT49_LIST;
+    }
+    if (words[0] < n && words[0] <= VRT49_STREAMS_MAX)
+        number = vrt49_start(words + 1, words[0], plain, words[0], table, room, layout);
+    *at = number == VRT49_OK ? 1 + words[0] : 0;
+    return number;
 }
 
 /* Plays so many packets, or to the end; one of no declared stream is passed over. Only the last
-   entry of a run can have another refusal. */
+   entry of a run can have another refusal, and it is given with its place. */
 static uint32_t play(size_t n, size_t layout, size_t most, size_t *at)
 {
     static vrt49_entry entries[64];
     size_t packets;
-    uint32_t number;
+    uint32_t refusal;
     while (most > 0 && *at < n) {
-        number = vrt49_play_entries(table, layout, words, n, *at, entries, most < 64 ? most : 64,
-                                    &packets, at);
-        if (number != VRT49_OK)
-            return number;
-        number = entries[packets - 1].number;
-        if (number != VRT49_OK && number != VRT49_STREAM)
-            return number;
+        refusal = vrt49_play_entries(table, layout, words, n, *at, entries, most < 64 ? most : 64,
+                                     &packets, at);
+        if (refusal == VRT49_OK)
+            refusal = vrt49_entry_refusal(&entries[packets - 1]);
+        if (refusal != VRT49_OK && VRT49_NUMBER(refusal) != VRT49_STREAM)
+            return refusal;
         most -= packets;
     }
     return VRT49_OK;
@@ -110,7 +131,7 @@ static void print_tuning(size_t layout)
 int main(int argc, char **argv)
 {
     size_t n, at = 0, from, layout = 0, length = 0;
-    uint32_t number;
+    uint32_t refusal;
     if (argc != 4 || !*argv[3] || argv[3][strspn(argv[3], "0123456789")]) {
         fputs("resume RECORDING SAVED PACKETS: two files, and how many packets\n", stderr);
         return 2;
@@ -119,16 +140,14 @@ int main(int argc, char **argv)
         return failed(argv[1], "read");
     if (!read_file(argv[2], saved, SAVED, &length) && errno != ENOENT)
         return failed(argv[2], "read");
-    number = begin(length, n, &layout, &at);
+    refusal = begin(length, n, &layout, &at);
     from = at;
-    if (number == VRT49_OK)
-        number = play(n, layout, strtoul(argv[3], NULL, 10), &at);
-    if (number == VRT49_OK)
-        number = vrt49_save(table, layout, saved + 1, SAVED - 1, &length);
-    if (number != VRT49_OK) {
-        fprintf(stderr, "at word %zu refused: %s\n", at, vrt49_name(number));
-        return 1;
-    }
+    if (refusal == VRT49_OK)
+        refusal = play(n, layout, strtoul(argv[3], NULL, 10), &at);
+    if (refusal == VRT49_OK)
+        refusal = vrt49_save(table, layout, saved + 1, SAVED - 1, &length);
+    if (refusal != VRT49_OK)
+        return refused(argv[2], at, refusal);
     saved[0] = (uint32_t)at;
     if (!write_file(argv[2], saved, 1 + length))
         return failed(argv[2], "written");

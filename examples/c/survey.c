@@ -12,6 +12,17 @@ static const uint32_t words[WORDS] = {
     0x1C000007, 9, 0x00FFFFFA, 0x00130000, 0xABCDEF12, 0x30000000, 0, /* complex, of 16 bits */
     0x1C010006, 9, 0x40FFFFFA, 0x000A0002, 0x01020300, 0};            /* and 8 bits of padding */
 
+/* Says what was refused at a word, and of a packet which word of it; gives the exit status. */
+static int refused(size_t at, uint32_t refusal)
+{
+    uint32_t number = VRT49_NUMBER(refusal);
+    fprintf(stderr, "at word %zu refused: %u %s", at, number, vrt49_name(number));
+    if (number <= VRT49_STREAM || number == VRT49_PAD) /* the others are of no packet */
+        fprintf(stderr, ", word %u of the packet", VRT49_PLACE(refusal));
+    fputs("\n", stderr);
+    return 1;
+}
+
 /* Prints the items of a packet of 49A. */
 static uint32_t print_items(const uint32_t *packet, size_t size)
 {
@@ -35,14 +46,16 @@ static uint32_t print_items(const uint32_t *packet, size_t size)
 
 int main(void)
 {
-    uint32_t table[VRT49_TABLE_WORDS(2)], number;
+    uint32_t table[VRT49_TABLE_WORDS(2)], refusal;
     size_t layout, at = 0;
     vrt49_heard heard = {0, 0, 0, 0};
-    number = vrt49_start(ids, 2, choices, 2, table, VRT49_TABLE_WORDS(2), &layout);
-    for (; number == VRT49_OK && at < WORDS; at += heard.size) {
-        number = vrt49_play(table, layout, words + at, WORDS - at, &heard);
-        if (number == VRT49_OK && choices[heard.stream] == VRT49_SURVEY)
-            number = print_items(words + at, heard.size);
+    refusal = vrt49_start(ids, 2, choices, 2, table, VRT49_TABLE_WORDS(2), &layout);
+    while (refusal == VRT49_OK && at < WORDS) {
+        refusal = vrt49_play(table, layout, words + at, WORDS - at, &heard);
+        if (refusal == VRT49_OK && choices[heard.stream] == VRT49_SURVEY)
+            refusal = print_items(words + at, heard.size);
+        if (refusal == VRT49_OK)
+            at += heard.size;
     }
-    return number != VRT49_OK;
+    return refusal == VRT49_OK ? 0 : refused(at, refusal);
 }
