@@ -26,9 +26,10 @@
    vrt49_counts and vrt49_own_table test a whole table each time, 270 to 540 instructions for each
    stream that holds six fields, and vrt49_changed tests two; of a stream's fields vrt49_readings
    gives all for one test. vrt49_start_index tests a table too, vrt49_grow a table and the contents
-   of an index, which have up to 1,024 index entries, and vrt49_jump these contents. vrt49_play_run
-   is the fast one: it tests the table once, and then takes 109 instructions for a sample packet,
-   212 for one of 49A, and 6 for each stream before its own (docs/SPEED.md).
+   of an index, which have up to 1,024 index entries, and vrt49_jump these contents and a page,
+   before it plays up to 1,023 packets. vrt49_play_run is the fast one: it tests the table once, and
+   then takes 109 instructions for a sample packet, 212 for one of 49A, and 6 for each stream before
+   its own (docs/SPEED.md).
 
    What a caller owes: every pointer is valid, and aligned as its type asks; a buffer has as many
    entries as its number says, and an array of a fixed length, such as levels[2], has them all; a
