@@ -10,7 +10,7 @@ use Rattle.demands.proofs.Sources.{sources}
 use Rattle.demands.proofs.SourcesForC.{sources_for_c}
 use Rattle.demands.proofs.Answered.{some_outcome}
 use Rattle.demands.proofs.Once.{one_outcome, each_refusal}
-use Rattle.demands.proofs.InOrder.{in_order}
+use Rattle.demands.proofs.InOrder.{in_order_lem}
 use Rattle.demands.proofs.WellMade.{judged}
 use Rattle.demands.proofs.PlacesTold.{places_told}
 use Rattle.demands.proofs.FieldFound.{fields_found}
@@ -36,7 +36,7 @@ demand_1 = record {
   sources = sources;
   answered = some_outcome;
   once = one_outcome;
-  numbers = in_order;
+  numbers = in_order_lem;
   well_made_lem = judged;
   refusals = each_refusal calls;
   for_c = record {

@@ -11,7 +11,7 @@ use Rattle.words.specs.Outcome.{Outcome, Reply, refused, accepted, checked, meas
 use Rattle.words.specs.Told.{Told}
 use Rattle.fields.specs.declared.places.Found.TheVariants as found
 use Rattle.fields.specs.Sizes.{words_of}
-use Rattle.fields.specs.Answers.{foundPaper}
+use Rattle.fields.specs.Answers.{found_paper}
 use Rattle.fields.specs.Layout.{indicator_of, place_of, inside_of, found_of}
 use Rattle.packet.specs.declared.Packet.{Packet}
 use Rattle.packet.specs.declared.Parsed.TheVariants as parsed
@@ -22,7 +22,7 @@ use Rattle.packet.specs.Survey.{survey_paper}
 use Rattle.packet_trailer.specs.declared.TrailerWord.TheVariants as trailer
 use Rattle.packet_trailer.specs.Trailer.{trailer_paper}
 use Rattle.payload_format.specs.declared.signs.Shown.TheVariants as shown
-use Rattle.payload_format.specs.Answers.{shownPaper}
+use Rattle.payload_format.specs.Answers.{shown_paper}
 use Rattle.payload_order.specs.declared.Coordinates.{Coordinates}
 use Rattle.payload_order.specs.declared.Located.TheVariants as located
 use Rattle.payload_order.specs.Numbering.{located_paper}
@@ -80,7 +80,7 @@ says_located : (o : Outcome Coordinates) → Says located_paper o
 says_located (refused n) = (located.Refused n, refl)
 says_located (accepted at) = (located.At at, refl)
 
-says_shown : (o : Outcome ℤ) → Says shownPaper o
+says_shown : (o : Outcome ℤ) → Says shown_paper o
 says_shown (refused n) = (shown.Refused n, refl)
 says_shown (accepted z) = (shown.Value z, refl)
 
@@ -130,17 +130,17 @@ says_changed (refused n) = (changes.Refused n, refl)
 says_changed (accepted w) = (changes.Fields w, refl)
 
 -- a field is found at a place, or not
-says_pick : (t : Bool) (xs ys : List ℕ) → Says foundPaper xs → Says foundPaper ys → Says foundPaper (pick t xs ys)
+says_pick : (t : Bool) (xs ys : List ℕ) → Says found_paper xs → Says found_paper ys → Says found_paper (pick t xs ys)
 says_pick true xs ys a b = a
 says_pick false xs ys a b = b
 
-says_found : (b : ℕ) (body : List ℕ) → Says foundPaper (found_of b body)
+says_found : (b : ℕ) (body : List ℕ) → Says found_paper (found_of b body)
 unfolding found_of inside_of
 says_found b body =
     let at : ℕ = place_of b body in
     let n : ℕ = words_of b (drop at body) in
-    let none : Says foundPaper [] = (found.Absent, refl) in
-    let there : Says foundPaper (inside_of b at body) = says_pick (leb (at + n) (length body)) (at ∷ n ∷ []) [] (found.At at n, refl) none in
+    let none : Says found_paper [] = (found.Absent, refl) in
+    let there : Says found_paper (inside_of b at body) = says_pick (leb (at + n) (length body)) (at ∷ n ∷ []) [] (found.At at n, refl) none in
     says_pick (ltb 30 b) [] _ none (says_pick (ltb b 8) [] _ none (says_pick (has (indicator_of body) b) _ [] there none))
 
 -- ---- each call

@@ -1,6 +1,6 @@
 -- What is seen is what is held. The idea: no test refuses a stream of the list and a field of bits 30 to 10 of a right table (`asked`); and what a record
 -- shows, or gives as words, is by what it holds (`shows_held`, `words_held`), which the rules fix thing by thing (`held_last`); so are its held indicator
--- (`some_carried_lem`) and its counts (`count_by`).
+-- (`some_carried_lem`) and its counts (`count_by_lem`).
 use Rattle.words.proofs.Kit.{◌≡◌, refl, sym, ap, ◌∙◌, Bool, true, false, List, [], ◌∷◌, ◌++◌, ℕ, ◌+◌, ◌-◌, ◌%◌, ◌^◌, ◌≤◌, ◌<◌, arith, ⊎_elim, ne_eqb, lt-ltb}
 use Rattle.words.proofs.Kit.{eqb-true, le-ltb, lt-leb, eqb, leb, length, drop, get_or}
 use mathlib.Core.List.{map}
@@ -108,10 +108,10 @@ never_carried : (packets : List Arrival) → last_carried (whole_field 22) packe
 never_carried [] = refl
 never_carried (a ∷ later) = rw (never_carried later) (pick_same (eqb a.kind 4) none)
 
-count_by : (counts : List ℕ) → count_in (count_rule counts) ≡ count_by counts
+count_by_lem : (counts : List ℕ) → count_in (count_rule counts) ≡ count_by counts
 unfolding count_in
-count_by [] = refl
-count_by (c ∷ later) =
+count_by_lem [] = refl
+count_by_lem (c ∷ later) =
     let n : last_count c later + 1 ≡ 0 → ⊥ = λ e. omega (arith, e) in
     let m : last_count c later + 1 - 1 ≡ last_count c later = omega arith in
     rw (ne_eqb (last_count c later + 1) 0 n, m)
@@ -169,7 +169,7 @@ module _ (list : Listing) (packets : List (List ℕ)) (t : List ℕ) (r : Right 
   unfolding type_counts_of type_count_in
   counts_said kind o =
       none_given (stream_number_list t s) _ numbered
-      ∙ rw o (ap accepted (ap count_in (r.counts s h kind o) ∙ count_by (counts_of kind (own s (trace_of list packets)))))
+      ∙ rw o (ap accepted (ap count_in (r.counts s h kind o) ∙ count_by_lem (counts_of kind (own s (trace_of list packets)))))
 
   pub identified : (d : Declared) × (identity_of t s ≡ accepted d) × (d.identifier ≡ listed list.ids s) × (d.choice ≡ choice_in list s)
       × ((b : ℕ) → has d.held b ≡ some_carried b (own s (trace_of list packets)))

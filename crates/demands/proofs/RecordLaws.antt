@@ -1,5 +1,5 @@
 -- One packet more, in the record of its stream. The idea: what a record holds of a thing afterwards is what the packet carried of it, and else what it held
--- (`held_after`): of a field by `comes`, of an indicator by `lights`; the count of the packet's type goes on, and the others stay (`count_after`).
+-- (`held_after_lem`): of a field by `comes`, of an indicator by `lights`; the count of the packet's type goes on, and the others stay (`count_after`).
 use Rattle.words.proofs.Kit.{◌≡◌, refl, sym, ap, ◌∙◌, Bool, true, false, not, ⊎_elim, List, [], ◌∷◌, ℕ, zero, suc, ◌+◌, ◌-◌, ◌≤◌, arith, eq-eqb}
 use Rattle.words.proofs.Kit.{ne_eqb, le-leb, not-true, eqb, leb, length, get_or}
 use mathlib.Core.Option.{none, some}
@@ -142,8 +142,8 @@ module _ (body r : List ℕ) (good : Good r) where
   unfolding slot_after
   word_stays c = rw c
 
-  held_then : has fields 16 ≡ true → has (held_after fields (held_of r)) 16 ≡ true
-  held_then c = held_bit fields (held_of r) 16 ∙ rw (c, state_holds) (held_true (has (held_of r) 16))
+  held_then_lem : has fields 16 ≡ true → has (held_after fields (held_of r)) 16 ≡ true
+  held_then_lem c = held_bit fields (held_of r) 16 ∙ rw (c, state_holds) (held_true (has (held_of r) 16))
 
   held_as_before : has fields 16 ≡ false → has (held_after fields (held_of r)) 16 ≡ has (held_of r) 16
   held_as_before c = held_bit fields (held_of r) 16 ∙ rw c (held_stays (has (held_of r) 16) (holds 16))
@@ -175,11 +175,11 @@ module _ (body r : List ℕ) (good : Good r) where
   told_after (state_indicator e) =
       ⊎_elim
       (λ (p : persistent e ≡ true).
-      ⊎_elim (λ (c : has fields 16 ≡ true). rw (p, held_then c, word_then c, c) (indicator_after e p c))
+      ⊎_elim (λ (c : has fields 16 ≡ true). rw (p, held_then_lem c, word_then c, c) (indicator_after e p c))
       (λ (c : has fields 16 ≡ false). rw (p, held_as_before c, word_stays c, c)) (true_or_false (has fields 16)))
       (λ (p : persistent e ≡ false). rw p) (true_or_false (persistent e))
   told_after user_bits =
-      ⊎_elim (λ (c : has fields 16 ≡ true). rw (held_then c, word_then c, c, state_user word old))
+      ⊎_elim (λ (c : has fields 16 ≡ true). rw (held_then_lem c, word_then c, c, state_user word old))
       (λ (c : has fields 16 ≡ false). rw (held_as_before c, word_stays c, c)) (true_or_false (has fields 16))
 
 module _ (list : Listing) (a : Arrival) (f : Heeded list a) (r : List ℕ) (l : length r ≡ record_words) where
@@ -200,8 +200,8 @@ module _ (list : Listing) (a : Arrival) (f : Heeded list a) (r : List ℕ) (l : 
       (λ b. ap (λ (n : ℕ). has n b) (after_held a.kind a.count a.body r l f.body ∙ rw k))
       (λ b o. after_slot a.kind a.count a.body r l f.body b o ∙ rw k)
 
-  pub held_after : record_good r ≡ true → (x : Thing) → held_in x (record_after a.kind a.count a.body r) ≡ or_else (value_carried x a) (held_in x r)
-  held_after g x =
+  pub held_after_lem : record_good r ≡ true → (x : Thing) → held_in x (record_after a.kind a.count a.body r) ≡ or_else (value_carried x a) (held_in x r)
+  held_after_lem g x =
       ⊎_elim (λ (k : eqb a.kind 4 ≡ true). held_context k x ∙ told_after a.body r (good_of r l g) x ∙ rw k)
       (λ (k : eqb a.kind 4 ≡ false). held_same k x ∙ rw k) (true_or_false (eqb a.kind 4))
 

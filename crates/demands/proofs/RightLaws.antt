@@ -27,7 +27,7 @@ use Rattle.demands.specs.Program.{ours, play_all, said_all}
 use Rattle.demands.specs.Right.{held_in, Right, past_of}
 use Rattle.demands.proofs.RuleLaws.{own_append, last_more, counts_append, added_by_last, rule_more}
 use Rattle.demands.proofs.HearingLaws.{Heeded, heard_fine, Listed, record_on, done_on, play_is, listed_on, record_whole, record_own, record_other}
-use Rattle.demands.proofs.RecordLaws.{held_after, count_after, fresh_held, fresh_count}
+use Rattle.demands.proofs.RecordLaws.{held_after_lem, count_after, fresh_held, fresh_count}
 
 -- ---- the start
 
@@ -97,7 +97,7 @@ module _ (list : Listing) (before : List (List ℕ)) (t : List ℕ) (r : Right l
       let old = own s (trace_of list before) in
       let g = well_record t r.made s (rw r.streams h) in
       record {
-        held = λ x. held_after list a f (record_at s t) l g x ∙ ap (or_else (value_carried x a)) (r.held s h x) ∙ sym (last_more x old a);
+        held = λ x. held_after_lem list a f (record_at s t) l g x ∙ ap (or_else (value_carried x a)) (r.held s h x) ∙ sym (last_more x old a);
         counts = λ kind o.
             count_after list a f (record_at s t) l kind o
             ∙ ap (λ (ws : List ℕ). pick (eqb a.kind kind) (counted_of a.count ws) ws) (r.counts s h kind o)

@@ -136,9 +136,9 @@ module _ (P : Program) (d : Demand3 P) where
       → count_words (order_of 1) (record_at 0 (play_all P begun.0.leaves packets)) ≡ count_rule (counts_of 1 (own 0 (trace_of list packets)))
   seen_after packets = (after packets).counts 0 (omega arith) 1 refl
 
-  held_after : (packets : List (List ℕ))
+  held_after_lem : (packets : List (List ℕ))
       → held_in (whole_field 30) (record_at 0 (play_all P begun.0.leaves packets)) ≡ last_carried (whole_field 30) (own 0 (trace_of list packets))
-  held_after packets = (after packets).held 0 (omega arith) (whole_field 30)
+  held_after_lem packets = (after packets).held 0 (omega arith) (whole_field 30)
 
   -- an idle play: shut out by the counts
   pub no_idle_play : ((t ws : List ℕ) → left_of (P.play t ws) t ≡ t) → ⊥
@@ -154,9 +154,9 @@ module _ (P : Program) (d : Demand3 P) where
       → held_in x (record_at s (play_all P e.leaves (ws ∷ rest))) ≡ held_in x (record_at s (play_all P e.leaves (ws ∷ [])))) → ⊥
   no_feigned_rest feigned =
       let one : value_in (held_in (whole_field 30) (record_at 0 (play_all P fresh (first ∷ [])))) ≡ 1 =
-      ap value_in (held_after (first ∷ [])) ∙ rw (computed.heard_first, computed.field_first) in
+      ap value_in (held_after_lem (first ∷ [])) ∙ rw (computed.heard_first, computed.field_first) in
       let two : value_in (held_in (whole_field 30) (record_at 0 (play_all P fresh (first ∷ second ∷ [])))) ≡ 2 =
-      ap value_in (held_after (first ∷ second ∷ [])) ∙ rw (computed.heard_first, computed.heard_second, computed.field_second) in
+      ap value_in (held_after_lem (first ∷ second ∷ [])) ∙ rw (computed.heard_first, computed.heard_second, computed.field_second) in
       let same = ap value_in (feigned list buffer begun.0 begun.1 first (second ∷ []) 0 (whole_field 30)) in
       omega (arith, one, two, same)
 

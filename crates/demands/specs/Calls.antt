@@ -4,7 +4,7 @@
 use Rattle.words.specs.Kit.{◌≡◌, ℕ, List, [], ◌∷◌}
 use Rattle.std.specs.Prelude.{map}
 use Rattle.words.specs.Outcome.{Reply, refused, checked, measured, Done, Meets}
-use Rattle.fields.specs.Answers.{foundPaper}
+use Rattle.fields.specs.Answers.{found_paper}
 use Rattle.fields.specs.Layout.{field_count, found_of, context_of}
 use Rattle.packet.specs.declared.Parts.{Parts}
 use Rattle.packet.specs.Read.{parsed_paper}
@@ -12,7 +12,7 @@ use Rattle.packet_trailer.specs.Trailer.{trailer_of, trailer_word_of, trailer_pa
 use Rattle.packet.specs.Survey.{survey_paper}
 use Rattle.packet.specs.Told.{read_told, survey_told}
 use Rattle.packet_write.specs.Write.{write_of, write_survey_of}
-use Rattle.payload_format.specs.Answers.{shownPaper}
+use Rattle.payload_format.specs.Answers.{shown_paper}
 use Rattle.payload_format.specs.Count.{needed_of}
 use Rattle.payload_order.specs.declared.Coordinates.{Coordinates}
 use Rattle.payload_order.specs.Numbering.{coordinates_of, located_paper, item_of}
@@ -74,7 +74,7 @@ abbrev pub check_body_call : Call
 check_body_call = answers checked context_of
 
 abbrev pub find_call : Call
-find_call = answers foundPaper (λ (h : ℕ × List ℕ). found_of h.0 h.1)
+find_call = answers found_paper (λ (h : ℕ × List ℕ). found_of h.0 h.1)
 
 -- packet::read, read_survey, packet_write::write, write_survey, packet_trailer::trailer_parts, trailer_word
 abbrev pub read_call : Call
@@ -114,7 +114,7 @@ abbrev pub item_at_call : Call
 item_at_call = answers measured (λ (h : ℕ × ℕ × ℕ × Coordinates). item_of h.0 h.1 h.2 h.3)
 
 abbrev pub signed_call : Call
-signed_call = answers shownPaper (λ (h : ℕ × ℕ). signed_of h.0 h.1)
+signed_call = answers shown_paper (λ (h : ℕ × ℕ). signed_of h.0 h.1)
 
 -- table::start, well_made
 abbrev pub start_call : Call

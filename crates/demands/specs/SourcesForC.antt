@@ -4,7 +4,7 @@ use contract.Lifetimes.{Lfts}
 use borrow.Fn.Kinds.{ParamKind, ResultKind, Dens, In, Out, res_t, ended_of}
 use denote.Triple.Clauses.{Lasts, at_exit}
 use Rattle.payload_unpack.specs.Unpack.{buffers}
-use Rattle.vrt49.specs.Answers.{Tells, inNumber}
+use Rattle.vrt49.specs.Answers.{Tells, in_number}
 use Rattle.vrt49.specs.Calls.{CallForC, answers, tells, tells_where}
 use Rattle.vrt49.specs.Calls.{for_read, for_read_survey, for_write, for_write_survey, for_trailer_parts, for_trailer_word, for_field_count, for_check_body, for_find}
 use Rattle.vrt49.specs.Calls.{for_unpack, for_pack, for_words_needed, for_coordinates_of, for_item_at, for_signed, for_start, for_well_made, for_play}
@@ -91,7 +91,7 @@ LentForC (tells_where {H} {A} {L} want values lent list given) = L
 abbrev pub PromiseForC : (c : CallForC) → HandedForC c → ℕ → LentForC c → Type 0
 PromiseForC (answers want) h r after = r ≡ want h
 PromiseForC (tells want values lent list numbers) h r after = Tells values (want h) (lent h) r after
-PromiseForC (tells_where want values lent list given) h r after = Tells values (inNumber (want h)) (lent h) r after
+PromiseForC (tells_where want values lent list given) h r after = Tells values (in_number (want h)) (lent h) r after
 
 -- a function asks nothing of what it is handed, and what its caller learns is the promise of the call c
 abbrev pub SourceForC : (c : CallForC) {n : ℕ} (ps : List (ParamKind n)) (r : ResultKind n) → In n ps → Out n ps r → ((κs : Lfts n) → Dens κs ps → HandedForC c)

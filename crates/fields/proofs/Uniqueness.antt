@@ -5,7 +5,7 @@ use Rattle.words.specs.declared.Check.{Check}
 use Rattle.words.specs.Outcome.{checked}
 use Rattle.words.proofs.Once.{once, checked_once}
 use Rattle.fields.specs.Layout.{field_count, context_of, found_of}
-use Rattle.fields.specs.Answers.{foundPaper}
+use Rattle.fields.specs.Answers.{found_paper}
 use Rattle.fields.specs.declared.places.Found.{Found}
 use Rattle.fields.specs.declared.places.Found.TheVariants.{At, Absent}
 
@@ -20,10 +20,10 @@ found_back (at ∷ n ∷ rest) = At at n
 found_back (at ∷ []) = Absent
 found_back [] = Absent
 
-found_back : (r : Found) → found_back (foundPaper r) ≡ r
+found_back_lem : (r : Found) → found_back (found_paper r) ≡ r
 unfolding found_back
-found_back (At at n) = refl
-found_back Absent = refl
+found_back_lem (At at n) = refl
+found_back_lem Absent = refl
 
-pub find_once : (bit : ℕ) (body : List ℕ) (r s : Found) → foundPaper r ≡ found_of bit body → foundPaper s ≡ found_of bit body → r ≡ s
-find_once bit body r s = once foundPaper found_back found_back
+pub find_once : (bit : ℕ) (body : List ℕ) (r s : Found) → found_paper r ≡ found_of bit body → found_paper s ≡ found_of bit body → r ≡ s
+find_once bit body r s = once found_paper found_back found_back_lem

@@ -1,7 +1,7 @@
 // Where the fields of a body stand.
 ghost use Rattle.words.specs.Kit.{◌≡◌, ◌<◌};
 ghost use Rattle.fields.specs.Layout.{inside_of, found_of};
-ghost use Rattle.fields.specs.Answers.{foundPaper};
+ghost use Rattle.fields.specs.Answers.{found_paper};
 
 // The place of a field from its body's start, and its words.
 #[derive(Drop)]
@@ -13,7 +13,7 @@ pub enum Found {
 // The field of a bit that stands at a place of a body, where it lies wholly inside.
 fn inside(bit: u32, body: &[u32], at: usize) -> Found
     requires { bit < 31 }
-    ensures { foundPaper result ≡ inside_of bit at body.now }
+    ensures { found_paper result ≡ inside_of bit at body.now }
 {
     if body.len() < at {
         return Found::Absent;
@@ -28,7 +28,7 @@ fn inside(bit: u32, body: &[u32], at: usize) -> Found
 // Where the field of a bit stands in a type 4 body: after the indicator and the fields of the bits above it. It is absent for a bit that is
 // not 30 to 8, for one that the indicator does not carry, and where the field does not lie wholly inside the body.
 pub fn find(body: &[u32], bit: u32) -> Found
-    ensures { foundPaper result ≡ found_of bit body.now }
+    ensures { found_paper result ≡ found_of bit body.now }
 {
     if 30 < bit {
         return Found::Absent;

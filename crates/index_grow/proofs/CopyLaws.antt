@@ -148,9 +148,9 @@ grow_past l x ws ix e =
 
 -- ---- given back
 
-pub given_back : (answer : Grown) (x : Taken) (copy t last : List ℕ) → answer ≡ Accepted x
+pub given_back_lem : (answer : Grown) (x : Taken) (copy t last : List ℕ) → answer ≡ Accepted x
     → last ≡ put 0 (length copy) (part 0 (length copy) copy) t → last ≡ given_back answer copy t
-given_back answer x copy t last e f = f ∙ rw (part_whole copy, e)
+given_back_lem answer x copy t last e f = f ∙ rw (part_whole copy, e)
 
 module _ (t ws ix copy : List ℕ) (q : Ready t ix) (e : copy ≡ layout_in t) (r : Grown) (left leftIndex : List ℕ) (k : GrownOn copy ws ix r left leftIndex) where
   long : length left ≡ layout_words (streams_of t)

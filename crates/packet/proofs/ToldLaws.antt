@@ -90,9 +90,9 @@ module _ (ws : List ℕ) (sized : Check) (s : checked sized ≡ sized_checks ws)
   later_fits f n i = (required_fits ws sized s f, size_fits ws sized s f)
 
 module _ (ws : List ℕ) where
-  pub read_told : (n : ℕ) (r : Refusal) → r ≡ refusal n (where_of ws n) → refused n ≡ read_by false ws → refused r ≡ read_told ws
+  pub read_told_lem : (n : ℕ) (r : Refusal) → r ≡ refusal n (where_of ws n) → refused n ≡ read_by false ws → refused r ≡ read_told ws
   unfolding read_told
-  read_told n r e f = rw e (refused_told (where_of ws) (read_of ws) n (where_of ws n) f refl)
+  read_told_lem n r e f = rw e (refused_told (where_of ws) (read_of ws) n (where_of ws n) f refl)
 
   pub packet_told : (p : Packet) → accepted p ≡ read_by false ws → accepted p ≡ read_told ws
   unfolding read_told

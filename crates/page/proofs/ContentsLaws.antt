@@ -12,7 +12,7 @@ use Rattle.record.specs.Layout.{head_words, held_of}
 use Rattle.page.specs.Body.{page_body_words}
 use Rattle.page.specs.Layout.{contents_words, offset_of, page_from, bodies_in, offset_at, length_at, begins_at, page_body_at}
 use Rattle.page.specs.inner.Tested.{pair_good, contents_good, GoodContents}
-use Rattle.page.proofs.LayoutLaws.{offset_inside, page_length_lem, body_part, offset_at, length_at_lem, begins_at_lem, body_sized}
+use Rattle.page.proofs.LayoutLaws.{offset_inside, page_length_lem, body_part, offset_at_lem, length_at_lem, begins_at_lem, body_sized}
 
 -- ---- the test as facts
 
@@ -87,7 +87,7 @@ page_contents n f few l =
       few = few;
       room = omega (arith, page_length_lem n f, contents_before n f);
       second = sym (page_length_lem n f);
-      gapless = λ s h. offset_at n f s h ∙ sym (begins_at_lem n f s (le_of_lt h));
+      gapless = λ s h. offset_at_lem n f s h ∙ sym (begins_at_lem n f s (le_of_lt h));
       inside = λ s h. omega (arith, begins_at_lem n f s (le_of_lt h), length_at_lem n f s h, offset_inside n f s h, page_length_lem n f);
       lengths = λ s h.
           let w : get_or p (offset_of n f s + 1) 0 ≡ held_of (f s) =

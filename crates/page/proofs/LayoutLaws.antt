@@ -78,9 +78,9 @@ module _ (n : ℕ) (f : ℕ → List ℕ) where
       ∙ part_within (2 * s) 2 (pieces n (pair_of n f)) (pieces n f) (omega (arith, pairs_length n))
       ∙ rw (pairs_length s, pair_length s) at (pieces_at n s (pair_of n f) h)
 
-  pub offset_at : (s : ℕ) → s < n → offset_at (page_from n f) s ≡ offset_of n f s
+  pub offset_at_lem : (s : ℕ) → s < n → offset_at (page_from n f) s ≡ offset_of n f s
   unfolding pair_of
-  offset_at s h =
+  offset_at_lem s h =
       let i : pair_at s ≡ pair_at s + 0 = omega arith in
       ap (λ (k : ℕ). get_or (page_from n f) k 0) i ∙ sym (get_d_part (pair_at s) 2 0 (page_from n f) (omega arith)) ∙ ap (λ (l : List ℕ). get_or l 0 0) (pair_at_lem s h)
 
@@ -97,7 +97,7 @@ module _ (n : ℕ) (f : ℕ → List ℕ) where
 
   pub body_in : (s : ℕ) → s < n → page_body_at (page_from n f) s ≡ f s
   unfolding page_body_at
-  body_in s h = rw (offset_at s h, length_at_lem s h) (body_part s h)
+  body_in s h = rw (offset_at_lem s h, length_at_lem s h) (body_part s h)
 
 -- the same bodies
 pub page_same : (n : ℕ) (f g : ℕ → List ℕ) → ((s : ℕ) → s < n → f s ≡ g s) → page_from n f ≡ page_from n g

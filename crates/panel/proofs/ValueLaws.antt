@@ -19,7 +19,7 @@ use Rattle.words.proofs.Cases.{le_or_lt, accepted_same}
 use Rattle.words.proofs.PowerLaws.{signed_low, signed_high, signed_mag}
 use Rattle.words.specs.Signed.{twos_complement}
 use Rattle.payload_format.specs.Signs.{signed_of}
-use Rattle.payload_format.specs.Answers.{shownPaper}
+use Rattle.payload_format.specs.Answers.{shown_paper}
 use Rattle.payload_format.specs.declared.signs.Shown.{Shown}
 use Rattle.payload_format.specs.declared.signs.Shown.TheVariants as shown
 use Rattle.panel.specs.Values.{units_of, floor_div, floor_rem}
@@ -36,16 +36,16 @@ module _ (w x : ℕ) (lo : 1 ≤ w) (hi : w ≤ 64) (b : x < 2 ^ w) where
   unfolding signed_of
   value_fits = simp (le-ltb w 1 lo, le-ltb 64 w hi, lt-leb (2 ^ w) x b)
 
-  module _ (k : Shown) (e : shownPaper k ≡ signed_of w x) where
+  module _ (k : Shown) (e : shown_paper k ≡ signed_of w x) where
     pub value_told : (z : ℤ) → k ≡ shown.Value z → to_z w64 (of_z w64 z) ≡ twos_complement w x
     value_told z f =
-        let i : z ≡ twos_complement w x = accepted_same (sym (ap shownPaper f) ∙ e ∙ value_fits) in
+        let i : z ≡ twos_complement w x = accepted_same (sym (ap shown_paper f) ∙ e ∙ value_fits) in
         let most : 2 ^ (w - 1) ≤ 2 ^ 63 = pow_mono {i = w - 1} {j = 63} (omega arith) in
         back z (subst (λ (y : ℤ). mag y < 2 ^ 63) (sym i) (lt_of_lt_of_le (signed_mag w x lo b) most)) i
 
     pub value_untold : (n : ℕ) (y : ℤ) → k ≡ shown.Refused n → y ≡ twos_complement w x
     value_untold n y f =
-        let g : refused n ≡ accepted (twos_complement w x) = sym (ap shownPaper f) ∙ e ∙ value_fits in
+        let g : refused n ≡ accepted (twos_complement w x) = sym (ap shown_paper f) ∙ e ∙ value_fits in
         let z : ◌≡◌ {A = ℕ} 0 1 = cc in absurd (omega arith)
 
 -- ---- a frequency's parts are the lower 20 bits of its second word

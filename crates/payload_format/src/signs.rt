@@ -1,7 +1,7 @@
 // An item as a signed number.
 ghost use Rattle.std.specs.Prelude.{◌≡◌};
 ghost use Rattle.payload_format.specs.Signs.{signed_of};
-ghost use Rattle.payload_format.specs.Answers.{shownPaper};
+ghost use Rattle.payload_format.specs.Answers.{shown_paper};
 
 // What `signed` answers.
 #[derive(Drop)]
@@ -12,7 +12,7 @@ pub enum Shown {
 
 // The two's complement value of an item of `width` bits; FORMAT for a width outside 1 to 64, VALUE for an item that does not fit it.
 pub fn signed(width: u32, item: u64) -> Shown
-    ensures { shownPaper result ≡ signed_of width item }
+    ensures { shown_paper result ≡ signed_of width item }
 {
     if width < 1 {
         return Shown::Refused(words::FORMAT);

@@ -7,7 +7,7 @@ use Rattle.words.specs.declared.Refusal.{Refusal}
 use Rattle.words.specs.Outcome.{Outcome, refused, accepted, number_of, measured, Done, said_of, left_of, Meets}
 use Rattle.words.specs.Told.{Told}
 use Rattle.words.proofs.MeetLaws.{said_refused, meets_accepted}
-use Rattle.vrt49.specs.Answers.{Tells, numberFor, inNumber, plain, left, beside}
+use Rattle.vrt49.specs.Answers.{Tells, number_for, in_number, plain, left, beside}
 
 module _ {A L : Type 0} (values : A → L) (want : Outcome A) (before : L) where
   pub tells_refused : (k : ℕ) → want ≡ refused k → Tells values want before k before
@@ -18,10 +18,10 @@ module _ {A L : Type 0} (values : A → L) (want : Outcome A) (before : L) where
 
 -- the refusal is told where, so that the number has more in it
 module _ {A L : Type 0} (values : A → L) (want : Told A) (before : L) where
-  pub where_refused : (r : Refusal) (k : ℕ) → want ≡ refused r → k ≡ numberFor r → Tells values (inNumber want) before k before
+  pub where_refused : (r : Refusal) (k : ℕ) → want ≡ refused r → k ≡ number_for r → Tells values (in_number want) before k before
   where_refused r k e f = rw (e, f) (record { number = refl; places = refl })
 
-  pub where_values : (a : A) (after : L) → want ≡ accepted a → after ≡ values a → Tells values (inNumber want) before 0 after
+  pub where_values : (a : A) (after : L) → want ≡ accepted a → after ≡ values a → Tells values (in_number want) before 0 after
   where_values a after e f = rw (e, f) (record { number = refl; places = refl })
 
 -- ---- a call that is lent buffers: r is what the call inside answered, and `after` what it left in them
@@ -52,15 +52,15 @@ module _ {A L W R : Type 0} (values : A → W) (paper : R → Outcome A) (want :
 
 -- and with a refusal that is told where
 beside_where : {A L W : Type 0} (values : A → W) (want : Told (Done A L)) (before : L) (old : W) (d : Done A L) (a : A) → want ≡ accepted d → d.says ≡ a
-    → Tells (beside values) (inNumber want) (before, old) 0 (left_of want before, values a)
+    → Tells (beside values) (in_number want) (before, old) 0 (left_of want before, values a)
 beside_where values want before old d a e s = rw (e, ← s) (record { number = refl; places = refl })
 
 module _ {A L W R : Type 0} (values : A → W) (paper : R → Told A) (want : Told (Done A L)) (before after : L) (old : W) (r : R)
     (m : Meets paper want before r after) where
-  pub beside_where_refused : (s : Refusal) (k : ℕ) → paper r ≡ refused s → k ≡ numberFor s → Tells (beside values) (inNumber want) (before, old) k (after, old)
+  pub beside_where_refused : (s : Refusal) (k : ℕ) → paper r ≡ refused s → k ≡ number_for s → Tells (beside values) (in_number want) (before, old) k (after, old)
   beside_where_refused s k e f = rw (m.buffer, said_refused want s (sym m.answer ∙ e), f) (record { number = refl; places = refl })
 
-  pub beside_where_values : (a : A) (new : W) → paper r ≡ accepted a → new ≡ values a → Tells (beside values) (inNumber want) (before, old) 0 (after, new)
+  pub beside_where_values : (a : A) (new : W) → paper r ≡ accepted a → new ≡ values a → Tells (beside values) (in_number want) (before, old) 0 (after, new)
   beside_where_values a new e f =
       let t = meets_accepted m e in
       rw (m.buffer, f) (beside_where values want before old t.done a t.wants t.says)

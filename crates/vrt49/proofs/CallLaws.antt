@@ -35,7 +35,7 @@ use Rattle.panel_streams.specs.Identity.{identity_of}
 use Rattle.panel_streams.specs.TypeCounts.{type_counts_of}
 use Rattle.panel_streams.specs.OwnTable.{own_table_of}
 use Rattle.panel_streams.specs.Changed.{changed_of}
-use Rattle.vrt49.specs.Answers.{Tells, places_of, numberFor, inNumber}
+use Rattle.vrt49.specs.Answers.{Tells, places_of, number_for, in_number}
 use Rattle.vrt49.specs.Packets.{write_words_by}
 use Rattle.vrt49.specs.Calls.{CallForC, answers, tells, tells_where, OnceForC, SomeForC, LeavesForC, OrderForC, PartsForC, ZeroForC, EachForC, calls_for_c}
 use Rattle.vrt49.proofs.NumberLaws.{Fitting, number_parts, read_fitting, survey_fitting, play_fitting, grow_fitting}
@@ -51,7 +51,7 @@ some_for_c : (c : CallForC) → SomeForC c
 some_for_c (answers want) = λ h. (want h, refl)
 some_for_c (tells want values lent list numbers) = λ h. (number_of (want h), places_of values (want h) (lent h), record { number = refl; places = refl })
 some_for_c (tells_where want values lent list given) =
-    λ h. (number_of (inNumber (want h)), places_of values (inNumber (want h)) (lent h), record { number = refl; places = refl })
+    λ h. (number_of (in_number (want h)), places_of values (in_number (want h)) (lent h), record { number = refl; places = refl })
 
 refusal_places : {A L : Type 0} (values : A → L) (want : Outcome A) (before : L) → 0 < number_of want → places_of values want before ≡ before
 refusal_places values (refused n) before h = refl
@@ -62,7 +62,7 @@ leaves_for_c (answers want) = tt
 leaves_for_c (tells want values lent list numbers) =
     λ h r after t p. t.places ∙ refusal_places values (want h) (lent h) (rw (← t.number) p)
 leaves_for_c (tells_where want values lent list given) =
-    λ h r after t p. t.places ∙ refusal_places values (inNumber (want h)) (lent h) (rw (← t.number) p)
+    λ h r after t p. t.places ∙ refusal_places values (in_number (want h)) (lent h) (rw (← t.number) p)
 
 -- ---- the lists
 
@@ -134,12 +134,12 @@ first_number (r ∷ rest) a = pick_number r.1 r.0 _ _ (first_number rest a)
     pick_number false n o p e = e
 
 first_told : {A : Type 0} (list : RefusalsOf Refusal) (a : A)
-    → number_of (inNumber (first_given list (accepted a))) ≡ number_of (inNumber (first_given {A = Unit} list (accepted tt)))
+    → number_of (in_number (first_given list (accepted a))) ≡ number_of (in_number (first_given {A = Unit} list (accepted tt)))
 first_told [] a = refl
 first_told (r ∷ rest) a = pick_told r.1 r.0 _ _ (first_told rest a)
   where
-    pick_told : {A B : Type 0} (t : Bool) (n : Refusal) (o : Told A) (p : Told B) → number_of (inNumber o) ≡ number_of (inNumber p)
-        → number_of (inNumber (pick t (refused n) o)) ≡ number_of (inNumber (pick t (refused n) p))
+    pick_told : {A B : Type 0} (t : Bool) (n : Refusal) (o : Told A) (p : Told B) → number_of (in_number o) ≡ number_of (in_number p)
+        → number_of (in_number (pick t (refused n) o)) ≡ number_of (in_number (pick t (refused n) p))
     pick_told true n o p e = refl
     pick_told false n o p e = e
 
@@ -148,7 +148,7 @@ order_for_c (answers want) k = tt
 order_for_c (tells want values lent list numbers) k =
     λ h r after t. ((k h).1, t.number ∙ ap number_of (k h).0.1 ∙ first_number (list h) (k h).0.0)
 order_for_c (tells_where want values lent list given) k =
-    λ h r after t. ((k h).1, t.number ∙ ap (λ o. number_of (inNumber o)) (k h).0.1 ∙ first_told (list h) (k h).0.0)
+    λ h r after t. ((k h).1, t.number ∙ ap (λ o. number_of (in_number o)) (k h).0.1 ∙ first_told (list h) (k h).0.0)
 
 zero_told : {A L : Type 0} (values : A → L) (want : Outcome A) (before after : L) → Numbered not_zero want → Tells values want before 0 after
     → (a : A) × (want ≡ accepted a) × (after ≡ values a)
@@ -159,8 +159,8 @@ zero_told values (accepted a) before after h t = (a, refl, t.places)
 
 -- its number is not 0
 zero_where : {A L : Type 0} (values : A → L) (want : Told A) (before after : L) → ((says : Refusal) → want ≡ refused says → Fitting says)
-    → Tells values (inNumber want) before 0 after → (a : A) × (want ≡ accepted a) × (after ≡ values a)
-unfolding numberFor join
+    → Tells values (in_number want) before 0 after → (a : A) × (want ≡ accepted a) × (after ≡ values a)
+unfolding number_for join
 zero_where values (refused r) before after h t = absurd (omega (arith, (h r refl).some, t.number))
 zero_where values (accepted a) before after h t = (a, refl, t.places)
 

@@ -22,20 +22,20 @@ use Rattle.play.specs.Play.{chosen, play_list, play_of, play_told}
 use Rattle.play.proofs.PlayLaws.{play_unheard}
 use Rattle.index_grow.specs.Grow.{grow_list, grow_of, grow_told}
 use Rattle.index_grow.proofs.AnswerLaws.{grow_refused}
-use Rattle.vrt49.specs.Answers.{refusalParts, refusalWidths, numberFor}
+use Rattle.vrt49.specs.Answers.{refusal_parts, refusal_widths, number_for}
 
 -- a refusal fits the number, and has one
 pub record Fitting (r : Refusal) : Type 0 where
   pub some : 0 < r.number
-  pub fits : Within refusalWidths (refusalParts r)
+  pub fits : Within refusal_widths (refusal_parts r)
 
 -- its parts
 pub number_parts : (r : Refusal) → Fitting r
-    → (bits 7 0 (numberFor r) ≡ r.number) × (bits 15 8 (numberFor r) ≡ place_bit r.place) × (bits 31 16 (numberFor r) ≡ place_word r.place)
-unfolding numberFor split
+    → (bits 7 0 (number_for r) ≡ r.number) × (bits 15 8 (number_for r) ≡ place_bit r.place) × (bits 31 16 (number_for r) ≡ place_word r.place)
+unfolding number_for split
 number_parts r f =
-    let e : split refusalWidths (numberFor r) ≡ refusalParts r = split_join refusalWidths (refusalParts r) f.fits in
-    (cc, cc, rw (← shr-shr (numberFor r) 8 8) (cc))
+    let e : split refusal_widths (number_for r) ≡ refusal_parts r = split_join refusal_widths (refusal_parts r) f.fits in
+    (cc, cc, rw (← shr-shr (number_for r) 8 8) (cc))
 
 -- ---- what reading refuses
 

@@ -1,6 +1,6 @@
 -- Every call for C, with its promise and its refusals. No call has a `requires`: it may be handed any numbers and words. The promise of a call that refuses
 -- nothing and answers its value is `r ≡ want h`; that of every other call is `Tells values (want h) (lent h) r after`, of what it is handed, h, the number r
--- that it answers, and the lent places afterwards; and where a refusal is told where, `Tells values (inNumber (want h)) (lent h) r after`. These are the
+-- that it answers, and the lent places afterwards; and where a refusal is told where, `Tells values (in_number (want h)) (lent h) r after`. These are the
 -- `ensures` of the calls, word for word; `want` is the definition of the call inside.
 use Rattle.words.specs.Kit.{◌≡◌, ℕ, ◌<◌, true, List, [], ◌∷◌, ◌++◌, length, get_or}
 use Rattle.std.specs.Prelude.{ℤ, Float}
@@ -42,7 +42,7 @@ use Rattle.panel_streams.specs.Identity.{identity_of}
 use Rattle.panel_streams.specs.TypeCounts.{type_counts_list, type_counts_of}
 use Rattle.panel_streams.specs.OwnTable.{own_table_list, own_table_of}
 use Rattle.panel_streams.specs.Changed.{changed_list, changed_of}
-use Rattle.vrt49.specs.Answers.{Tells, inNumber, plain, left, beside}
+use Rattle.vrt49.specs.Answers.{Tells, in_number, plain, left, beside}
 use Rattle.vrt49.specs.Packets.{packet_values, survey_values, trailer_values, found_values}
 use Rattle.vrt49.specs.Packets.{write_words_list, write_words_of, write_survey_words_list, write_survey_words_of}
 use Rattle.vrt49.specs.Payloads.{coordinates_values, coordinates_in}
@@ -64,14 +64,14 @@ OnceForC (answers {H} want) = (h : H) (r s : ℕ) → r ≡ want h → s ≡ wan
 OnceForC (tells {H} {A} {L} want values lent list numbers) =
     (h : H) (r s : ℕ) (after after' : L) → Tells values (want h) (lent h) r after → Tells values (want h) (lent h) s after' → (r ≡ s) × (after ≡ after')
 OnceForC (tells_where {H} {A} {L} want values lent list given) =
-    (h : H) (r s : ℕ) (after after' : L) → Tells values (inNumber (want h)) (lent h) r after → Tells values (inNumber (want h)) (lent h) s after'
+    (h : H) (r s : ℕ) (after after' : L) → Tells values (in_number (want h)) (lent h) r after → Tells values (in_number (want h)) (lent h) s after'
     → (r ≡ s) × (after ≡ after')
 
 -- it "gets an answer": whatever it is handed, some outcome meets the promise
 abbrev pub SomeForC : CallForC → Type 0
 SomeForC (answers {H} want) = (h : H) → (r : ℕ) × (r ≡ want h)
 SomeForC (tells {H} {A} {L} want values lent list numbers) = (h : H) → (r : ℕ) × (after : L) × Tells values (want h) (lent h) r after
-SomeForC (tells_where {H} {A} {L} want values lent list given) = (h : H) → (r : ℕ) × (after : L) × Tells values (inNumber (want h)) (lent h) r after
+SomeForC (tells_where {H} {A} {L} want values lent list given) = (h : H) → (r : ℕ) × (after : L) × Tells values (in_number (want h)) (lent h) r after
 
 -- "A refusal changes no word of any buffer it was lent": no lent place
 abbrev pub LeavesForC : CallForC → Type 0
@@ -79,7 +79,7 @@ LeavesForC (answers want) = Unit
 LeavesForC (tells {H} {A} {L} want values lent list numbers) =
     (h : H) (r : ℕ) (after : L) → Tells values (want h) (lent h) r after → 0 < r → after ≡ lent h
 LeavesForC (tells_where {H} {A} {L} want values lent list given) =
-    (h : H) (r : ℕ) (after : L) → Tells values (inNumber (want h)) (lent h) r after → 0 < r → after ≡ lent h
+    (h : H) (r : ℕ) (after : L) → Tells values (in_number (want h)) (lent h) r after → 0 < r → after ≡ lent h
 
 -- "The first that applies is given, in these orders": the number is the first of its list that applies, and 0 where none does
 abbrev pub OrderForC : CallForC → Type 0
@@ -88,15 +88,15 @@ OrderForC (tells {H} {A} {L} want values lent list numbers) =
     (h : H) (r : ℕ) (after : L) → Tells values (want h) (lent h) r after
     → (given_in (list h) ≡ numbers) × (r ≡ number_of (first_given {A = Unit} (list h) (accepted tt)))
 OrderForC (tells_where {H} {A} {L} want values lent list given) =
-    (h : H) (r : ℕ) (after : L) → Tells values (inNumber (want h)) (lent h) r after
-    → (given_in (list h) ≡ given h) × (r ≡ number_of (inNumber (first_given {A = Unit} (list h) (accepted tt))))
+    (h : H) (r : ℕ) (after : L) → Tells values (in_number (want h)) (lent h) r after
+    → (given_in (list h) ≡ given h) × (r ≡ number_of (in_number (first_given {A = Unit} (list h) (accepted tt))))
 
 -- the refusal's number, the field's bit and the word are parts of the number that the call gives
 abbrev pub PartsForC : CallForC → Type 0
 PartsForC (answers want) = Unit
 PartsForC (tells want values lent list numbers) = Unit
 PartsForC (tells_where {H} {A} {L} want values lent list given) =
-    (h : H) (r : ℕ) (after : L) (says : Refusal) → Tells values (inNumber (want h)) (lent h) r after → want h ≡ refused says
+    (h : H) (r : ℕ) (after : L) (says : Refusal) → Tells values (in_number (want h)) (lent h) r after → want h ≡ refused says
     → (bits 7 0 r ≡ says.number) × (bits 15 8 r ≡ place_bit says.place) × (bits 31 16 r ≡ place_word says.place)
 
 -- 0 is the number of an accepted answer alone, and then the lent places hold its values
@@ -105,7 +105,7 @@ ZeroForC (answers want) = Unit
 ZeroForC (tells {H} {A} {L} want values lent list numbers) =
     (h : H) (after : L) → Tells values (want h) (lent h) 0 after → (a : A) × (want h ≡ accepted a) × (after ≡ values a)
 ZeroForC (tells_where {H} {A} {L} want values lent list given) =
-    (h : H) (after : L) → Tells values (inNumber (want h)) (lent h) 0 after → (a : A) × (want h ≡ accepted a) × (after ≡ values a)
+    (h : H) (after : L) → Tells values (in_number (want h)) (lent h) 0 after → (a : A) × (want h ≡ accepted a) × (after ≡ values a)
 
 -- something of each call of a list
 abbrev pub EachForC : (CallForC → Type 0) → List {1} CallForC → Type 0

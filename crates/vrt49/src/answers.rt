@@ -3,7 +3,7 @@ ghost use Rattle.words.specs.Kit.{◌≡◌};
 ghost use Rattle.words.specs.Tests.{when};
 ghost use Rattle.words.specs.Word.{Within};
 ghost use Rattle.words.specs.Outcome.{measured};
-ghost use Rattle.vrt49.specs.Answers.{Tells, refusalParts, refusalWidths, numberFor, plain};
+ghost use Rattle.vrt49.specs.Answers.{Tells, refusal_parts, refusal_widths, number_for, plain};
 
 // A flag as a word.
 pub fn flag(set: bool) -> u32
@@ -14,8 +14,8 @@ pub fn flag(set: bool) -> u32
 
 // The number that is given of a refusal that is told where: its own in bits 7-0, the field's bit in 15-8, the word in 31-16.
 pub fn number_for(r: words::Refusal) -> u32
-    requires { Within refusalWidths (refusalParts r) }
-    ensures { result ≡ numberFor r }
+    requires { Within refusal_widths (refusal_parts r) }
+    ensures { result ≡ number_for r }
 {
     let place = r.place;
     let word = words::inner::place_word(place) as u32;

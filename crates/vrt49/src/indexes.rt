@@ -4,7 +4,7 @@ ghost use Rattle.index.specs.Start.{start_index_of};
 ghost use Rattle.index_grow.specs.declared.Taken.TheVariants.{Declared, Undeclared};
 ghost use Rattle.index_grow.specs.Grow.{grow_told};
 ghost use Rattle.index_jump.specs.Jump.{jump_of};
-ghost use Rattle.vrt49.specs.Answers.{Tells, inNumber, plain, beside};
+ghost use Rattle.vrt49.specs.Answers.{Tells, in_number, plain, beside};
 ghost use Rattle.vrt49.specs.Indexes.{taken_values, landed_values, SmallTaken};
 
 // Starts an index for a table at boundary 0; answers TABLE or ROOM. `length` takes the words that the index has then.
@@ -50,7 +50,7 @@ pub extern "C" fn vrt49_grow(
     index: &mut [u32],
     answer: &mut [u32; 5],
 ) -> u32
-    ensures { Tells (beside taken_values) (inNumber (grow_told table.old words.now index.old)) ((table.old, index.old), answer.old) result ((table.new, index.new), answer.new) }
+    ensures { Tells (beside taken_values) (in_number (grow_told table.old words.now index.old)) ((table.old, index.old), answer.old) result ((table.new, index.new), answer.new) }
 {
     match index_grow::grow(table, words, index) {
         index_grow::Grown::Refused(r) => crate::answers::number_for(r),

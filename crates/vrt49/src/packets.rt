@@ -4,7 +4,7 @@ ghost use Rattle.words.specs.Outcome.{accepted, checked, measured, Meets};
 ghost use Rattle.fields.specs.Layout.{field_count, found_of, context_of};
 ghost use Rattle.packet.specs.Told.{read_told, survey_told};
 ghost use Rattle.packet_trailer.specs.Trailer.{trailer_of, trailer_word_of};
-ghost use Rattle.vrt49.specs.Answers.{Tells, inNumber, plain, beside};
+ghost use Rattle.vrt49.specs.Answers.{Tells, in_number, plain, beside};
 ghost use Rattle.vrt49.specs.Packets.{packet_values, survey_values, trailer_values, found_values, words_checks, write_words_of, write_survey_words_of};
 
 // What reading says of a packet, as words.
@@ -39,7 +39,7 @@ fn packet_words(p: packet::Packet) -> [u32; 18]
 // values.
 #[unsafe(no_mangle)]
 pub extern "C" fn vrt49_read(words: &[u32], answer: &mut [u32; 18]) -> u32
-    ensures { Tells packet_values (inNumber (read_told words.now)) answer.old result answer.new }
+    ensures { Tells packet_values (in_number (read_told words.now)) answer.old result answer.new }
 {
     match packet::read(words) {
         packet::Parsed::Refused(r) => crate::answers::number_for(r),
@@ -68,7 +68,7 @@ fn survey_words(s: packet::Survey) -> [u32; 22]
 // those of `vrt49_read`, the pad count, the two words of the payload's format, and its items; these four are zero of a type other than 1.
 #[unsafe(no_mangle)]
 pub extern "C" fn vrt49_read_survey(words: &[u32], answer: &mut [u32; 22]) -> u32
-    ensures { Tells survey_values (inNumber (survey_told words.now)) answer.old result answer.new }
+    ensures { Tells survey_values (in_number (survey_told words.now)) answer.old result answer.new }
 {
     match packet::read_survey(words) {
         packet::ParsedSurvey::Refused(r) => crate::answers::number_for(r),

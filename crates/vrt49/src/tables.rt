@@ -5,7 +5,7 @@ ghost use Rattle.table.specs.Start.{start_of};
 ghost use Rattle.table.specs.Well.{well_made};
 ghost use Rattle.play.specs.Play.{play_told};
 ghost use Rattle.play.specs.Run.{run_of};
-ghost use Rattle.vrt49.specs.Answers.{Tells, inNumber, plain, beside};
+ghost use Rattle.vrt49.specs.Answers.{Tells, in_number, plain, beside};
 ghost use Rattle.vrt49.specs.Tables.{heard_values, reached_values};
 
 // Starts a table for identifiers and their choices; answers LIST or ROOM. `length` takes the layout's words.
@@ -41,7 +41,7 @@ fn heard_words(h: play::Heard) -> [u32; 4]
 // type, stream, missing.
 #[unsafe(no_mangle)]
 pub extern "C" fn vrt49_play(table: &mut [u32], words: &[u32], answer: &mut [u32; 4]) -> u32
-    ensures { Tells (beside heard_values) (inNumber (play_told table.old words.now)) (table.old, answer.old) result (table.new, answer.new) }
+    ensures { Tells (beside heard_values) (in_number (play_told table.old words.now)) (table.old, answer.old) result (table.new, answer.new) }
 {
     match play::play(table, words) {
         play::Played::Refused(r) => crate::answers::number_for(r),

@@ -14,9 +14,9 @@ module _ (body : List ℕ) (w : ℕ) (i : w ≡ indicator_of body) where
   low_bits d = rw (← i, ne_eqb (w % 256) 0 d)
 
   module _ (zero : w % 256 ≡ 0) (end : ℕ) (e : end ≡ 1 + span_of (bits_of 31 w) (drop 1 body)) where
-    other_length : (end ≡ length body → ⊥) → refused LAYOUT ≡ context_of body
+    other_length_lem : (end ≡ length body → ⊥) → refused LAYOUT ≡ context_of body
     unfolding context_of low_bits_set other_length
-    other_length d = rw (walked_words w end body i e, ← i, eq-eqb (w % 256) 0 zero, ne_eqb end (length body) d)
+    other_length_lem d = rw (walked_words w end body i e, ← i, eq-eqb (w % 256) 0 zero, ne_eqb end (length body) d)
 
     module _ (whole : end ≡ length body) (kept : Bool) (k : kept ≡ obeyed (bits_of 31 w) (drop 1 body)) where
       fine : kept ≡ true → accepted tt ≡ context_of body
@@ -24,14 +24,14 @@ module _ (body : List ℕ) (w : ℕ) (i : w ≡ indicator_of body) where
       fine t =
           rw (walked_words w end body i e, walked_rules w kept body i k, ← i, eq-eqb (w % 256) 0 zero, eq-eqb end (length body) whole, t)
 
-      rule_broken : kept ≡ false → refused FIELD ≡ context_of body
+      rule_broken_lem : kept ≡ false → refused FIELD ≡ context_of body
       unfolding context_of low_bits_set other_length rule_broken
-      rule_broken f =
+      rule_broken_lem f =
           rw (walked_words w end body i e, walked_rules w kept body i k, ← i, eq-eqb (w % 256) 0 zero, eq-eqb end (length body) whole, f)
 
 pub check_body_spec : {M : Type 1} → statement M
 check_body_spec =
     tie.close
     (tie.spec
-    (λ c κs. search rules) (λ c. search low_bits) (λ c κs. search rules) (λ c. search other_length) (λ c κs. search rules) (λ c. search fine)
-    (λ c. search rule_broken))
+    (λ c κs. search rules) (λ c. search low_bits) (λ c κs. search rules) (λ c. search other_length_lem) (λ c κs. search rules) (λ c. search fine)
+    (λ c. search rule_broken_lem))

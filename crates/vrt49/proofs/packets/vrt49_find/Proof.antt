@@ -1,7 +1,7 @@
 -- `vrt49_find` meets its promise: the place, or three zeros.
 use Rattle.words.proofs.Kit.{refl, sym, ap, ◌∙◌, rules}
 use Rattle.words.specs.Outcome.{accepted}
-use Rattle.fields.specs.Answers.{foundPaper}
+use Rattle.fields.specs.Answers.{found_paper}
 use Rattle.vrt49.specs.Packets.{found_values}
 use Rattle.vrt49.proofs.AnswerLaws.{tells_values}
 use Rattle.vrt49.proofs.packets.vrt49_find.Statement.{statement}
@@ -11,13 +11,13 @@ returns : tie.Need-returns
 returns c =
     let k : tie.After-find = search in
     let at_at : tie.After-at = search in
-    tells_values found_values _ _ _ _ (ap accepted (sym k.find.ensures ∙ ap foundPaper at_at.at.given.1)) refl
+    tells_values found_values _ _ _ _ (ap accepted (sym k.find.ensures ∙ ap found_paper at_at.at.given.1)) refl
 
 returns-2 : tie.Need-returns-2
 returns-2 c =
     let k : tie.After-find = search in
     let at_told : tie.After-enum-told = search in
-    tells_values found_values _ _ _ _ (ap accepted (sym k.find.ensures ∙ ap foundPaper at_told.enum_told.given.1)) refl
+    tells_values found_values _ _ _ _ (ap accepted (sym k.find.ensures ∙ ap found_paper at_told.enum_told.given.1)) refl
 
 pub vrt49_find_spec : {M : Type 1} → statement M
 vrt49_find_spec = tie.close (tie.spec (λ c κs. search rules) (λ c. search rules) (λ c. search rules) returns returns-2)

@@ -1,7 +1,7 @@
 -- `vrt49_signed` meets its promise: the value, or the number of the refusal.
 use Rattle.words.proofs.Kit.{sym, ap, ◌∙◌, rules}
 use mir.Facts.{to_z-of_z}
-use Rattle.payload_format.specs.Answers.{shownPaper}
+use Rattle.payload_format.specs.Answers.{shown_paper}
 use Rattle.vrt49.specs.Answers.{plain}
 use Rattle.vrt49.proofs.AnswerLaws.{tells_refused, tells_values}
 use borrow.Author.Rules.{sfits_of}
@@ -11,13 +11,13 @@ use Rattle.vrt49.proofs.payloads.vrt49_signed.Tie as tie
 returns : tie.Need-returns
 returns c =
     let k : tie.After-signed = search in
-    tells_refused plain _ _ _ (sym k.signed.ensures ∙ ap shownPaper c.before.n.given.1)
+    tells_refused plain _ _ _ (sym k.signed.ensures ∙ ap shown_paper c.before.n.given.1)
 
 returns-2 : tie.Need-returns-2
 returns-2 c =
     let k : tie.After-signed = search in
     let at-z : tie.After-z = search in
-    tells_values plain _ _ _ _ (sym k.signed.ensures ∙ ap shownPaper at-z.z.given.1) (to_z-of_z (sfits_of c.known-told2.given.0.1))
+    tells_values plain _ _ _ _ (sym k.signed.ensures ∙ ap shown_paper at-z.z.given.1) (to_z-of_z (sfits_of c.known-told2.given.0.1))
 
 pub vrt49_signed_spec : {M : Type 1} → statement M
 vrt49_signed_spec =

@@ -1,5 +1,5 @@
 -- `finish` meets its promise: `word_left` puts the bits that are held at the left of a word.
-use Rattle.bitstream.proofs.SpanLaws.{none}
+use Rattle.bitstream.proofs.SpanLaws.{none_lem}
 use Rattle.bitstream.proofs.AccumulatorLaws.{word_left}
 use Rattle.words.proofs.Kit.{arith, refl, ap, ℕ, set, rules}
 use Rattle.bitstream.proofs.inner.accumulator.finish.Statement.{statement}
@@ -15,12 +15,12 @@ returns : tie.Need-returns
 returns c =
     let a = c.before.before.args in
     record {
-      none = λ e. absurd (omega arith);
+      none_lem = λ e. absurd (omega arith);
       some = λ l. ap (λ (x : ℕ). set a.out.now a.s.at x) (word_left a.s.acc a.s.have (omega arith));
     }
 
 returns-2 : tie.Need-returns-2
-returns-2 c = record { none = λ e. refl; some = λ l. absurd (omega arith) }
+returns-2 c = record { none_lem = λ e. refl; some = λ l. absurd (omega arith) }
 
 pub finish_spec : {M : Type 1} → statement M
 finish_spec =
