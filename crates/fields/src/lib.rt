@@ -1,4 +1,6 @@
 // The fields of a type 4 body: how many an indicator carries, where each stands, and what a body is refused for.
+#![tactic(auto)]
+
 pub mod inner;
 mod places;
 

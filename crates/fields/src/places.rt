@@ -4,7 +4,7 @@ ghost use Rattle.fields.specs.Layout.{inside_of, found_of};
 ghost use Rattle.fields.specs.Answers.{found_paper};
 
 // The place of a field from its body's start, and its words.
-#[derive(Drop)]
+#[derive(Clone, Copy)]
 pub enum Found {
     At(usize, usize),
     Absent,

@@ -1,4 +1,6 @@
 // The index beside a recording: its contents, and an index started. Growing and jumping have crates of their own, index_grow and index_jump.
+#![tactic(auto)]
+
 mod contents;
 mod good;
 pub mod inner;

@@ -1,4 +1,6 @@
 // An index grown by a recording's next packet.
+#![tactic(auto)]
+
 mod boundary;
 mod packets;
 
@@ -6,21 +8,21 @@ ghost use Rattle.words.specs.Outcome.{Meets};
 ghost use Rattle.index_grow.specs.Grow.{grow_told, grown_paper};
 
 // What growing says of a packet that no declared stream has: its size in words, and the word that says so, the identifier or the header.
-#[derive(Drop)]
+#[derive(Clone, Copy)]
 pub struct Stranger {
     pub size: usize,
     pub place: usize,
 }
 
 // What growing says of a packet that is taken in: what play heard, or that it is of no declared stream.
-#[derive(Drop)]
+#[derive(Clone, Copy)]
 pub enum Taken {
     Declared(play::Heard),
     Undeclared(Stranger),
 }
 
 // What growing answers: the packet that was taken in, or the refusal.
-#[derive(Drop)]
+#[derive(Clone, Copy)]
 pub enum Grown {
     Accepted(Taken),
     Refused(words::Refusal),

@@ -1,4 +1,6 @@
 // A jump to a packet of a recording that has an index.
+#![tactic(auto)]
+
 mod copies;
 mod landing;
 
@@ -6,14 +8,14 @@ ghost use Rattle.words.specs.Outcome.{Meets};
 ghost use Rattle.index_jump.specs.Jump.{jump_of, jumped_paper};
 
 // Where a jump has landed: the layout's length, and the word place in the recording of the packet that was asked for.
-#[derive(Drop)]
+#[derive(Clone, Copy)]
 pub struct Landed {
     pub length: usize,
     pub place: u64,
 }
 
 // What a jump answers: where it landed, or the number of the refusal.
-#[derive(Drop)]
+#[derive(Clone, Copy)]
 pub enum Jumped {
     Accepted(Landed),
     Refused(u32),

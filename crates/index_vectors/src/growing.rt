@@ -5,7 +5,7 @@ use words::{Length, Refusal};
 
 // Where growing stands: the packets taken in, and how many of them were undeclared; the check number of their answers; the place in the recording; and whether
 // it goes on, or the refusal.
-#[derive(Drop)]
+#[derive(Clone, Copy)]
 pub struct Growth {
     pub taken: u32,
     pub undeclared: u32,

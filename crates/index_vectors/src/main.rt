@@ -1,12 +1,14 @@
 // Keeps an index beside a recording, as standard input asks, and writes what `index::start_index`, `index_grow::grow` and `index_jump::jump` answer and leave.
 // An operation begins with what is done: 1, a table is started; 2, the recording's words; 3, the words of the index; 4 and 5, words of the index or of the table
 // are stored; 6, the index is started; 7, it is grown; 8, a jump; 9, a longer index; 10, the place in the recording; 11, an entry is shown.
+#![tactic(auto)]
+
 mod growing;
 mod jumping;
 mod setting;
 
 // What is there at an operation: the words of the table, of the recording and of the index, and the place in the recording.
-#[derive(Drop)]
+#[derive(Clone, Copy)]
 pub struct State {
     pub table: usize,
     pub recorded: usize,

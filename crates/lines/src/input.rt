@@ -2,7 +2,7 @@
 use libc::STDIN_FILENO;
 
 // The next word of the input, or its end.
-#[derive(Drop)]
+#[derive(Clone, Copy)]
 pub enum Input {
     Word(u32),
     End,

@@ -4,7 +4,7 @@ ghost use Rattle.std.specs.Prelude.{◌<◌};
 use libc::STDOUT_FILENO;
 
 // What is gathered: the first `used` bytes of the buffer.
-#[derive(Drop)]
+#[derive(Clone, Copy)]
 pub struct Line {
     bytes: [u8; 128],
     used: usize,

@@ -1,4 +1,6 @@
 // A packet: its header, prologue, body and trailer, read from words.
+#![tactic(auto)]
+
 mod checks;
 mod header;
 pub mod inner;
@@ -12,7 +14,7 @@ ghost use Rattle.packet.specs.Survey.{survey_paper};
 ghost use Rattle.packet.specs.Told.{read_told, survey_told};
 
 // The parts of a packet beside its body. A part that is absent is zero.
-#[derive(Drop)]
+#[derive(Clone, Copy)]
 pub struct Parts {
     // the type, 0 to 5
     pub kind: u32,
@@ -35,7 +37,7 @@ pub struct Parts {
 }
 
 // A packet that was read: its parts, its size in words, and its body's place and length.
-#[derive(Drop)]
+#[derive(Clone, Copy)]
 pub struct Packet {
     pub parts: Parts,
     pub size: usize,
@@ -44,7 +46,7 @@ pub struct Packet {
 }
 
 // What reading answers: the packet, or the refusal.
-#[derive(Drop)]
+#[derive(Clone, Copy)]
 pub enum Parsed {
     Accepted(Packet),
     Refused(words::Refusal),
@@ -52,7 +54,7 @@ pub enum Parsed {
 
 // What a reading that follows 49A gives: the packet and, of type 1, its pad count, the two words of its payload's format, and n, the items of its payload. Of
 // other types these are zero.
-#[derive(Drop)]
+#[derive(Clone, Copy)]
 pub struct Survey {
     pub packet: Packet,
     pub pad: u32,
@@ -62,7 +64,7 @@ pub struct Survey {
 }
 
 // What such a reading answers, or the refusal.
-#[derive(Drop)]
+#[derive(Clone, Copy)]
 pub enum ParsedSurvey {
     Accepted(Survey),
     Refused(words::Refusal),

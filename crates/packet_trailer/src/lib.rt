@@ -1,9 +1,11 @@
 // The trailer word of a data packet, taken apart and made.
+#![tactic(auto)]
+
 ghost use Rattle.std.specs.Prelude.{◌≡◌};
 ghost use Rattle.packet_trailer.specs.Trailer.{trailer_of, trailer_word_of, trailer_paper};
 
 // A trailer word's parts.
-#[derive(Drop)]
+#[derive(Clone, Copy)]
 pub struct Trailer {
     pub enables: u32,
     pub indicators: u32,
@@ -24,7 +26,7 @@ pub fn trailer_parts(word: u32) -> Trailer
 }
 
 // What making a trailer word answers: the word, or VALUE.
-#[derive(Drop)]
+#[derive(Clone, Copy)]
 pub enum TrailerWord {
     Accepted(u32),
     Refused(u32),

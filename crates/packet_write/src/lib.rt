@@ -1,4 +1,6 @@
 // A packet written into words, from its parts and its body.
+#![tactic(auto)]
+
 mod fit;
 mod governed;
 pub mod inner;

@@ -1,4 +1,6 @@
 // The page of a table: save and put back.
+#![tactic(auto)]
+
 mod bodies;
 mod contents;
 mod good;

@@ -1,5 +1,7 @@
 // Saves tables and puts pages back, as standard input asks, and writes what `page::save`, `page::put_back` and `page::page_length` answer and leave.
 // A case begins with 1, 2 or 3: a recording that is stopped and resumed, a page to be put back, a table to be saved.
+#![tactic(auto)]
+
 mod resuming;
 mod showing;
 

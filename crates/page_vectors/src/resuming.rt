@@ -3,7 +3,7 @@ use play::Played;
 use words::Length;
 
 // Where a walk over the packets stands, and the check number of their answers so far.
-#[derive(Drop)]
+#[derive(Clone, Copy)]
 pub struct Walk {
     pub at: usize,
     pub answers: u32,

@@ -1,4 +1,6 @@
 // Readings for the panel: what a stream's held fields show, and the held words themselves.
+#![tactic(auto)]
+
 mod asked;
 pub mod inner;
 mod records;
@@ -12,7 +14,7 @@ ghost use Rattle.panel.specs.AllReadings.{readings_of, in_each};
 ghost use Rattle.panel.specs.HeldWords.{held_words_of};
 
 // The two stages of a gain.
-#[derive(Drop)]
+#[derive(Clone, Copy)]
 pub struct Stages {
     pub stage1: f32,
     pub stage2: f32,
@@ -20,7 +22,7 @@ pub struct Stages {
 
 // What a reading shows: whole hertz rounded down and parts of 2^20, a level, both stages of a gain, a temperature, a field of which no more is said, no field;
 // or the number of the refusal.
-#[derive(Drop)]
+#[derive(Clone, Copy)]
 pub enum FieldReading {
     Frequency { hertz: i64, parts: u32 },
     Level(f32),

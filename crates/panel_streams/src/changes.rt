@@ -11,7 +11,7 @@ ghost use Rattle.panel_streams.specs.Changed.{differs, changed_in, changed_paper
 ghost use Rattle.panel_streams.specs.inner.Asked.{changed_checks};
 
 // The bits of the held fields that are not the same; or the number of the refusal.
-#[derive(Drop)]
+#[derive(Clone, Copy)]
 pub enum Changed {
     Fields(u32),
     Refused(u32),

@@ -1,5 +1,7 @@
 // What a table says of a stream beside its readings: who it is, how its packets are read and which fields it holds, what it counted, its record as a table of
 // its own, and which held fields two records have not the same.
+#![tactic(auto)]
+
 mod changes;
 mod records;
 
@@ -14,7 +16,7 @@ pub use changes::Changed;
 pub use records::Identity;
 
 // What a stream counted of a type: how many packets it saw, how many are missing, and the last count; or that none of the type came; or the number of the refusal.
-#[derive(Drop)]
+#[derive(Clone, Copy)]
 pub enum TypeCounts {
     Started { seen: u32, missing: u32, last: u32 },
     NotStarted,

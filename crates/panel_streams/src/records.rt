@@ -9,7 +9,7 @@ ghost use Rattle.panel_streams.specs.TypeCounts.{type_count_in, type_counts_pape
 ghost use Rattle.panel_streams.specs.inner.Asked.{count_asked, own_asked};
 
 // Who a stream is: its identifier, its choice, and its held indicator; or the number of the refusal.
-#[derive(Drop)]
+#[derive(Clone, Copy)]
 pub enum Identity {
     Declared {
         identifier: u32,

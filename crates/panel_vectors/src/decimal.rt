@@ -2,7 +2,7 @@
 ghost use Rattle.std.specs.Prelude.{◌≤◌, ◌<◌};
 
 // A magnitude in 128ths, where it is a whole number of them.
-#[derive(Drop)]
+#[derive(Clone, Copy)]
 enum Parts {
     Exact(u32),
     Inexact,

@@ -1,6 +1,8 @@
 // Asks what standard input says with `panel::reading`, `panel::readings` and `panel::held_words`, and writes what they answer and leave.
 // A case begins with what is asked: 1, a reading, by the table (n, and n words), stream and bit; 2, held words, by the same and the room of the buffer;
 // 3, a sweep over every half of a word; 4, all readings, by the table and the stream.
+#![tactic(auto)]
+
 mod decimal;
 
 use panel::FieldReading;

@@ -11,7 +11,7 @@ use fields::inner::{channel_size, event_size, format_ok, item_size, packing_size
 use words::Check;
 
 // The sizes of a packing, in bits: how many of each word carry fields, and those of a field and its parts.
-#[derive(Drop)]
+#[derive(Clone, Copy)]
 pub struct Packing {
     pub carry: usize,
     pub field: usize,

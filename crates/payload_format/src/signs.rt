@@ -4,7 +4,7 @@ ghost use Rattle.payload_format.specs.Signs.{signed_of};
 ghost use Rattle.payload_format.specs.Answers.{shown_paper};
 
 // What `signed` answers.
-#[derive(Drop)]
+#[derive(Clone, Copy)]
 pub enum Shown {
     Value(i64),
     Refused(u32),

@@ -1,4 +1,6 @@
 // The order of items in a payload: from an item to its time, channel, component and repeat, and back.
+#![tactic(auto)]
+
 mod order;
 
 ghost use Rattle.std.specs.Prelude.{◌≡◌};
@@ -10,7 +12,7 @@ use words::{Check, Length};
 
 // What an item of a payload is: the group that it stands in, counted from 0; the channel of the sample vector; the component of the sample, 0 for real, I or
 // amplitude, 1 for Q or phase; and which one it is of those that are repeated.
-#[derive(Drop)]
+#[derive(Clone, Copy)]
 pub struct Coordinates {
     pub time: u32,
     pub channel: u32,
@@ -19,7 +21,7 @@ pub struct Coordinates {
 }
 
 // What `coordinates_of` answers.
-#[derive(Drop)]
+#[derive(Clone, Copy)]
 pub enum Located {
     At(Coordinates),
     Refused(u32),

@@ -1,4 +1,6 @@
 // Packing: words from items and their tags, under a payload format.
+#![tactic(auto)]
+
 ghost use Rattle.words.specs.Outcome.{measured, Meets};
 ghost use Rattle.payload_pack.specs.Pack.{pack_of};
 

@@ -1,4 +1,6 @@
 // Unpacking: items and their tags from the words of a payload, under a payload format.
+#![tactic(auto)]
+
 mod plain;
 mod tagged;
 mod unpacking;

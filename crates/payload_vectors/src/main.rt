@@ -1,4 +1,6 @@
 // Runs cases of packed samples: reads them from standard input, as big-endian words, and prints what each call answers and leaves.
+#![tactic(auto)]
+
 mod input;
 mod output;
 

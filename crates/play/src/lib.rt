@@ -1,4 +1,6 @@
 // Packets played on a table of streams.
+#![tactic(auto)]
+
 mod entries;
 pub mod inner;
 mod run;
@@ -12,7 +14,7 @@ ghost use Rattle.play.specs.Run.{run_of, run_paper};
 pub use run::{Ran, Reached};
 
 // What play says of an accepted packet: its size in words, its type, its stream's number, and what it added to missing.
-#[derive(Drop)]
+#[derive(Clone, Copy)]
 pub struct Heard {
     pub size: usize,
     pub kind: u32,
@@ -21,7 +23,7 @@ pub struct Heard {
 }
 
 // What play answers: what it heard, or the refusal.
-#[derive(Drop)]
+#[derive(Clone, Copy)]
 pub enum Played {
     Accepted(Heard),
     Refused(words::Refusal),

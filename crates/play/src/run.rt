@@ -10,7 +10,7 @@ ghost use Rattle.play.specs.inner.Entered.{Entered};
 pub const ENTRY_WORDS: usize = 5;
 
 // An entry. An enum in its place would be kept in memory and cost a third more.
-#[derive(Drop)]
+#[derive(Clone, Copy)]
 pub struct Entry {
     // the refusal's number, or 0
     pub number: u32,
@@ -25,14 +25,14 @@ pub struct Entry {
 }
 
 // How many packets have an entry, and the place after them: of the next packet, or of the one whose refusal stopped the run.
-#[derive(Drop)]
+#[derive(Clone, Copy)]
 pub struct Reached {
     pub packets: usize,
     pub next: usize,
 }
 
 // What a run answers: how far it went, or the number of the refusal.
-#[derive(Drop)]
+#[derive(Clone, Copy)]
 pub enum Ran {
     Accepted(Reached),
     Refused(u32),

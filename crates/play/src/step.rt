@@ -4,7 +4,7 @@ ghost use Rattle.table.specs.Well.{well_made};
 ghost use Rattle.play.specs.Run.{Stepped};
 
 // What a step gives: play's answer, whether the walk goes on, and the place of the next packet.
-#[derive(Drop)]
+#[derive(Clone, Copy)]
 pub struct Happened {
     pub answer: crate::Played,
     pub continues: bool,

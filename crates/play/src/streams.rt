@@ -11,7 +11,7 @@ ghost use Rattle.play.specs.inner.Steps.{made_of, sought_paper};
 ghost use Rattle.play.specs.inner.Entered.{declared_of, Sized, Headed, sought_in, chosen_at, HeardAs};
 
 // The stream of a packet: its number, or the number of the refusal.
-#[derive(Drop)]
+#[derive(Clone, Copy)]
 pub enum Sought {
     At(usize),
     Unknown(u32),

@@ -1,5 +1,7 @@
 // Plays the recordings of standard input with `table::start` and `play::play`, and writes what they answer and the table that they leave.
 // A recording is the room of the table, S and S identifiers, C and C choices, D and D stores (place, word) after the start, P, and P packets (n, and n words).
+#![tactic(auto)]
+
 use play::Played;
 use words::Length;
 

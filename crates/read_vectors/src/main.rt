@@ -1,5 +1,7 @@
 // Reads the cases of standard input with `packet::read` and `packet::read_survey` and writes what they answer. A case is 0 to read plainly or 1 to read a
 // survey packet, a word n, and then n words.
+#![tactic(auto)]
+
 ghost use Rattle.words.specs.Kit.{◌+◌, ◌≤◌, length};
 
 use packet::{Packet, Parsed, ParsedSurvey};

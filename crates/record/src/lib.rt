@@ -1,2 +1,4 @@
 // One stream's record: its counts, the fields that it holds, and when it is good. No public call stands here; the crates above use `inner`.
+#![tactic(auto)]
+
 pub mod inner;

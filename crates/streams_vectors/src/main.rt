@@ -1,6 +1,8 @@
 // Asks what standard input says with the calls of `panel_streams`, and writes what they answer and leave.
 // A case begins with what is asked: 1, an identity, by the table (n, and n words) and stream; 2, counts, by the same and the type; 3, an own table, by the table,
 // the stream and the room of the buffer; 4, changed fields, by two tables, each with its stream.
+#![tactic(auto)]
+
 use panel_streams::{Changed, Identity, TypeCounts};
 use words::Length;
 

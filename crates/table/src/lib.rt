@@ -1,4 +1,6 @@
 // The table of streams: a fresh one, and whether one is well made.
+#![tactic(auto)]
+
 mod identifiers;
 pub mod inner;
 mod layout;

@@ -11,7 +11,7 @@ ghost use Rattle.vrt49.specs.Readings.{levelled_of, numbers_shown, reading_value
 
 // A reading as numbers. A frequency has its parts and its whole hertz; a level and a temperature have `first`; a gain has its two stages, `first` and `second`. The
 // numbers that a kind of reading has not are zero.
-#[derive(Drop)]
+#[derive(Clone, Copy)]
 pub struct Values {
     pub kind: u32,
     pub parts: u32,

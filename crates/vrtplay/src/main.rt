@@ -1,5 +1,7 @@
 // Plays a recording from standard input, as document 01 says of `vrtplay`: big-endian words, S, S identifiers, packets. It writes a line for each packet,
 // each by one write.
+#![tactic(auto)]
+
 ghost use Rattle.words.specs.Kit.{◌≡◌, true, ◌*◌, ◌≤◌, length};
 ghost use Rattle.table.specs.Well.{well_made};
 

@@ -1,4 +1,6 @@
 // The refusal numbers, total reads, and the pieces of code that every crate above uses. The laws that the crates above cite are in proofs/.
+#![tactic(auto)]
+
 pub mod inner;
 mod numbers;
 
@@ -9,7 +11,7 @@ pub use numbers::{
 
 // Where the word stands that a packet is refused for, in words from the packet's start: nowhere, at a word, or at the first word of a field, with the field's
 // bit.
-#[derive(Drop)]
+#[derive(Clone, Copy)]
 pub enum Where {
     Nowhere,
     Word(usize),
@@ -17,21 +19,21 @@ pub enum Where {
 }
 
 // What a reading that is refused says: the number of the refusal, and where.
-#[derive(Drop)]
+#[derive(Clone, Copy)]
 pub struct Refusal {
     pub number: u32,
     pub place: Where,
 }
 
 // What checks find: nothing to refuse, or the number of the refusal.
-#[derive(Drop)]
+#[derive(Clone, Copy)]
 pub enum Check {
     Fine,
     Refused(u32),
 }
 
 // What a call that gives a length answers: how many words or items, or the number of the refusal.
-#[derive(Drop)]
+#[derive(Clone, Copy)]
 pub enum Length {
     Accepted(usize),
     Refused(u32),

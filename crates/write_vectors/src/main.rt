@@ -1,6 +1,8 @@
 // Runs the cases of standard input with `packet_write::write` and `write_survey`, `packet::read` and `read_survey`, and `packet_trailer::trailer_word`, and
 // writes what they answer and leave. A case begins with a word that says what is asked: 1 to write, 2 to read, write again and read again, 3 to make a trailer
 // word, 4 and 5 as 1 and 2 of a survey packet.
+#![tactic(auto)]
+
 use packet::{Packet, Parsed, ParsedSurvey, Parts};
 use packet_trailer::TrailerWord;
 use words::Length;

@@ -6,7 +6,7 @@ ghost use Rattle.bitstream.specs.inner.Accumulator.{empty_but, Takeable, Refille
 use words::inner::low;
 
 // The last `have` bits of acc are held; `at` is the next word to read or to write. `value` is what was taken last, and 0 in writing.
-#[derive(Drop)]
+#[derive(Clone, Copy)]
 pub struct Accumulator {
     pub acc: u64,
     pub have: usize,

@@ -3,7 +3,7 @@ ghost use Rattle.words.specs.Kit.{◌≡◌, ◌∷◌, ◌<◌};
 ghost use Rattle.words.specs.SetBits.{bits_of};
 
 // A bit, and the bits after it.
-#[derive(Drop)]
+#[derive(Clone, Copy)]
 pub struct Next {
     pub bit: u32,
     pub rest: u32,

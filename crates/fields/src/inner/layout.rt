@@ -52,7 +52,7 @@ pub fn end_of(bits: u32, body: &[u32]) -> usize
 }
 
 // The place past the fields that a walk has passed, and whether each obeys its rule.
-#[derive(Drop)]
+#[derive(Clone, Copy)]
 pub struct Walked {
     pub at: usize,
     pub kept: bool,

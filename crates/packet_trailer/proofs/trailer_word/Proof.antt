@@ -7,25 +7,25 @@ use Rattle.packet_trailer.specs.Trailer.{trailer_word_of}
 use Rattle.packet_trailer.proofs.trailer_word.Statement.{statement}
 use Rattle.packet_trailer.proofs.trailer_word.Tie as tie
 
+returns-then-enables-ge4096 : tie.Need-returns-then-enables-ge4096
+unfolding trailer_word_of
+returns-then-enables-ge4096 c = search cases
+
+returns-then-indicators-ge4096 : tie.Need-returns-then-indicators-ge4096
+unfolding trailer_word_of
+returns-then-indicators-ge4096 c = search cases
+
+returns-then-e-ge2 : tie.Need-returns-then-e-ge2
+unfolding trailer_word_of
+returns-then-e-ge2 c = search cases
+
+returns-then-associated-ge128 : tie.Need-returns-then-associated-ge128
+unfolding trailer_word_of
+returns-then-associated-ge128 c = search cases
+
 returns : tie.Need-returns
-unfolding trailer_word_of
-returns c = search cases
-
-returns-2 : tie.Need-returns-2
-unfolding trailer_word_of
-returns-2 c = search cases
-
-returns-3 : tie.Need-returns-3
-unfolding trailer_word_of
-returns-3 c = search cases
-
-returns-4 : tie.Need-returns-4
-unfolding trailer_word_of
-returns-4 c = search cases
-
-returns-5 : tie.Need-returns-5
 unfolding trailer_word_of join
-returns-5 c =
+returns c =
     let start : tie.Start = search in
     let t = start.args in
     let same : t.enables * 0x100000 + t.indicators * 0x100 + t.e * 0x80 + t.associated ≡ join (7 ∷ 1 ∷ 12 ∷ 12 ∷ [])
@@ -42,5 +42,5 @@ pub trailer_word_spec : {M : Type 1} → statement M
 trailer_word_spec =
     tie.close
     (tie.spec
-    returns returns-2 returns-3 returns-4 (λ c. search rules) (λ c. search rules) (λ c. search rules) (λ c. search rules) (λ c. search rules)
-    (λ c. search rules) returns-5)
+    returns-then-enables-ge4096 returns-then-indicators-ge4096 returns-then-e-ge2 returns-then-associated-ge128 (λ c. search rules) (λ c. search rules) (λ c. search rules) (λ c. search rules) (λ c. search rules)
+    (λ c. search rules) returns)

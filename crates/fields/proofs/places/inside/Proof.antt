@@ -4,18 +4,18 @@ use Rattle.fields.proofs.PlaceLaws.{inside_past, inside_cut, inside_whole}
 use Rattle.fields.proofs.places.inside.Statement.{statement}
 use Rattle.fields.proofs.places.inside.Tie as tie
 
+returns-then-body-at : tie.Need-returns-then-body-at
+returns-then-body-at c = sym (inside_past _ _ _ c.if-body-at.true)
+
+returns-then-body-at-2 : tie.Need-returns-then-body-at-2
+returns-then-body-at-2 c = sym (inside_cut _ _ _ _ c.before.words_at-n.ensures.0 c.if-body-at-2.true)
+
 returns : tie.Need-returns
-returns c = sym (inside_past _ _ _ c.if1.true)
-
-returns-2 : tie.Need-returns-2
-returns-2 c = sym (inside_cut _ _ _ _ c.before.words-at.ensures.0 c.if2.true)
-
-returns-3 : tie.Need-returns-3
-returns-3 c = sym (inside_whole _ _ _ _ c.before.words-at.ensures.0 c.before.before.before.if1.false c.if2.false)
+returns c = sym (inside_whole _ _ _ _ c.before.words_at-n.ensures.0 c.before.before.before.if-body-at.false c.if-body-at-2.false)
 
 pub inside_spec : {M : Type 1} → statement M
 inside_spec =
     tie.close
     (tie.spec
-    returns (λ c. search rules) (λ c. search rules) (λ c. search rules) (λ c. search rules) (λ c κs. search rules) (λ c. search rules) returns-2
-    returns-3)
+    returns-then-body-at (λ c. search rules) (λ c. search rules) (λ c. search rules) (λ c. search rules) (λ c κs. search rules) (λ c. search rules) returns-then-body-at-2
+    returns)

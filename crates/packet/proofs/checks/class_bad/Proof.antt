@@ -4,13 +4,13 @@ use Rattle.packet.specs.Read.{class_bad}
 use Rattle.packet.proofs.checks.class_bad.Statement.{statement}
 use Rattle.packet.proofs.checks.class_bad.Tie as tie
 
+returns-then-free : tie.Need-returns-then-free
+unfolding class_bad
+returns-then-free c = search cases
+
 returns : tie.Need-returns
 unfolding class_bad
-returns c = search cases
-
-returns-2 : tie.Need-returns-2
-unfolding class_bad
-returns-2 c = rw c.if1.false
+returns c = rw c.if-free.false
 
 pub class_bad_spec : {M : Type 1} → statement M
-class_bad_spec = tie.close (tie.spec returns returns-2)
+class_bad_spec = tie.close (tie.spec returns-then-free returns)

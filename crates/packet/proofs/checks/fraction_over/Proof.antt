@@ -17,8 +17,8 @@ module _ (high low : ℕ) where
       ⊎_elim (λ (h : 3567587328 ≤ low). le-leb 3567587328 low h ∙ sym (le-leb (10 ^ 12) (high_first high low) (omega arith)))
       (λ (h : low < 3567587328). lt-leb 3567587328 low h ∙ sym (lt-leb (10 ^ 12) (high_first high low) (omega arith))) (le_or_lt 3567587328 low)
 
-returns : tie.Need-returns
-returns c = let s : tie.Start = search in high_below s.args.high s.args.low (omega arith) (omega arith)
+returns-then-high-lt232 : tie.Need-returns-then-high-lt232
+returns-then-high-lt232 c = let s : tie.Start = search in high_below s.args.high s.args.low (omega arith) (omega arith)
 
 pub fraction_over_spec : {M : Type 1} → statement M
-fraction_over_spec = tie.close (tie.spec returns (λ c. search high_above) (λ c. search low_decides))
+fraction_over_spec = tie.close (tie.spec returns-then-high-lt232 (λ c. search high_above) (λ c. search low_decides))

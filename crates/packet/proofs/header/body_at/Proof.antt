@@ -6,7 +6,7 @@ use Rattle.packet.proofs.header.body_at.Tie as tie
 
 returns : tie.Need-returns
 unfolding body_at
-returns c = (rw (c.when-so.ensures.0, c.before.has-fraction.ensures, c.before.before.fraction-at.ensures.0), search rules)
+returns c = (rw (c.when_so.ensures.0, c.before.has_fraction.ensures, c.before.before.fraction_at.ensures.0), search rules)
 
 pub body_at_spec : {M : Type 1} → statement M
 body_at_spec =

@@ -6,7 +6,7 @@ use Rattle.packet.proofs.header.class_at.Tie as tie
 
 returns : tie.Need-returns
 unfolding class_at
-returns c = (rw (c.when-so.ensures.0, c.before.has-stream.ensures), search rules)
+returns c = (rw (c.when_so.ensures.0, c.before.has_stream.ensures), search rules)
 
 pub class_at_spec : {M : Type 1} → statement M
 class_at_spec =

@@ -6,7 +6,7 @@ use Rattle.packet.proofs.header.fraction_at.Tie as tie
 
 returns : tie.Need-returns
 unfolding fraction_at
-returns c = (rw (c.when-so.ensures.0, c.before.has-seconds.ensures, c.before.before.seconds-at.ensures.0), search rules)
+returns c = (rw (c.when_so.ensures.0, c.before.has_seconds.ensures, c.before.before.seconds_at.ensures.0), search rules)
 
 pub fraction_at_spec : {M : Type 1} → statement M
 fraction_at_spec =

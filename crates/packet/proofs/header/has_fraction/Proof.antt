@@ -6,7 +6,7 @@ use Rattle.packet.proofs.header.has_fraction.Tie as tie
 
 returns : tie.Need-returns
 unfolding has_fraction
-returns c = rw c.tsf-of.ensures
+returns c = rw c.tsf_of.ensures
 
 pub has_fraction_spec : {M : Type 1} → statement M
 has_fraction_spec =

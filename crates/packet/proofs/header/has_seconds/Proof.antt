@@ -6,7 +6,7 @@ use Rattle.packet.proofs.header.has_seconds.Tie as tie
 
 returns : tie.Need-returns
 unfolding has_seconds
-returns c = rw c.tsi-of.ensures
+returns c = rw c.tsi_of.ensures
 
 pub has_seconds_spec : {M : Type 1} → statement M
 has_seconds_spec =

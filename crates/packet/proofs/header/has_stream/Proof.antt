@@ -9,7 +9,7 @@ use Rattle.packet.proofs.header.has_stream.Tie as tie
 
 returns : tie.Need-returns
 unfolding streamed
-returns c = rw c.type-of.ensures (streamed_bit (type_of c.before.args.w) (mod-lt _ (omega arith)))
+returns c = rw c.type_of.ensures (streamed_bit (type_of c.before.args.w) (mod-lt _ (omega arith)))
 
 pub has_stream_spec : {M : Type 1} → statement M
 has_stream_spec =

@@ -5,14 +5,14 @@ use borrow.Author.Rules.{rules}
 use Rattle.packet.proofs.header.has_trailer.Statement.{statement}
 use Rattle.packet.proofs.header.has_trailer.Tie as tie
 
-returns : tie.Need-returns
+returns-then-type_of-lt4 : tie.Need-returns-then-type_of-lt4
 unfolding trailed
-returns c = search (cases, ← c.before.type-of.ensures)
+returns-then-type_of-lt4 c = search (cases, ← c.before.type_of.ensures)
 
-returns-2 : tie.Need-returns-2
+returns-else-type_of-lt4 : tie.Need-returns-else-type_of-lt4
 unfolding trailed
-returns-2 c = search (cases, ← c.before.type-of.ensures)
+returns-else-type_of-lt4 c = search (cases, ← c.before.type_of.ensures)
 
 pub has_trailer_spec : {M : Type 1} → statement M
 has_trailer_spec =
-    tie.close (tie.spec (λ c κs. search rules) returns returns-2)
+    tie.close (tie.spec (λ c κs. search rules) returns-then-type_of-lt4 returns-else-type_of-lt4)

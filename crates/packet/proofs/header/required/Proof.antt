@@ -9,10 +9,10 @@ unfolding required_of
 returns c =
     let t = c.before.before in (
       rw (
-        c.when-so2.ensures.0,
-        c.before.type-of.ensures,
-        t.when-so.ensures.0,
-        t.before.has-trailer.ensures,
+        c.when_so-2.ensures.0,
+        c.before.type_of.ensures,
+        t.when_so.ensures.0,
+        t.before.has_trailer.ensures,
         t.before.before.body_at.ensures.0,
       ),
       search rules,

@@ -5,14 +5,14 @@ use borrow.Author.Rules.{rules}
 use Rattle.packet.proofs.header.reserved_of.Statement.{statement}
 use Rattle.packet.proofs.header.reserved_of.Tie as tie
 
-returns : tie.Need-returns
+returns-then-type_of-lt4 : tie.Need-returns-then-type_of-lt4
 unfolding reserved_of
-returns c = search (cases, ← c.before.type-of.ensures)
+returns-then-type_of-lt4 c = search (cases, ← c.before.type_of.ensures)
 
-returns-2 : tie.Need-returns-2
+returns-else-type_of-lt4 : tie.Need-returns-else-type_of-lt4
 unfolding reserved_of
-returns-2 c = search (cases, ← c.before.type-of.ensures)
+returns-else-type_of-lt4 c = search (cases, ← c.before.type_of.ensures)
 
 pub reserved_of_spec : {M : Type 1} → statement M
 reserved_of_spec =
-    tie.close (tie.spec (λ c κs. search rules) returns returns-2)
+    tie.close (tie.spec (λ c κs. search rules) returns-then-type_of-lt4 returns-else-type_of-lt4)

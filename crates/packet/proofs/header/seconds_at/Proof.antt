@@ -6,7 +6,7 @@ use Rattle.packet.proofs.header.seconds_at.Tie as tie
 
 returns : tie.Need-returns
 unfolding seconds_at
-returns c = (rw (c.when-so.ensures.0, c.before.has-class.ensures, c.before.before.class-at.ensures.0), search rules)
+returns c = (rw (c.when_so.ensures.0, c.before.has_class.ensures, c.before.before.class_at.ensures.0), search rules)
 
 pub seconds_at_spec : {M : Type 1} → statement M
 seconds_at_spec =

@@ -5,15 +5,15 @@ use Rattle.packet.proofs.RoomLaws.{room, when_inside}
 use Rattle.packet.proofs.prologue.class_high.Statement.{statement}
 use Rattle.packet.proofs.prologue.class_high.Tie as tie
 
-word-if-requires : tie.Need-word-if-requires
-word-if-requires c κs =
+word_if-requires : tie.Need-word_if-requires
+word_if-requires c κs =
     let p = c.before.before.before.requires in
-    rw (c.class-at.ensures.0, c.before.has-class.ensures) (λ there. omega (arith, when_inside _ _ _ _ (room _ _ p.0 p.1).class there))
+    rw (c.class_at.ensures.0, c.before.has_class.ensures) (λ there. omega (arith, when_inside _ _ _ _ (room _ _ p.0 p.1).class there))
 
 returns : tie.Need-returns
 unfolding class_high
-returns c = rw (← c.before.class-at.ensures.0, ← c.before.before.has-class.ensures) c.word-if.ensures
+returns c = rw (← c.before.class_at.ensures.0, ← c.before.before.has_class.ensures) c.word_if.ensures
 
 pub class_high_spec : {M : Type 1} → statement M
 class_high_spec =
-    tie.close (tie.spec (λ c κs. search rules) (λ c κs. search rules) word-if-requires returns)
+    tie.close (tie.spec (λ c κs. search rules) (λ c κs. search rules) word_if-requires returns)

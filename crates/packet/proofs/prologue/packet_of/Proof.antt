@@ -7,10 +7,10 @@ use Rattle.packet.proofs.prologue.packet_of.Tie as tie
 returns : tie.Need-returns
 unfolding packet_of
 returns c =
-    let at : tie.After-body-at = search in
-    let till : tie.After-body-end = search in
-    let long : till.body-end.result - at.body_at.result ≡ body_length at.before.before.args.w = omega
-    (arith, till.body-end.ensures, at.body_at.ensures.0) in
+    let at : tie.After-body_at-place = search in
+    let till : tie.After-body_end-end = search in
+    let long : till.body_end-end.result - at.body_at-place.result ≡ body_length at.before.before.args.w = omega
+    (arith, till.body_end-end.ensures, at.body_at-place.ensures.0) in
     cc
 
 pub packet_of_spec : {M : Type 1} → statement M

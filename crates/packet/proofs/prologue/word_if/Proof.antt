@@ -4,19 +4,19 @@ use borrow.Author.Rules.{rules}
 use Rattle.packet.proofs.prologue.word_if.Statement.{statement}
 use Rattle.packet.proofs.prologue.word_if.Tie as tie
 
-mul-result : tie.Need-overflow-mul-result
-mul-result c = search (rules, c.before.requires c.if1.true)
+offset_bounds-ws-at : tie.Need-offset_bounds-ws-at
+offset_bounds-ws-at c = search (rules, c.before.requires c.if-present.true)
 
-shared-slice-read-result : tie.Need-shared-slice-read-result
-shared-slice-read-result c = c.before.before.requires c.before.if1.true
+bounds-ws-at : tie.Need-bounds-ws-at
+bounds-ws-at c = c.before.before.requires c.before.if-present.true
 
-returns : tie.Need-returns
+returns-then-present : tie.Need-returns-then-present
 unfolding word_if
-returns c = rw c.before.if1.true
+returns-then-present c = rw c.before.if-present.true
 
-returns-2 : tie.Need-returns-2
+returns-else-present : tie.Need-returns-else-present
 unfolding word_if
-returns-2 c = rw c.if1.false
+returns-else-present c = rw c.if-present.false
 
 pub word_if_spec : {M : Type 1} → statement M
-word_if_spec = tie.close (tie.spec mul-result shared-slice-read-result returns returns-2)
+word_if_spec = tie.close (tie.spec offset_bounds-ws-at bounds-ws-at returns-then-present returns-else-present)

@@ -6,7 +6,7 @@ use Rattle.packet_survey.proofs.inner.class_known.Tie as tie
 
 returns : tie.Need-returns
 unfolding class_known
-returns c = rw (c.both_of.ensures, c.before.low-known.ensures, c.before.before.high-known.ensures)
+returns c = rw (c.both_of.ensures, c.before.low_known.ensures, c.before.before.high_known.ensures)
 
 pub class_known_spec : {M : Type 1} → statement M
 class_known_spec = tie.close (tie.spec (λ c κs. search rules) (λ c κs. search rules) (λ c κs. search rules) returns)

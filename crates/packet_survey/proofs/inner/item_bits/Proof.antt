@@ -6,7 +6,7 @@ use Rattle.packet_survey.proofs.inner.item_bits.Tie as tie
 
 returns : tie.Need-returns
 returns c =
-    let k = c.args.data-type in
+    let k = c.args.data_type in
     let h = c.requires in
     let d = bits_doubled k h.0 h.1 in
     (d, rw d (bits_least k h.0 h.1), rw d (bits_most k h.0 h.1))

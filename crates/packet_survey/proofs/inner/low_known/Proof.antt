@@ -7,7 +7,7 @@ use Rattle.packet_survey.proofs.inner.low_known.Tie as tie
 returns : tie.Need-returns
 returns c =
     let s : tie.Start = search in
-    rw (c.both-of2.ensures, c.before.both_of.ensures, c.before.before.data-type-of.ensures) (low_known_lem s.args.low (omega arith))
+    rw (c.both_of-2.ensures, c.before.both_of.ensures, c.before.before.data_type_of-data_type.ensures) (low_known_lem s.args.low (omega arith))
 
 pub low_known_spec : {M : Type 1} → statement M
 low_known_spec = tie.close (tie.spec (λ c κs. search rules) (λ c κs. search rules) (λ c κs. search rules) returns)

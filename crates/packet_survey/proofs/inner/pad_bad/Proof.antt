@@ -1,5 +1,5 @@
 -- `pad_bad` meets its promise: each return is a part of the definition, in its order.
-use Rattle.words.proofs.Kit.{◌≡◌, refl, Bool, true, false, not, ℕ, not-false, rules}
+use Rattle.words.proofs.Kit.{◌≡◌, refl, ap, Bool, true, false, not, ℕ, not-false, rules}
 use Rattle.words.specs.Tests.{pick, both}
 use Rattle.packet_survey.specs.Class.{low_known, class_known}
 use Rattle.packet_survey.specs.Payload.{payload_whole, pad_bad}
@@ -29,22 +29,22 @@ module _ (classed trailed : Bool) (high low l : ℕ) (there : Bool) (t : there �
 low_asked : (high low : ℕ) (known : Bool) → known ≡ class_known high low → not known ≡ false → low_known low ≡ true
 low_asked high low known k u = class_low high low (rw (← k) (not-false known u))
 
-returns-2 : tie.Need-returns-2
-returns-2 c =
-    let at_both : tie.After-both-of = search in
-    class_unknown _ _ _ _ _ at_both.both_of.result at_both.both_of.ensures (search) c.before.class-known.result c.before.class-known.ensures
-    c.if2.true
+returns-then-not-class_known : tie.Need-returns-then-not-class_known
+returns-then-not-class_known c =
+    let at_both : tie.After-both_of = search in
+    class_unknown _ _ _ _ _ at_both.both_of.result at_both.both_of.ensures (search) c.before.class_known.result c.before.class_known.ensures
+    (ap not c.if-not-class_known.true)
 
-payload-whole-requires : tie.Need-payload-whole-requires
-payload-whole-requires c κs = (low_asked _ _ _ c.before.class-known.ensures c.if2.false, search rules)
+payload_whole-requires : tie.Need-payload_whole-requires
+payload_whole-requires c κs = (low_asked _ _ _ c.before.class_known.ensures (ap not c.if-not-class_known.false), search rules)
 
-returns-3 : tie.Need-returns-3
-returns-3 c =
-    let at_both : tie.After-both-of = search in
-    let at-known : tie.After-class-known = search in
-    payload_asked _ _ _ _ _ at_both.both_of.result at_both.both_of.ensures (search) at-known.class-known.result at-known.class-known.ensures
-    (search) c.payload-whole.result c.payload-whole.ensures
+returns : tie.Need-returns
+returns c =
+    let at_both : tie.After-both_of = search in
+    let at-known : tie.After-class_known = search in
+    payload_asked _ _ _ _ _ at_both.both_of.result at_both.both_of.ensures (search) at-known.class_known.result at-known.class_known.ensures
+    (search) c.payload_whole.result c.payload_whole.ensures
 
 pub pad_bad_spec : {M : Type 1} → statement M
 pad_bad_spec =
-    tie.close (tie.spec (λ c κs. search rules) (λ c. search part_absent) (λ c κs. search rules) returns-2 payload-whole-requires returns-3)
+    tie.close (tie.spec (λ c κs. search rules) (λ c. search part_absent) (λ c κs. search rules) returns-then-not-class_known payload_whole-requires returns)

@@ -6,7 +6,7 @@ use Rattle.packet_survey.proofs.inner.payload_bits.Tie as tie
 
 returns : tie.Need-returns
 unfolding payload_bits
-returns c = rw c.pad-of.ensures.0
+returns c = rw c.pad_of.ensures.0
 
 pub payload_bits_spec : {M : Type 1} → statement M
 payload_bits_spec =

@@ -4,13 +4,13 @@ use Rattle.payload_format.specs.Format.{component_count}
 use Rattle.payload_format.proofs.inner.component_count.Statement.{statement}
 use Rattle.payload_format.proofs.inner.component_count.Tie as tie
 
+returns-then-real_complex-eq0 : tie.Need-returns-then-real_complex-eq0
+unfolding component_count
+returns-then-real_complex-eq0 c = rw (← c.before.real_complex.ensures, eq-eqb _ 0 c.if-real_complex-eq0.true) (search rules)
+
 returns : tie.Need-returns
 unfolding component_count
-returns c = rw (← c.before.real-complex.ensures, eq-eqb _ 0 c.if1.true) (search rules)
-
-returns-2 : tie.Need-returns-2
-unfolding component_count
-returns-2 c = rw (← c.before.real-complex.ensures, ne_eqb _ 0 c.if1.false) (search rules)
+returns c = rw (← c.before.real_complex.ensures, ne_eqb _ 0 c.if-real_complex-eq0.false) (search rules)
 
 pub component_count_spec : {M : Type 1} → statement M
-component_count_spec = tie.close (tie.spec (λ c κs. search rules) returns returns-2)
+component_count_spec = tie.close (tie.spec (λ c κs. search rules) returns-then-real_complex-eq0 returns)

@@ -16,14 +16,14 @@ module _ (first second v r c : ℕ) (a : v ≡ vector_size second) (b : r ≡ re
   unfolding count_bad
   count_once z = rw (group_once first second v r c a b e z, le-ltb 2097120 n few)
 
-returns : tie.Need-returns
+returns-then-n-gt2097120 : tie.Need-returns-then-n-gt2097120
 unfolding count_bad
-returns c = search cases
+returns-then-n-gt2097120 c = search cases
 
 pub count_bad_spec : {M : Type 1} → statement M
 count_bad_spec =
     tie.close
     (tie.spec
-    returns (λ c κs. search rules) (λ c. search rules) (λ c κs. search rules) (λ c. search rules) (λ c. search (two_fit, factors)) (λ c κs. search rules)
+    returns-then-n-gt2097120 (λ c κs. search rules) (λ c. search rules) (λ c κs. search rules) (λ c. search rules) (λ c. search (two_fit, factors)) (λ c κs. search rules)
     (λ c. search rules) (λ c. search (two_some, factors)) (λ c. search count_once) (λ c. search (three_fit, factors))
     (λ c. search (three_some, factors)) (λ c. search count_items))

@@ -5,13 +5,13 @@ use Rattle.payload_format.specs.Format.{format_bad}
 use Rattle.payload_format.proofs.inner.format_bad.Statement.{statement}
 use Rattle.payload_format.proofs.inner.format_bad.Tie as tie
 
+returns-then-not-format_ok : tie.Need-returns-then-not-format_ok
+unfolding format_bad
+returns-then-not-format_ok c = rw (← c.before.format_ok.ensures) (search cases)
+
 returns : tie.Need-returns
 unfolding format_bad
-returns c = rw (← c.before.format-ok.ensures) (search cases)
-
-returns-2 : tie.Need-returns-2
-unfolding format_bad
-returns-2 c = rw (← c.before.before.format-ok.ensures, c.before.if1.false) c.wide-processing.ensures
+returns c = rw (← c.before.before.format_ok.ensures, c.before.if-not-format_ok.false) c.wide_processing.ensures
 
 pub format_bad_spec : {M : Type 1} → statement M
-format_bad_spec = tie.close (tie.spec (λ c κs. search rules) returns (λ c κs. search rules) returns-2)
+format_bad_spec = tie.close (tie.spec (λ c κs. search rules) returns-then-not-format_ok (λ c κs. search rules) returns)

@@ -6,21 +6,21 @@ use Rattle.words.proofs.Cases.{cases}
 use Rattle.payload_format.proofs.inner.wide_processing.Statement.{statement}
 use Rattle.payload_format.proofs.inner.wide_processing.Tie as tie
 
-returns : tie.Need-returns
+returns-then-link_efficient : tie.Need-returns-then-link_efficient
 unfolding wide_processing
-returns c = rw (← c.before.link-efficient.ensures) (search cases)
+returns-then-link_efficient c = rw (← c.before.link_efficient.ensures) (search cases)
 
 -- the definition past its first line
-lines : (c : tie.After-packing-size) →
+lines : (c : tie.After-packing_size-field) →
     let start : tie.Start = search in
-    wide_processing start.args.first ≡ both (ltb 32 c.packing-size.result) (ltb c.packing-size.result 64)
+    wide_processing start.args.first ≡ both (ltb 32 c.packing_size-field.result) (ltb c.packing_size-field.result 64)
 unfolding wide_processing
 lines c =
-    let at-link : tie.After-link-efficient = search in
-    rw (← at-link.link-efficient.ensures, ← c.packing-size.ensures, c.before.if1.false) refl
+    let at-link : tie.After-link_efficient = search in
+    rw (← at-link.link_efficient.ensures, ← c.packing_size-field.ensures, c.before.if-link_efficient.false) refl
 
 pub wide_processing_spec : {M : Type 1} → statement M
 wide_processing_spec =
     tie.close
     (tie.spec
-    (λ c κs. search rules) returns (λ c κs. search rules) (λ c. rw (lines (search)) (search cases)) (λ c. rw (lines (search)) (search cases)))
+    (λ c κs. search rules) returns-then-link_efficient (λ c κs. search rules) (λ c. rw (lines (search)) (search cases)) (λ c. rw (lines (search)) (search cases)))

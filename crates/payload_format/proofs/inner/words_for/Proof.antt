@@ -5,12 +5,12 @@ use Rattle.payload_format.proofs.FormatLaws.{carry_some, carry_most, field_most,
 use Rattle.payload_format.proofs.inner.words_for.Statement.{statement}
 use Rattle.payload_format.proofs.inner.words_for.Tie as tie
 
-words-of-requires : tie.Need-words-of-requires
+words_of-requires : tie.Need-words_of-requires
 unfolding packing_of
-words-of-requires c κs =
+words_of-requires c κs =
     let start : tie.Start = search in
     let first = start.args.first in
-    rw c.packing-of.ensures (carry_some first, carry_most first, field_most first, search rules)
+    rw c.packing_of-p.ensures (carry_some first, carry_most first, field_most first, search rules)
 
 pub words_for_spec : {M : Type 1} → statement M
-words_for_spec = tie.close (tie.spec (λ c κs. search rules) words-of-requires (λ c. search words_for_lem))
+words_for_spec = tie.close (tie.spec (λ c κs. search rules) words_of-requires (λ c. search words_for_lem))

@@ -11,19 +11,19 @@ use Rattle.payload_format.proofs.inner.words_of.Tie as tie
 quotient_fits : {x : ℕ} (d : ℕ) → Fits w32 x → Fits w64 (x / d)
 quotient_fits {x} d small = omega (arith, small, div-le_self x d)
 
-mul-bits : tie.Need-overflow-mul-bits
-mul-bits c = omega (arith, mul-le-mul_right c.args.n c.requires.2)
+overflow_mul-bits : tie.Need-overflow_mul-bits
+overflow_mul-bits c = omega (arith, mul-le-mul_right c.args.n c.requires.2)
 
-add-bits : tie.Need-overflow-add-bits
-add-bits c = omega (arith, mul-le-mul_right c.args.n c.requires.2)
+overflow_add-bits : tie.Need-overflow_add-bits
+overflow_add-bits c = omega (arith, mul-le-mul_right c.args.n c.requires.2)
 
-cast-bits : tie.Need-overflow-cast-bits
-cast-bits c =
+overflow_cast-bits : tie.Need-overflow_cast-bits
+overflow_cast-bits c =
     let start : tie.Start = search in
-    omega (arith, mul-le-mul_right start.args.n start.pre.2)
+    omega (arith, mul-le-mul_right start.args.n start.requires.2)
 
-cast-result-2 : tie.Need-overflow-cast-result-2
-cast-result-2 c = quotient_fits c.args.c (cast-bits c)
+overflow_cast-result-2 : tie.Need-overflow_cast-result-2
+overflow_cast-result-2 c = quotient_fits c.args.c (overflow_cast-bits c)
 
 returns : tie.Need-returns
 unfolding needed
@@ -32,4 +32,4 @@ returns c = refl
 pub words_of_spec : {M : Type 1} → statement M
 words_of_spec =
     tie.close
-    (tie.spec mul-bits (λ c. search rules) add-bits cast-bits (λ c. search rules) (λ c. search rules) cast-result-2 returns)
+    (tie.spec overflow_mul-bits (λ c. search rules) overflow_add-bits overflow_cast-bits (λ c. search rules) (λ c. search rules) overflow_cast-result-2 returns)

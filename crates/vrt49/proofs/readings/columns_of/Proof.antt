@@ -23,7 +23,7 @@ loop-holds c = (columns_none, sym slot_first)
 loop-again : tie.Need-loop-preserved invariant-loop decreases-loop
 loop-again c =
     let laid : tie.After-rows-of invariant-loop decreases-loop = search in
-    (laid.rows_of_lem.ensures.1, laid.rows_of_lem.ensures.0)
+    (laid.rows_of.ensures.1, laid.rows_of.ensures.0)
 
 returns : tie.Need-returns invariant-loop decreases-loop
 returns c =

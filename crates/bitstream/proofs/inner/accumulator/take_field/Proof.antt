@@ -4,7 +4,7 @@ use Rattle.bitstream.proofs.ReadLaws.{narrow_takeable, field_bits, front_takeabl
 use Rattle.bitstream.proofs.inner.accumulator.take_field.Statement.{statement}
 use Rattle.bitstream.proofs.inner.accumulator.take_field.Tie as tie
 
-high_small : (c : tie.After-take2) → c.take2.result.value < 2 ^ 32
+high_small : (c : tie.After-take-high) → c.take-high.result.value < 2 ^ 32
 high_small c = search front_small
 
 pub take_field_spec : {M : Type 1} → statement M

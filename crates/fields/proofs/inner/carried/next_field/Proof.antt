@@ -4,15 +4,15 @@ use borrow.Author.Rules.{rules}
 use Rattle.fields.proofs.inner.carried.next_field.Statement.{statement}
 use Rattle.fields.proofs.inner.carried.next_field.Tie as tie
 
-sub-bit : tie.Need-overflow-sub-bit
-sub-bit c = leading_small 31 c.args.rest c.requires c.ranges.rest.fits
+overflow_sub-bit : tie.Need-overflow_sub-bit
+overflow_sub-bit c = leading_small 31 c.args.rest c.requires c.ranges.rest.fits
 
-sub-t4 : tie.Need-overflow-sub-t4
-sub-t4 c = shift_le 31 c.args.rest c.requires c.ranges.rest.fits
+overflow_sub-result : tie.Need-overflow_sub-result
+overflow_sub-result c = shift_le 31 c.args.rest c.requires c.ranges.rest.fits
 
 returns : tie.Need-returns
 returns c = bits_cleared 31 c.args.rest c.requires c.ranges.rest.fits
 
 pub next_field_spec : {M : Type 1} → statement M
 next_field_spec =
-    tie.close (tie.spec sub-bit (λ c. search rules) sub-t4 returns)
+    tie.close (tie.spec overflow_sub-bit (λ c. search rules) overflow_sub-result returns)

@@ -6,4 +6,4 @@ use Rattle.fields.proofs.inner.layout.ascii_taken.Tie as tie
 
 pub ascii_taken_spec : {M : Type 1} → statement M
 ascii_taken_spec =
-    tie.close (tie.spec (λ c κs. search rules) (λ c. (search (cases, c.ascii-words.ensures.0), search rules)) (λ c. (search cases, search rules)))
+    tie.close (tie.spec (λ c κs. search rules) (λ c. (search (cases, c.ascii_words.ensures.0), search rules)) (λ c. (search cases, search rules)))

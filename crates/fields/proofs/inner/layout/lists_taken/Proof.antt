@@ -6,4 +6,4 @@ use Rattle.fields.proofs.inner.layout.lists_taken.Tie as tie
 
 pub lists_taken_spec : {M : Type 1} → statement M
 lists_taken_spec =
-    tie.close (tie.spec (λ c κs. search rules) (λ c. (search (cases, c.list-words-at.ensures.0), search rules)) (λ c. (search cases, search rules)))
+    tie.close (tie.spec (λ c κs. search rules) (λ c. (search (cases, c.list_words_at.ensures.0), search rules)) (λ c. (search cases, search rules)))

@@ -5,16 +5,16 @@ use Rattle.fields.proofs.WalkLaws.{Walking, walking_start, walking_some, walking
 use Rattle.fields.proofs.inner.layout.low_kept.Statement.{statement}
 use Rattle.fields.proofs.inner.layout.low_kept.Tie as tie
 
-abbrev invariant-loop : tie.invariant-loop
-invariant-loop bits body from rest₀ at₀ rest at = Walking bits from body rest at
+abbrev invariant-loop-rest : tie.invariant-loop-rest
+invariant-loop-rest bits body from rest₀ at₀ rest at = Walking bits from body rest at
 
-abbrev decreases-loop : tie.decreases-loop
-decreases-loop bits body from rest₀ at₀ rest at = rest
+abbrev decreases-loop-rest : tie.decreases-loop-rest
+decreases-loop-rest bits body from rest₀ at₀ rest at = rest
 
 pub low_kept_spec : {M : Type 1} → statement M
 low_kept_spec =
     tie.close
     (tie.spec
-    invariant-loop decreases-loop (λ c. search walking_start) (λ c κs. search walking_some) (λ c κs. (search rules, search walking_near)) (λ c. search walking_broken)
+    invariant-loop-rest decreases-loop-rest (λ c. search walking_start) (λ c κs. search walking_some) (λ c κs. (search rules, search walking_near)) (λ c. search walking_broken)
     (λ c κs. (search walking_bit, search walking_near)) (λ c. search (rules, walking_near)) (λ c. search rules) (λ c. search walking_turn)
     (λ c. search walking_end))

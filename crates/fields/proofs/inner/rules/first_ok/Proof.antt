@@ -8,4 +8,4 @@ use Rattle.fields.proofs.inner.rules.first_ok.Tie as tie
 pub first_ok_spec : {M : Type 1} → statement M
 unfolding first_ok
 first_ok_spec =
-    tie.close (tie.spec (λ c. (sym (first_small _ _ (search)), search rules)) (λ c κs. search rules) (λ c. (rw c.limit-of.ensures, search rules)))
+    tie.close (tie.spec (λ c. (sym (first_small _ _ (search)), search rules)) (λ c κs. search rules) (λ c. (rw c.limit_of.ensures, search rules)))

@@ -5,11 +5,11 @@ use Rattle.fields.proofs.SizeLaws.{twice_at_most}
 use Rattle.fields.proofs.inner.sizes.list_words.Statement.{statement}
 use Rattle.fields.proofs.inner.sizes.list_words.Tie as tie
 
-mul-result : tie.Need-overflow-mul-result
-mul-result c = omega (arith, twice_at_most (c.args.b % 2 ^ 15) (c.args.b / 2 ^ 15 % 2) (omega arith))
+overflow_mul-result : tie.Need-overflow_mul-result
+overflow_mul-result c = omega (arith, twice_at_most (c.args.b % 2 ^ 15) (c.args.b / 2 ^ 15 % 2) (omega arith))
 
-add-result-5 : tie.Need-overflow-add-result-5
-add-result-5 c = omega (arith, twice_at_most (c.args.b % 2 ^ 15) (c.args.b / 2 ^ 15 % 2) (omega arith))
+overflow_add-result-5 : tie.Need-overflow_add-result-5
+overflow_add-result-5 c = omega (arith, twice_at_most (c.args.b % 2 ^ 15) (c.args.b / 2 ^ 15 % 2) (omega arith))
 
 returns : tie.Need-returns
 unfolding list_words
@@ -17,4 +17,4 @@ returns c = (refl, omega (arith, twice_at_most (c.args.b % 2 ^ 15) (c.args.b / 2
 
 pub list_words_spec : {M : Type 1} → statement M
 list_words_spec =
-    tie.close (tie.spec (λ c. search rules) (λ c. search rules) (λ c. search rules) (λ c. search rules) mul-result add-result-5 returns)
+    tie.close (tie.spec (λ c. search rules) (λ c. search rules) (λ c. search rules) (λ c. search rules) overflow_mul-result overflow_add-result-5 returns)

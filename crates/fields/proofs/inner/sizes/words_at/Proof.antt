@@ -6,17 +6,17 @@ use Rattle.fields.proofs.SizeLaws.{words_some, words_lacking}
 use Rattle.fields.proofs.inner.sizes.words_at.Statement.{statement}
 use Rattle.fields.proofs.inner.sizes.words_at.Tie as tie
 
-returns-2 : tie.Need-returns-2
+returns-then-bit-eq9 : tie.Need-returns-then-bit-eq9
 unfolding words_of
-returns-2 c = (search (cases, c.ascii-words.ensures.0), search rules)
+returns-then-bit-eq9 c = (search (cases, c.ascii_words.ensures.0), search rules)
 
-returns-3 : tie.Need-returns-3
+returns-then-bit-eq8 : tie.Need-returns-then-bit-eq8
 unfolding words_of
-returns-3 c = (search (cases, c.list-words-at.ensures.0), search rules)
+returns-then-bit-eq8 c = (search (cases, c.list_words_at.ensures.0), search rules)
 
 pub words_at_spec : {M : Type 1} → statement M
 words_at_spec =
     tie.close
     (tie.spec
-    (λ c κs. search rules) (λ c. (search words_some, search rules)) (λ c κs. search rules) returns-2 (λ c κs. search rules) returns-3
+    (λ c κs. search rules) (λ c. (search words_some, search rules)) (λ c κs. search rules) returns-then-bit-eq9 (λ c κs. search rules) returns-then-bit-eq8
     (λ c. (search words_lacking, search rules)))

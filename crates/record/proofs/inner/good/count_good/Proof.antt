@@ -5,9 +5,9 @@ use Rattle.record.specs.Good.{count_good}
 use Rattle.record.proofs.inner.good.count_good.Statement.{statement}
 use Rattle.record.proofs.inner.good.count_good.Tie as tie
 
-returns : tie.Need-returns
+returns-then-last-gt16 : tie.Need-returns-then-last-gt16
 unfolding count_good
-returns c =
+returns-then-last-gt16 c =
     let start : tie.Start = search in
     let started = ne_eqb start.args.last 0 (λ e. absurd (omega (arith, e))) in
     rw started (search cases)
@@ -15,4 +15,4 @@ returns c =
 pub count_good_spec : {M : Type 1} → statement M
 unfolding count_good
 count_good_spec =
-    tie.close (tie.spec returns (λ c. search cases) (λ c κs. search rules) (λ c. search (cases, c.both_of.ensures)))
+    tie.close (tie.spec returns-then-last-gt16 (λ c. search cases) (λ c κs. search rules) (λ c. search (cases, c.both_of.ensures)))

@@ -16,12 +16,12 @@ module _ (held last : ℕ) where
   unfolding held_good
   held_early some e = let f = ne_eqb held 0 some in let g = eq-eqb last 0 e in rw (g, f) (sym (both_no (eqb (bit_and held held_mask) held)))
 
-returns-3 : tie.Need-returns-3
+returns : tie.Need-returns
 unfolding held_good held_mask slot_mask
-returns-3 c =
+returns c =
     let start : tie.Start = search in
     let late = ne_eqb start.args.last 0 (λ e. absurd (omega (arith, e))) in
     rw late (sym (both_yes _))
 
 pub held_good_spec : {M : Type 1} → statement M
-held_good_spec = tie.close (tie.spec (λ c. search none_held) (λ c. search held_early) returns-3)
+held_good_spec = tie.close (tie.spec (λ c. search none_held) (λ c. search held_early) returns)

@@ -5,16 +5,16 @@ use Rattle.record.proofs.GoodLaws.{testing_fails, testing_turn, testing_end}
 use Rattle.record.proofs.inner.good.high_good.Statement.{statement}
 use Rattle.record.proofs.inner.good.high_good.Tie as tie
 
-abbrev invariant-loop : tie.invariant-loop
-invariant-loop rec first past bit₀ slot₀ bit slot = Testing rec first past bit slot
+abbrev invariant-loop-bit : tie.invariant-loop-bit
+invariant-loop-bit rec first past bit₀ slot₀ bit slot = Testing rec first past bit slot
 
-abbrev decreases-loop : tie.decreases-loop
-decreases-loop rec first past bit₀ slot₀ bit slot = bit
+abbrev decreases-loop-bit : tie.decreases-loop-bit
+decreases-loop-bit rec first past bit₀ slot₀ bit slot = bit
 
 pub high_good_spec : {M : Type 1} → statement M
 high_good_spec =
     tie.close
     (tie.spec
-    invariant-loop decreases-loop (λ c κs. search rules) (λ c. testing_start _ _ _ _ (omega arith) (omega arith) (omega arith) (search)) (λ c κs. search rules)
+    invariant-loop-bit decreases-loop-bit (λ c κs. search rules) (λ c. testing_start _ _ _ _ (omega arith) (omega arith) (omega arith) (search)) (λ c κs. search rules)
     (λ c. search testing_head) (λ c κs. (search, search rules, search testing_slotted, search testing_here, search)) (λ c. search testing_fails)
     (λ c. search testing_fits) (λ c. search rules) (λ c. search rules) (λ c. search testing_turn) (λ c. search testing_end))

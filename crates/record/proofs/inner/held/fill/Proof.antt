@@ -6,29 +6,29 @@ use Rattle.record.proofs.HoldLaws.{Holding, holding_start, holding_slot, holding
 use Rattle.record.proofs.inner.held.fill.Statement.{statement}
 use Rattle.record.proofs.inner.held.fill.Tie as tie
 
-abbrev invariant-loop : tie.invariant-loop
-invariant-loop slots₀ bits source at first past bit₀ slot₀ from₀ slots bit slot from = Holding first past bits at source slots₀ slots bit slot from
+abbrev invariant-loop-bit : tie.invariant-loop-bit
+invariant-loop-bit slots₀ bits source at first past bit₀ slot₀ from₀ slots bit slot from = Holding first past bits at source slots₀ slots bit slot from
 
-abbrev decreases-loop : tie.decreases-loop
-decreases-loop slots₀ bits source at first past bit₀ slot₀ from₀ slots bit slot from = bit
+abbrev decreases-loop-bit : tie.decreases-loop-bit
+decreases-loop-bit slots₀ bits source at first past bit₀ slot₀ from₀ slots bit slot from = bit
 
-loop-holds : tie.Need-loop-init invariant-loop decreases-loop
-loop-holds c = let start : tie.Start invariant-loop decreases-loop = search in search (holding_start, start.pre.4)
+loop-holds : tie.Need-loop-bit-init invariant-loop-bit decreases-loop-bit
+loop-holds c = let start : tie.Start invariant-loop-bit decreases-loop-bit = search in search (holding_start, start.requires.4)
 
-loop-again : tie.Need-loop-preserved invariant-loop decreases-loop
+loop-again : tie.Need-loop-bit-preserved invariant-loop-bit decreases-loop-bit
 loop-again c =
-    let turn : tie.In-loop invariant-loop decreases-loop = search in
-    let sized : tie.After-field-size invariant-loop decreases-loop = search in
-    let p = turn.before.loop.inv in
-    let more = turn.loop-test.taken in
-    let en = sized.field-size.ensures.0 in
+    let turn : tie.In-loop-bit invariant-loop-bit decreases-loop-bit = search in
+    let sized : tie.After-field_size-n invariant-loop-bit decreases-loop-bit = search in
+    let p = turn.before.loop-bit.invariant in
+    let more = turn.loop-bit-test.taken in
+    let en = sized.field_size-n.ensures.0 in
     ⊎_elim (λ w. holding_taken p more _ en w.0.taken _ _ (w.5 ∙ w.2.ensures) w.6)
-    (λ w. holding_passed p more _ en w.0.left _ _ w.1 w.2) c.if1.branch
+    (λ w. holding_passed p more _ en w.0.left _ _ w.1 w.2) c.if-bits-bit-eq1.branch
 
 pub fill_spec : {M : Type 1} → statement M
 fill_spec =
     tie.close
     (tie.spec
-    invariant-loop decreases-loop (λ c κs. search rules) loop-holds (λ c κs. search rules) (λ c. search rules)
+    invariant-loop-bit decreases-loop-bit (λ c κs. search rules) loop-holds (λ c κs. search rules) (λ c. search rules)
     (λ c κs. (search holding_slot, search holding_field, search along_few)) (λ c. search holding_fits) (λ c. search along_fits) (λ c. search rules)
-    (λ c. search rules) loop-again (λ c. search rules) (λ c. holding_end c.before.loop.invariant c.loop-test.false))
+    (λ c. search rules) loop-again (λ c. search rules) (λ c. holding_end c.before.loop-bit.invariant c.loop-bit-test.false))

@@ -11,49 +11,49 @@ use Rattle.record.proofs.inner.held.refill.Tie as tie
 below_inside : (bits at middle : ℕ) (ws : List ℕ) → Inside bits at ws → middle ≡ at + placed 31 bits 21 → InsideBetween 21 9 bits middle ws
 below_inside bits at middle ws i e = inside_lower 30 9 bits at ws (inside_all bits at ws i) 21 (omega arith) middle (omega arith) e
 
-fill-requires : tie.Need-fill-requires
-fill-requires c κs =
+fill-middle-requires : tie.Need-fill-middle-requires
+fill-middle-requires c κs =
     let start : tie.Start = search in
     let bits = start.args.bits in
     let at = start.args.at in
     let ws = start.args.source.now in
-    (search rules, omega arith, omega arith, omega arith, inside_upper 30 9 bits at ws (inside_all bits at ws start.pre.2) _ (omega arith))
+    (search rules, omega arith, omega arith, omega arith, inside_upper 30 9 bits at ws (inside_all bits at ws start.requires.2) _ (omega arith))
 
-fill-requires-2 : tie.Need-fill-requires-2
-fill-requires-2 c κs =
+fill-low-requires : tie.Need-fill-low-requires
+fill-low-requires c κs =
     let start : tie.Start = search in
-    let high : tie.After-fill = search in
+    let high : tie.After-fill-middle = search in
     let bits = start.args.bits in
-    let middle = high.fill.result in
+    let middle = high.fill-middle.result in
     let ws = start.args.source.now in
-    let below = below_inside bits start.args.at middle ws start.pre.2 high.fill.ensures.1 in
-    (high.fill.ensures.0.same ∙ start.pre.0, omega arith, omega arith, omega arith, inside_upper 21 9 bits middle ws below _ (omega arith))
+    let below = below_inside bits start.args.at middle ws start.requires.2 high.fill-middle.ensures.1 in
+    (high.fill-middle.ensures.0.same ∙ start.requires.0, omega arith, omega arith, omega arith, inside_upper 21 9 bits middle ws below _ (omega arith))
 
-fill-requires-3 : tie.Need-fill-requires-3
-fill-requires-3 c κs =
+fill-requires : tie.Need-fill-requires
+fill-requires c κs =
     let start : tie.Start = search in
-    let high : tie.After-fill = search in
-    let mid : tie.After-fill2 = search in
+    let high : tie.After-fill-middle = search in
+    let mid : tie.After-fill-low = search in
     let bits = start.args.bits in
-    let middle = high.fill.result in
+    let middle = high.fill-middle.result in
     let ws = start.args.source.now in
-    let below = below_inside bits start.args.at middle ws start.pre.2 high.fill.ensures.1 in (
-      mid.fill2.ensures.0.same ∙ high.fill.ensures.0.same ∙ start.pre.0,
+    let below = below_inside bits start.args.at middle ws start.requires.2 high.fill-middle.ensures.1 in (
+      mid.fill-low.ensures.0.same ∙ high.fill-middle.ensures.0.same ∙ start.requires.0,
       omega arith,
       omega arith,
       omega arith,
-      inside_lower 21 9 bits middle ws below 14 (omega arith) mid.fill2.result (omega arith) mid.fill2.ensures.1,
+      inside_lower 21 9 bits middle ws below 14 (omega arith) mid.fill-low.result (omega arith) mid.fill-low.ensures.1,
     )
 
 returns : tie.Need-returns
 returns c =
     let start : tie.Start = search in
-    let high : tie.After-fill = search in
-    let mid : tie.After-fill2 = search in
-    let low : tie.After-fill3 = search in
+    let high : tie.After-fill-middle = search in
+    let mid : tie.After-fill-low = search in
+    let low : tie.After-fill = search in
     let lower =
-    filled_then mid.fill2.ensures.0 mid.fill2.ensures.1 low.fill3.ensures.0 (omega arith) (omega arith) (omega arith) (omega arith) in
-    filled_all (filled_then high.fill.ensures.0 high.fill.ensures.1 lower (omega arith) (omega arith) (omega arith) (omega arith)) start.pre.0
+    filled_then mid.fill-low.ensures.0 mid.fill-low.ensures.1 low.fill.ensures.0 (omega arith) (omega arith) (omega arith) (omega arith) in
+    filled_all (filled_then high.fill-middle.ensures.0 high.fill-middle.ensures.1 lower (omega arith) (omega arith) (omega arith) (omega arith)) start.requires.0
 
 pub refill_spec : {M : Type 1} → statement M
-refill_spec = tie.close (tie.spec fill-requires fill-requires-2 fill-requires-3 (λ c. search rules) returns)
+refill_spec = tie.close (tie.spec fill-middle-requires fill-low-requires fill-requires (λ c. search rules) returns)

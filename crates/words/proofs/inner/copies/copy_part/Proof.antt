@@ -7,8 +7,8 @@ use Rattle.words.proofs.inner.copies.copy_part.Tie as tie
 returns : tie.Need-returns
 returns c =
     let b : tie.Start = search in
-    copied_part b.args.dst.now b.args.src.now c.before.before.copy-words.new.0 b.args.d b.args.s b.args.n
-    b.pre.0 b.pre.1 c.before.before.copy-words.ensures
+    copied_part b.args.dst.now b.args.src.now c.before.before.copy_words.new.dst b.args.d b.args.s b.args.n
+    b.requires.0 b.requires.1 c.before.before.copy_words.ensures
 
 pub copy_part_spec : {M : Type 1} → statement M
 copy_part_spec =
