@@ -24,7 +24,7 @@ use Rattle.words.proofs.PartLaws.{part_length}
 use Rattle.fields.specs.Format.{packing_size, item_size, code_known, code_fits, format_ok}
 use Rattle.packet_survey.specs.Class.{pad_of, real_complex_in, data_type, vector_in, high_known, low_known, class_known, item_bits, code_of}
 use Rattle.packet_survey.specs.Payload.{vector_bits, payload_bits, payload_whole, pad_bad, items_in, format_first, format_second}
-use Rattle.packet_survey.proofs.ClassLaws.{class_low, complex_most, type_least, type_most, bits_least}
+use Rattle.packet_survey.proofs.ClassLaws.{class_low_lem, complex_most, type_least, type_most, bits_least}
 use Rattle.packet_survey.proofs.PayloadLaws.{pad_small, pad_classed, pad_trailed, pad_known, pad_whole, items_vectors, items_fill, items_one}
 use Rattle.packet.specs.declared.Packet.{Packet}
 use Rattle.packet.specs.declared.Survey.{Survey}

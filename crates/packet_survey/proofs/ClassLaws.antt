@@ -83,9 +83,9 @@ low_known_lem low fits =
     (both_true (leb 1 (data_type low)) (leb (data_type low) 13) (le-leb _ _ (type_least low e)) (le-leb _ _ (type_most low e))))
 
 -- the class fits where both words do
-pub class_low : (high low : ℕ) → class_known high low ≡ true → low_known low ≡ true
+pub class_low_lem : (high low : ℕ) → class_known high low ≡ true → low_known low ≡ true
 unfolding class_known
-class_low high low e = both_right (high_known high) (low_known low) e
+class_low_lem high low e = both_right (high_known high) (low_known low) e
 
 -- ---- the data types
 

@@ -8,7 +8,7 @@ use Rattle.words.proofs.Cases.{both_left, both_right}
 use Rattle.words.proofs.RefusalLaws.{either_passed}
 use Rattle.packet_survey.specs.Class.{pad_of, real_complex_in, data_type, vector_in, class_known, item_bits}
 use Rattle.packet_survey.specs.Payload.{vector_bits, payload_bits, payload_whole, pad_bad, items_in}
-use Rattle.packet_survey.proofs.ClassLaws.{class_low, type_least, type_most, bits_least}
+use Rattle.packet_survey.proofs.ClassLaws.{class_low_lem, type_least, type_most, bits_least}
 
 -- a pad count has five bits
 pub pad_small : (high : ℕ) → pad_of high < 32
@@ -71,7 +71,7 @@ module _ (high low l : ℕ) (whole : payload_whole high low l ≡ true) where
 
   module _ (known : class_known high low ≡ true) where
     some_bits : 1 ≤ item_bits (data_type low)
-    some_bits = bits_least (data_type low) (type_least low (class_low high low known)) (type_most low (class_low high low known))
+    some_bits = bits_least (data_type low) (type_least low (class_low_lem high low known)) (type_most low (class_low_lem high low known))
 
     bits_in_items : payload_bits high l ≡ vectors_in * (vector_in low * (real_complex_in low + 1)) * item_bits (data_type low)
     unfolding vector_bits

@@ -5,7 +5,7 @@ use Rattle.words.specs.Outcome.{accepted}
 use Rattle.words.proofs.RefusalLaws.{first_passed}
 use Rattle.packet_survey.specs.Class.{pad_of, low_known, class_known}
 use Rattle.packet_survey.specs.Payload.{payload_whole, pad_bad, items_in, format_first, format_second}
-use Rattle.packet_survey.proofs.ClassLaws.{class_low}
+use Rattle.packet_survey.proofs.ClassLaws.{class_low_lem}
 use Rattle.packet_survey.proofs.PayloadLaws.{pad_known, pad_whole}
 use Rattle.packet.specs.declared.Parts.{Parts}
 use Rattle.packet.specs.Header.{type_of, classed, trailed, size_of}
@@ -24,7 +24,7 @@ module _ (w high low : ℕ) (e : payload_checks w high low ≡ accepted tt) wher
   class_fits = pad_known _ _ _ _ _ not_pad
 
   low_fits : low_known low ≡ true
-  low_fits = class_low high low class_fits
+  low_fits = class_low_lem high low class_fits
 
   payload_fits : (l : ℕ) → l ≡ body_length w → payload_whole high low l ≡ true
   payload_fits l f = rw f (pad_whole _ _ _ _ _ not_pad)

@@ -3,7 +3,7 @@ use Rattle.words.proofs.Kit.{◌≡◌, refl, ap, Bool, true, false, not, ℕ, n
 use Rattle.words.specs.Tests.{pick, both}
 use Rattle.packet_survey.specs.Class.{low_known, class_known}
 use Rattle.packet_survey.specs.Payload.{payload_whole, pad_bad}
-use Rattle.packet_survey.proofs.ClassLaws.{class_low}
+use Rattle.packet_survey.proofs.ClassLaws.{class_low_lem}
 use Rattle.packet_survey.proofs.inner.pad_bad.Statement.{statement}
 use Rattle.packet_survey.proofs.inner.pad_bad.Tie as tie
 
@@ -27,7 +27,7 @@ module _ (classed trailed : Bool) (high low l : ℕ) (there : Bool) (t : there �
     payload_asked u whole w = rw (both_asked classed trailed, ← t, e, ← k, u, w)
 
 low_asked : (high low : ℕ) (known : Bool) → known ≡ class_known high low → not known ≡ false → low_known low ≡ true
-low_asked high low known k u = class_low high low (rw (← k) (not-false known u))
+low_asked high low known k u = class_low_lem high low (rw (← k) (not-false known u))
 
 returns-then-not-class_known : tie.Need-returns-then-not-class_known
 returns-then-not-class_known c =

@@ -20,9 +20,9 @@ loop-again c =
     let turn : tie.In-loop invariant-loop decreases-loop = search in
     let sized : tie.After-field-size invariant-loop decreases-loop = search in
     let p = turn.before.loop.inv in
-    let more = turn.loop-test.taken in
+    let more = turn.loop-test.true in
     let en = sized.field-size.ensures.0 in
-    ⊎_elim (λ w. squeezing_taken p more _ en w.0.taken start.pre.4 _ _ (w.5 ∙ w.2.ensures) w.6)
+    ⊎_elim (λ w. squeezing_taken p more _ en w.0.true start.pre.4 _ _ (w.5 ∙ w.2.ensures) w.6)
     (λ w. squeezing_passed p more _ en w.0.left _ _ w.1 w.2) c.if1.branch
 
 pub squeeze_between_spec : {M : Type 1} → statement M

@@ -19,7 +19,7 @@ write-pair-requires c κs =
     let turn : tie.In-loop invariant-loop decreases-loop = search in
     let placed : tie.After-record-at invariant-loop decreases-loop = search in
     let body : tie.After-write-body invariant-loop decreases-loop = search in
-    pair_asks _ _ start.pre.0 start.pre.1 _ _ _ _ _ turn.before.loop.inv counted.streams.ensures.0 turn.loop-test.taken
+    pair_asks _ _ start.pre.0 start.pre.1 _ _ _ _ _ turn.before.loop.inv counted.streams.ensures.0 turn.loop-test.true
     placed.record-at.ensures.0 _ _ body.write-body.ensures
 
 pub write_streams_spec : {M : Type 1} → statement M

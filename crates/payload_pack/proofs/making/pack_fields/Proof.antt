@@ -11,7 +11,7 @@ returns c =
     let a = start.args in
     let r = start.pre in
     c.before.before.pack-items.ensures
-    ∙ untagged a.p a.n a.items.now a.events.now a.channels.now a.out.now at-if1.if1.taken r.2 r.3
+    ∙ untagged a.p a.n a.items.now a.events.now a.channels.now a.out.now at-if1.if1.true r.2 r.3
 
 pub pack_fields_spec : {M : Type 1} → statement M
 pack_fields_spec =

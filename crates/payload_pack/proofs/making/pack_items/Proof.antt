@@ -34,7 +34,7 @@ loop-again c =
     let a = start.args in
     let r = start.pre in
     let l = at-loop.loop in
-    let h = r.1.each l.k at-loop-test.loop-test.taken in (
+    let h = r.1.each l.k at-loop-test.loop-test.true in (
       omega arith,
       writing_next l.inv.1 c.before.before.push-field.ensures (item_alone a.p r.0.legal _ h)
           (item_below a.p r.0.legal _ h),

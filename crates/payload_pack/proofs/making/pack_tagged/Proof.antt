@@ -30,7 +30,7 @@ push-field-requires c κs =
     let at-loop : tie.At-loop invariant-loop decreases-loop = search in
     let at-loop-test : tie.In-loop invariant-loop decreases-loop = search in
     let a = start.args in
-    writing_can a.p a.n _ a.out.now _ _ _ start.pre.0 at-loop.loop.inv.1 _ at-loop-test.loop-test.taken
+    writing_can a.p a.n _ a.out.now _ _ _ start.pre.0 at-loop.loop.inv.1 _ at-loop-test.loop-test.true
     c.before.make.ensures.1
 
 loop-again : tie.Need-loop-preserved invariant-loop decreases-loop

@@ -1,9 +1,10 @@
 -- `fill` meets its promise. The invariant `Holding` says that the part of the bits above this one is filled; its laws carry the turn that takes a field and the
 -- one that passes it over.
-use Rattle.words.proofs.Kit.{◌∙◌, ⊎_elim, rules}
+use Rattle.words.proofs.Kit.{◌∙◌, rules}
 use Rattle.record.proofs.HoldLaws.{along_few, along_fits}
 use Rattle.record.proofs.HoldLaws.{Holding, holding_start, holding_slot, holding_field, holding_fits, holding_taken, holding_passed, holding_end}
 use Rattle.record.proofs.inner.held.fill.Statement.{statement}
+use Rattle.record.proofs.inner.held.fill.Lts.{then-bits-bit-eq1, else-bits-bit-eq1}
 use Rattle.record.proofs.inner.held.fill.Tie as tie
 
 abbrev invariant-loop-bit : tie.invariant-loop-bit
@@ -20,10 +21,12 @@ loop-again c =
     let turn : tie.In-loop-bit invariant-loop-bit decreases-loop-bit = search in
     let sized : tie.After-field_size-n invariant-loop-bit decreases-loop-bit = search in
     let p = turn.before.loop-bit.invariant in
-    let more = turn.loop-bit-test.taken in
+    let more = turn.loop-bit-test.true in
     let en = sized.field_size-n.ensures.0 in
-    ⊎_elim (λ w. holding_taken p more _ en w.0.taken _ _ (w.5 ∙ w.2.ensures) w.6)
-    (λ w. holding_passed p more _ en w.0.left _ _ w.1 w.2) c.if-bits-bit-eq1.branch
+    elim c.if-bits-bit-eq1.branch [
+      | then-bits-bit-eq1 w ↦ holding_taken p more _ en w.if-bits-bit-eq1.true _ _ (w.slots-is ∙ w.copy_field.ensures) w.from-is
+      | else-bits-bit-eq1 w ↦ holding_passed p more _ en w.if-bits-bit-eq1.false _ _ w.slots-is w.from-is
+    ]
 
 pub fill_spec : {M : Type 1} → statement M
 fill_spec =
