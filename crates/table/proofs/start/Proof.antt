@@ -13,4 +13,4 @@ start_spec =
     (λ c κs. search rules) (λ c κs. search rules) (λ c κs. search rules) (λ c. search start_list_lem) (λ c κs. search start_small) (λ c. search start_room)
     (λ c. search (rules, start_small))
     (λ c. search rules) (λ c κs. (search start_many, search start_few, simp length-set (search layout_there)))
-    (λ c. c.before.before.write-records.auto.0 ∙ simp length-set) (λ c. search start_made))
+    (λ c. c.before.before.write_records.auto.table ∙ simp length-set) (λ c. search start_made))

@@ -6,7 +6,7 @@ use Rattle.packet_write.proofs.fit.codes_fit.Tie as tie
 
 returns : tie.Need-returns
 unfolding codes_fit
-returns c = rw (c.both-of2.ensures, c.before.both_of.ensures)
+returns c = rw (c.both_of-2.ensures, c.before.both_of.ensures)
 
 pub codes_fit_spec : {M : Type 1} → statement M
 codes_fit_spec =

@@ -6,4 +6,4 @@ use Rattle.packet_write.proofs.fit.short_or_time.Tie as tie
 pub short_or_time_spec : {M : Type 1} → statement M
 short_or_time_spec =
     tie.close
-    (tie.spec (λ c κs. search rules) (λ c. rw (← c.before.both_of.ensures, c.if1.true)) (λ c. rw (← c.before.both_of.ensures, c.if1.false)))
+    (tie.spec (λ c κs. search rules) (λ c. rw (← c.before.both_of.ensures, c.if-both_of.true)) (λ c. rw (← c.before.both_of.ensures, c.if-both_of.false)))

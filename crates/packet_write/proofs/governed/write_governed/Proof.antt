@@ -1,5 +1,5 @@
 -- `write_governed` meets its promise, step by step: 49A governs the packet, so that its pad count and its payload are asked, and the pad count is written.
-use Rattle.words.proofs.Kit.{◌≡◌, true, ℕ, eq-eqb, now, length, rules}
+use Rattle.words.proofs.Kit.{◌≡◌, true, ℕ, eq-eqb, length, rules}
 use Rattle.words.specs.Outcome.{accepted}
 use Rattle.packet.specs.declared.Parts.{Parts}
 use Rattle.packet_write.specs.Write.{pad_fits, parts_fit}
@@ -15,16 +15,16 @@ governed : (pad : ℕ) (p : Parts) → p.kind ≡ 1 → parts_fit p ≡ true →
 governed pad p k fit small = record { kind = k; fit = fit; padding = small }
 
 -- nothing is refused
-abbrev entry : tie.After-enum-told4 → tie.Start
+abbrev entry : tie.In_default-room → tie.Start
 entry c = search
 
-nothing : (c : tie.After-enum-told4)
-    → write_checks true (entry c).args.pad (parts_in (now (entry c).args.q)) (now (entry c).args.body) (length (now (entry c).args.out))
+nothing : (c : tie.In_default-room)
+    → write_checks true (entry c).args.pad (parts_in (entry c).args.q.now) (entry c).args.body.now (length (entry c).args.out.now)
     (entry c).args.at ≡ accepted tt
 nothing c = search (passes, count_fits, payload_fine)
 
-may-be-laid : (c : tie.After-enum-told4)
-    → Layable (entry c).args.pad (parts_in (now (entry c).args.q)) (now (entry c).args.body) (length (now (entry c).args.out)) (entry c).args.at
+may-be-laid : (c : tie.In_default-room)
+    → Layable (entry c).args.pad (parts_in (entry c).args.q.now) (entry c).args.body.now (length (entry c).args.out.now) (entry c).args.at
 may-be-laid c = may_lay_governed true _ _ _ _ _ (nothing c) (eq-eqb _ 1 (entry c).requires.1)
 
 pub write_governed_spec : {M : Type 1} → statement M

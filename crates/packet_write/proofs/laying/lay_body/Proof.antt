@@ -4,21 +4,21 @@ use Rattle.packet_write.proofs.LayLaws.{Copying, copying_start, block_inside, co
 use Rattle.packet_write.proofs.laying.lay_body.Statement.{statement}
 use Rattle.packet_write.proofs.laying.lay_body.Tie as tie
 
-abbrev invariant-loop : tie.invariant-loop
-invariant-loop body out₀ n at₀ out at = Copying body out₀ at out
+abbrev invariant-loop-at : tie.invariant-loop-at
+invariant-loop-at body out₀ n at₀ out at = Copying body out₀ at out
 
-abbrev decreases-loop : tie.decreases-loop
-decreases-loop body out₀ n at₀ out at = n - at
+abbrev decreases-loop-at : tie.decreases-loop-at
+decreases-loop-at body out₀ n at₀ out at = n - at
 
-lay-block-requires-2 : tie.Need-lay-block-requires-2 invariant-loop decreases-loop
-lay-block-requires-2 c κs =
-    let l : tie.At-loop invariant-loop decreases-loop = search in
-    let inside = block_inside l.loop.inv (search) in
+lay_block-requires-in-loop-at : tie.Need-lay_block-requires-in-loop-at invariant-loop-at decreases-loop-at
+lay_block-requires-in-loop-at c κs =
+    let l : tie.At-loop-at invariant-loop-at decreases-loop-at = search in
+    let inside = block_inside l.loop-at.invariant (search) in
     (search rules, inside, omega (arith, inside))
 
 pub lay_body_spec : {M : Type 1} → statement M
 lay_body_spec =
     tie.close
     (tie.spec
-    invariant-loop decreases-loop (λ c κs. search rules) (λ c. search copying_start) lay-block-requires-2 (λ c. search rules) (λ c. search rules)
+    invariant-loop-at decreases-loop-at (λ c κs. search rules) (λ c. search copying_start) lay_block-requires-in-loop-at (λ c. search rules) (λ c. search rules)
     (λ c. search copying_turn) (λ c. search rules) (λ c. search copying_end))

@@ -7,8 +7,8 @@ use Rattle.packet_write.proofs.laying.lay_time.Statement.{statement}
 use Rattle.packet_write.proofs.laying.lay_time.Tie as tie
 
 -- the fraction's low word is a word
-low_small : (c : tie.After-shared-slice-known) → get_or c.before.args.q.now 13 0 < 2 ^ 32
-low_small c = omega (arith, c.shared-slice-known.given 13)
+low_small : (c : tie.After-shared_slice_known-1) → get_or c.before.args.q.now 13 0 < 2 ^ 32
+low_small c = omega (arith, c.shared_slice_known-1.given 13)
 
 pub lay_time_spec : {M : Type 1} → statement M
 unfolding parts_in

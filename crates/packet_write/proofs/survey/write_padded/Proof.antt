@@ -1,5 +1,5 @@
 -- `write_padded` meets its promise: a packet of type 1 is one that 49A governs, and of another its pad count is not looked at.
-use Rattle.words.proofs.Kit.{◌≡◌, true, false, List, ℕ, ne_eqb, now, length, get_or, rules}
+use Rattle.words.proofs.Kit.{◌≡◌, true, false, List, ℕ, ne_eqb, length, get_or, rules}
 use Rattle.words.specs.Outcome.{accepted}
 use Rattle.packet_write.specs.Write.{governs}
 use Rattle.packet_write.specs.inner.Given.{Layable}
@@ -21,16 +21,16 @@ unfolding parts_in
 other_type q d = ne_eqb (get_or q 0 0) 1 d
 
 -- nothing is refused
-abbrev entry : tie.After-enum-told3 → tie.Start
+abbrev entry : tie.In_default-room → tie.Start
 entry c = search
 
-nothing : (c : tie.After-enum-told3)
-    → write_checks true (entry c).args.pad (parts_in (now (entry c).args.q)) (now (entry c).args.body) (length (now (entry c).args.out))
+nothing : (c : tie.In_default-room)
+    → write_checks true (entry c).args.pad (parts_in (entry c).args.q.now) (entry c).args.body.now (length (entry c).args.out.now)
     (entry c).args.at ≡ accepted tt
 nothing c = search (passes, any_count, no_payload, other_type)
 
-may-be-laid : (c : tie.After-enum-told3)
-    → Layable 0 (parts_in (now (entry c).args.q)) (now (entry c).args.body) (length (now (entry c).args.out)) (entry c).args.at
+may-be-laid : (c : tie.In_default-room)
+    → Layable 0 (parts_in (entry c).args.q.now) (entry c).args.body.now (length (entry c).args.out.now) (entry c).args.at
 may-be-laid c = may_lay_plain true _ _ _ _ _ (nothing c) (search other_type)
 
 pub write_padded_spec : {M : Type 1} → statement M

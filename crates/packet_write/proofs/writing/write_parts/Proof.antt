@@ -1,5 +1,5 @@
 -- `write_parts` meets its promise, step by step: without 49A there is no pad count, and no PAD.
-use Rattle.words.proofs.Kit.{◌≡◌, refl, false, now, length, rules}
+use Rattle.words.proofs.Kit.{◌≡◌, refl, false, length, rules}
 use Rattle.words.specs.Outcome.{accepted}
 use Rattle.packet_write.specs.inner.Given.{Layable}
 use Rattle.packet_write.specs.inner.Steps.{write_checks}
@@ -11,15 +11,15 @@ use Rattle.packet_write.proofs.writing.write_parts.Statement.{statement}
 use Rattle.packet_write.proofs.writing.write_parts.Tie as tie
 
 -- nothing is refused
-abbrev entry : tie.After-enum-told3 → tie.Start
+abbrev entry : tie.In_default-room → tie.Start
 entry c = search
 
-nothing : (c : tie.After-enum-told3)
-    → write_checks false 0 (parts_in (now (entry c).args.q)) (now (entry c).args.body) (length (now (entry c).args.out)) (entry c).args.at ≡ accepted tt
+nothing : (c : tie.In_default-room)
+    → write_checks false 0 (parts_in (entry c).args.q.now) (entry c).args.body.now (length (entry c).args.out.now) (entry c).args.at ≡ accepted tt
 nothing c = search (passes, any_count, no_payload)
 
-may-be-laid : (c : tie.After-enum-told3)
-    → Layable 0 (parts_in (now (entry c).args.q)) (now (entry c).args.body) (length (now (entry c).args.out)) (entry c).args.at
+may-be-laid : (c : tie.In_default-room)
+    → Layable 0 (parts_in (entry c).args.q.now) (entry c).args.body.now (length (entry c).args.out.now) (entry c).args.at
 may-be-laid c = may_lay_plain false 0 _ _ _ _ (nothing c) refl
 
 pub write_parts_spec : {M : Type 1} → statement M

@@ -8,7 +8,7 @@ returns : tie.Need-returns
 returns c =
     let a = c.before.before.before.args in
     let l = a.channels.now in
-    rw (c.before.join-channels.ensures, c.power.ensures.0) (sym (fitting_joined a.w l))
+    rw (c.before.join_channels.ensures, c.power.ensures.0) (sym (fitting_joined a.w l))
 
 pub channels_fit_spec : {M : Type 1} → statement M
 channels_fit_spec =

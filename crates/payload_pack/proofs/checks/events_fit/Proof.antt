@@ -8,7 +8,7 @@ returns : tie.Need-returns
 returns c =
     let a = c.before.before.before.args in
     let l = a.events.now in
-    rw (c.before.join-events.ensures, c.power.ensures.0) (sym (fitting_joined a.w l))
+    rw (c.before.join_events.ensures, c.power.ensures.0) (sym (fitting_joined a.w l))
 
 pub events_fit_spec : {M : Type 1} → statement M
 events_fit_spec =

@@ -12,7 +12,7 @@ returns c =
     let a = c.before.before.before.args in
     let l = a.items.now in
     let m = c.ones.result in
-    rw c.before.join-items.ensures
+    rw c.before.join_items.ensures
     (sym (leb-suc-suc (any_bits (length l) l) m)
     ∙ ap (leb (suc (any_bits (length l) l))) (sym (add-one m) ∙ c.ones.ensures)
     ∙ sym (fitting_joined a.w l))

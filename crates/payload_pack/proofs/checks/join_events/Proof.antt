@@ -5,21 +5,21 @@ use Rattle.words.proofs.Kit.{length, ◌≡◌, ◌-◌, ◌≤◌, arith, rules
 use Rattle.payload_pack.proofs.checks.join_events.Statement.{statement}
 use Rattle.payload_pack.proofs.checks.join_events.Tie as tie
 
-abbrev invariant-loop : tie.invariant-loop
-invariant-loop events all₀ k₀ all k = (k ≤ length events) × (all ≡ any_bits k events)
+abbrev invariant-loop-k : tie.invariant-loop-k
+invariant-loop-k events all₀ k₀ all k = (k ≤ length events) × (all ≡ any_bits k events)
 
-abbrev decreases-loop : tie.decreases-loop
-decreases-loop events all₀ k₀ all k = length events - k
+abbrev decreases-loop-k : tie.decreases-loop-k
+decreases-loop-k events all₀ k₀ all k = length events - k
 
-loop-holds : tie.Need-loop-init invariant-loop decreases-loop
+loop-holds : tie.Need-loop-k-init invariant-loop-k decreases-loop-k
 loop-holds c = (omega arith, joined_none _)
 
-loop-again : tie.Need-loop-preserved invariant-loop decreases-loop
-loop-again c = (omega arith, joined_more _ _ _ c.before.before.loop.invariant.1)
+loop-again : tie.Need-loop-k-preserved invariant-loop-k decreases-loop-k
+loop-again c = (omega arith, joined_more _ _ _ c.before.before.loop-k.invariant.1)
 
-returns : tie.Need-returns invariant-loop decreases-loop
-returns c = let e : c.before.loop.k ≡ length c.before.before.args.events.now = omega arith in rw e at c.before.loop.invariant.1
+returns : tie.Need-returns invariant-loop-k decreases-loop-k
+returns c = let e : c.before.loop-k.k ≡ length c.before.before.args.events.now = omega arith in rw e at c.before.loop-k.invariant.1
 
 pub join_events_spec : {M : Type 1} → statement M
 join_events_spec =
-    tie.close (tie.spec invariant-loop decreases-loop loop-holds (λ c. search rules) (λ c. search rules) (λ c. search rules) loop-again returns)
+    tie.close (tie.spec invariant-loop-k decreases-loop-k loop-holds (λ c. search rules) (λ c. search rules) (λ c. search rules) loop-again returns)

@@ -4,15 +4,15 @@ use Rattle.bitstream.proofs.FilledLaws.{Fills, fills_none, fills_turn, fills_all
 use Rattle.payload_unpack.proofs.plain.clear_both.Statement.{statement}
 use Rattle.payload_unpack.proofs.plain.clear_both.Tie as tie
 
-abbrev invariant-loop : tie.invariant-loop
-invariant-loop n events₀ channels₀ k₀ events channels k = Fills 0 n k (λ j. 0) events₀ events × Fills 0 n k (λ j. 0) channels₀ channels
+abbrev invariant-loop-k : tie.invariant-loop-k
+invariant-loop-k n events₀ channels₀ k₀ events channels k = Fills 0 n k (λ j. 0) events₀ events × Fills 0 n k (λ j. 0) channels₀ channels
 
-abbrev decreases-loop : tie.decreases-loop
-decreases-loop n events₀ channels₀ k₀ events channels k = n - k
+abbrev decreases-loop-k : tie.decreases-loop-k
+decreases-loop-k n events₀ channels₀ k₀ events channels k = n - k
 
 pub clear_both_spec : {M : Type 1} → statement M
 clear_both_spec =
     tie.close
     (tie.spec
-    invariant-loop decreases-loop (λ c. search fills_none) (λ c. search rules) (λ c. search rules) (λ c. search rules) (λ c. search rules) (λ c. search rules)
+    invariant-loop-k decreases-loop-k (λ c. search fills_none) (λ c. search rules) (λ c. search rules) (λ c. search rules) (λ c. search rules) (λ c. search rules)
     (λ c. search fills_turn) (λ c. search) (λ c. search) (λ c. search fills_all))

@@ -6,16 +6,16 @@ use Rattle.payload_unpack.proofs.ReadingLaws.{Reading, reading_start, item_some,
 use Rattle.payload_unpack.proofs.plain.unpack_items.Statement.{statement}
 use Rattle.payload_unpack.proofs.plain.unpack_items.Tie as tie
 
-abbrev invariant-loop : tie.invariant-loop
-invariant-loop n payload items₀ c f up s₀ k₀ items s k = Fills 0 n k (λ j. packing_field c f payload j / 2 ^ up) items₀ items × Reading c f up payload s k
+abbrev invariant-loop-k : tie.invariant-loop-k
+invariant-loop-k n payload items₀ c f up s₀ k₀ items s k = Fills 0 n k (λ j. packing_field c f payload j / 2 ^ up) items₀ items × Reading c f up payload s k
 
-abbrev decreases-loop : tie.decreases-loop
-decreases-loop n payload items₀ c f up s₀ k₀ items s k = n - k
+abbrev decreases-loop-k : tie.decreases-loop-k
+decreases-loop-k n payload items₀ c f up s₀ k₀ items s k = n - k
 
 pub unpack_items_spec : {M : Type 1} → statement M
 unpack_items_spec =
     tie.close
     (tie.spec
-    invariant-loop decreases-loop (λ c. search rules) (λ c κs. search rules) (λ c. search (fills_none, reading_start)) (λ c κs. search (reading_can, item_some))
+    invariant-loop-k decreases-loop-k (λ c. search rules) (λ c κs. search rules) (λ c. search (fills_none, reading_start)) (λ c κs. search (reading_can, item_some))
     (λ c. search rules) (λ c. search rules) (λ c. search rules) (λ c. search rules) (λ c. search (fills_turn, reading_item, reading_next)) (λ c. search)
     (λ c. search fills_all))

@@ -9,20 +9,20 @@ use Rattle.payload_unpack.proofs.WindowLaws.{wide_small, words_behind, word_besi
 use Rattle.payload_unpack.proofs.plain.unpack_wide.Statement.{statement}
 use Rattle.payload_unpack.proofs.plain.unpack_wide.Tie as tie
 
-abbrev invariant-loop : tie.invariant-loop
-invariant-loop n payload items₀ f down last k₀ items k = Fills 0 last k (λ j. span 32 (stream_bits 32 payload) (j * f) 64 / 2 ^ down) items₀ items
+abbrev invariant-loop-k : tie.invariant-loop-k
+invariant-loop-k n payload items₀ f down last k₀ items k = Fills 0 last k (λ j. span 32 (stream_bits 32 payload) (j * f) 64 / 2 ^ down) items₀ items
 
-abbrev decreases-loop : tie.decreases-loop
-decreases-loop n payload items₀ f down last k₀ items k = last - k
+abbrev decreases-loop-k : tie.decreases-loop-k
+decreases-loop-k n payload items₀ f down last k₀ items k = last - k
 
-loop-holds : tie.Need-loop-init invariant-loop decreases-loop
-loop-holds c = let start : tie.Start invariant-loop decreases-loop = search in fills_none _ _ _ (omega (arith, start.pre.0.places))
+loop-holds : tie.Need-loop-k-init invariant-loop-k decreases-loop-k
+loop-holds c = let start : tie.Start invariant-loop-k decreases-loop-k = search in fills_none _ _ _ (omega (arith, start.requires.0.places))
 
 pub unpack_wide_spec : {M : Type 1} → statement M
 unpack_wide_spec =
     tie.close
     (tie.spec
-    invariant-loop decreases-loop (λ c. search rules) (λ c. search rules) loop-holds (λ c. search wide_small) (λ c κs. search words_behind)
+    invariant-loop-k decreases-loop-k (λ c. search rules) (λ c. search rules) loop-holds (λ c. search wide_small) (λ c κs. search words_behind)
     (λ c. search rules) (λ c. search rules) (λ c. search rules) (λ c. search rules) (λ c. search rules) (λ c. search (fills_turn, shifted))
     (λ c. search (wide_small, le_refl)) (λ c κs. search word_beside) (λ c. search rules) (λ c. search rules) (λ c. search rules) (λ c. search rules)
-    (λ c. let start : tie.Start invariant-loop decreases-loop = search in search (items_wide start.pre.0)))
+    (λ c. let start : tie.Start invariant-loop-k decreases-loop-k = search in search (items_wide start.requires.0)))

@@ -5,18 +5,18 @@ use Rattle.payload_unpack.proofs.BuffersLaws.{Parts, parts_none, parts_turn, par
 use Rattle.payload_unpack.proofs.tagged.unpack_parts.Statement.{statement}
 use Rattle.payload_unpack.proofs.tagged.unpack_parts.Tie as tie
 
-abbrev invariant-loop : tie.invariant-loop
-invariant-loop p n payload items₀ events₀ channels₀ c f up s₀ k₀ items events channels s k =
+abbrev invariant-loop-k : tie.invariant-loop-k
+invariant-loop-k p n payload items₀ events₀ channels₀ c f up s₀ k₀ items events channels s k =
     Parts p payload 0 n k items₀ events₀ channels₀ items events channels × Reading p.carry p.field 0 payload s k
 
-abbrev decreases-loop : tie.decreases-loop
-decreases-loop p n payload items₀ events₀ channels₀ c f up s₀ k₀ items events channels s k = n - k
+abbrev decreases-loop-k : tie.decreases-loop-k
+decreases-loop-k p n payload items₀ events₀ channels₀ c f up s₀ k₀ items events channels s k = n - k
 
 pub unpack_parts_spec : {M : Type 1} → statement M
 unpack_parts_spec =
     tie.close
     (tie.spec
-    invariant-loop decreases-loop (λ c. search rules) (λ c κs. search rules) (λ c. search (parts_none, reading_start)) (λ c κs. search field_can) (λ c. search rules)
+    invariant-loop-k decreases-loop-k (λ c. search rules) (λ c κs. search rules) (λ c. search (parts_none, reading_start)) (λ c κs. search field_can) (λ c. search rules)
     (λ c. search rules) (λ c. search rules) (λ c κs. search rules) (λ c. search rules) (λ c. search rules) (λ c κs. search rules) (λ c. search rules)
     (λ c. search rules) (λ c. search rules) (λ c. search (parts_turn, reading_field, reading_next)) (λ c. search rules) (λ c. search rules)
     (λ c. search rules) (λ c. search parts_all))

@@ -6,11 +6,11 @@ use Rattle.payload_unpack.specs.inner.Unpackable.{fit_check}
 use Rattle.payload_unpack.proofs.unpacking.fit_check.Statement.{statement}
 use Rattle.payload_unpack.proofs.unpacking.fit_check.Tie as tie
 
-words-of-requires : tie.Need-words-of-requires
-words-of-requires c κs =
+words_of-requires : tie.Need-words_of-requires
+words_of-requires c κs =
     let start : tie.Start = search in
-    let l = start.pre.0 in
-    (l.some, l.most, l.few, start.pre.1)
+    let l = start.requires.0 in
+    (l.some, l.most, l.few, start.requires.1)
 
 module _ (need words n given items events channels : ℕ) (w : words ≡ need) where
   other_words : (given ≡ words → ⊥) → refused COUNT ≡ fit_check need n given items events channels
@@ -40,4 +40,4 @@ pub fit_check_spec : {M : Type 1} → statement M
 fit_check_spec =
     tie.close
     (tie.spec
-    words-of-requires (λ c. search other_words) (λ c. search items_room) (λ c. search events_room) (λ c. search channels_room) (λ c. search all_fit))
+    words_of-requires (λ c. search other_words) (λ c. search items_room) (λ c. search events_room) (λ c. search channels_room) (λ c. search all_fit))

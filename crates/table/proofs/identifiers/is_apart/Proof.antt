@@ -7,20 +7,20 @@ use Rattle.table.proofs.ListLaws.{spaced_before, others, apart_more, apart_twice
 use Rattle.table.proofs.identifiers.is_apart.Statement.{statement}
 use Rattle.table.proofs.identifiers.is_apart.Tie as tie
 
-abbrev invariant-loop : tie.invariant-loop
-invariant-loop ws first step s mine u₀ u = (mine ≡ spaced first step ws s) × (u ≤ s) × (all u (others (spaced first step ws) s) ≡ true)
+abbrev invariant-loop-u : tie.invariant-loop-u
+invariant-loop-u ws first step s mine u₀ u = (mine ≡ spaced first step ws s) × (u ≤ s) × (all u (others (spaced first step ws) s) ≡ true)
 
-abbrev decreases-loop : tie.decreases-loop
-decreases-loop ws first step s mine u₀ u = s - u
+abbrev decreases-loop-u : tie.decreases-loop-u
+decreases-loop-u ws first step s mine u₀ u = s - u
 
-before-inside : (c : tie.In-loop invariant-loop decreases-loop)
-    → (let start : tie.Start invariant-loop decreases-loop = search in start.args.first + start.args.step * c.before.loop.u < length start.args.ws.now)
+before-inside : (c : tie.In-loop-u invariant-loop-u decreases-loop-u)
+    → (let start : tie.Start invariant-loop-u decreases-loop-u = search in start.args.first + start.args.step * c.before.loop-u.u < length start.args.ws.now)
 before-inside c = search spaced_before
 
 pub is_apart_spec : {M : Type 1} → statement M
 is_apart_spec =
     tie.close
     (tie.spec
-    invariant-loop decreases-loop (λ c. search rules) (λ c. search rules) (λ c. search rules) (λ c. search rules) (λ c. search (rules, all_none))
+    invariant-loop-u decreases-loop-u (λ c. search rules) (λ c. search rules) (λ c. search rules) (λ c. search rules) (λ c. search (rules, all_none))
     (λ c. omega (arith, before-inside c)) (λ c. omega (arith, before-inside c)) (λ c. omega (arith, before-inside c)) (λ c. search spaced_before)
     (λ c. search apart_twice) (λ c. search rules) (λ c. search rules) (λ c. search (rules, apart_more)) (λ c. search apart_ended))
