@@ -58,16 +58,16 @@ parts_is h l p q =
     (le_or_lt (2 ^ 63) (high_first h l))
 
 -- ---- a signed number that an f32 has
-in_float : (z : ℤ) → mag z < 2 ^ 24 → T (in_float binary32 z)
+in_float_lem : (z : ℤ) → mag z < 2 ^ 24 → T (in_float binary32 z)
 unfolding in_float
-in_float (pos n) h = le→leb n (2 ^ 24) (le_of_lt h)
-in_float (negsuc n) h = lt→ltb n (2 ^ 24) h
+in_float_lem (pos n) h = le→leb n (2 ^ 24) (le_of_lt h)
+in_float_lem (negsuc n) h = lt→ltb n (2 ^ 24) h
 
 -- a signed half of a word, over a float
 module _ (half : ℕ) (z : ℤ) (h : half < 65536) (b : mag z < 2 ^ 63) (e : z ≡ twos_complement 16 half) where
   pub half_in_float : T (in_float binary32 (to_z w64 (of_z w64 z)))
   half_in_float =
-      subst (λ (y : ℤ). T (in_float binary32 y)) (sym (back z b e)) (in_float (twos_complement 16 half) (omega (arith, signed_mag 16 half (lit≤ tt) h)))
+      subst (λ (y : ℤ). T (in_float binary32 y)) (sym (back z b e)) (in_float_lem (twos_complement 16 half) (omega (arith, signed_mag 16 half (lit≤ tt) h)))
 
   pub half_over : (by : Float) → div binary32 (of_int binary32 (to_z w64 (of_z w64 z))) by ≡ div binary32 (of_int binary32 (twos_complement 16 half)) by
   half_over by = ap (λ (y : ℤ). div binary32 (of_int binary32 y) by) (back z b e)

@@ -13,21 +13,21 @@ parts-room : (c : tie.Start) → let held = c.args.held in let slots = c.args.sl
 parts-room c =
     omega (arith, c.requires.2, held_parts_length c.args.held c.args.slots.now c.requires.1 21 14 (omega arith) (omega arith) (omega arith) c.requires.0)
 
-squeeze-between-requires : tie.Need-squeeze-between-requires
-squeeze-between-requires c κs = (search rules, omega arith, omega arith, omega arith, omega (arith, parts-room search))
+squeeze_between-middle-requires : tie.Need-squeeze_between-middle-requires
+squeeze_between-middle-requires c κs = (search rules, omega arith, omega arith, omega arith, omega (arith, parts-room search))
 
-squeeze-between-requires-2 : tie.Need-squeeze-between-requires-2
-squeeze-between-requires-2 c κs =
-    let high : tie.After-squeeze-between = search in
-    let first = high.squeeze-between.ensures in
+squeeze_between-low-requires : tie.Need-squeeze_between-low-requires
+squeeze_between-low-requires c κs =
+    let high : tie.After-squeeze_between-middle = search in
+    let first = high.squeeze_between-middle.ensures in
     (search rules, omega arith, omega arith, omega arith, omega (arith, parts-room search, first.past, laid_length first))
 
-squeeze-between-requires-3 : tie.Need-squeeze-between-requires-3
-squeeze-between-requires-3 c κs =
-    let high : tie.After-squeeze-between = search in
-    let mid : tie.After-squeeze-between2 = search in
-    let first = high.squeeze-between.ensures in
-    let second = mid.squeeze-between2.ensures in (
+squeeze_between-requires : tie.Need-squeeze_between-requires
+squeeze_between-requires c κs =
+    let high : tie.After-squeeze_between-middle = search in
+    let mid : tie.After-squeeze_between-low = search in
+    let first = high.squeeze_between-middle.ensures in
+    let second = mid.squeeze_between-low.ensures in (
       search rules,
       omega arith,
       omega arith,
@@ -38,11 +38,11 @@ squeeze-between-requires-3 c κs =
 returns : tie.Need-returns
 returns c =
     let start : tie.Start = search in
-    let high : tie.After-squeeze-between = search in
-    let mid : tie.After-squeeze-between2 = search in
-    let low : tie.After-squeeze-between3 = search in
-    let all = held_parts start.args.held start.args.slots.now start.pre.1 21 14 (omega arith) (omega arith) (omega arith) in
-    rw all at (then high.squeeze-between.ensures (then mid.squeeze-between2.ensures low.squeeze-between3.ensures))
+    let high : tie.After-squeeze_between-middle = search in
+    let mid : tie.After-squeeze_between-low = search in
+    let low : tie.After-squeeze_between = search in
+    let all = held_parts start.args.held start.args.slots.now start.requires.1 21 14 (omega arith) (omega arith) (omega arith) in
+    rw all at (then high.squeeze_between-middle.ensures (then mid.squeeze_between-low.ensures low.squeeze_between.ensures))
 
 pub squeeze_spec : {M : Type 1} → statement M
-squeeze_spec = tie.close (tie.spec squeeze-between-requires squeeze-between-requires-2 squeeze-between-requires-3 (λ c. search rules) returns)
+squeeze_spec = tie.close (tie.spec squeeze_between-middle-requires squeeze_between-low-requires squeeze_between-requires (λ c. search rules) returns)

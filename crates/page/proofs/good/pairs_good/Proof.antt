@@ -4,15 +4,15 @@ use Rattle.page.proofs.GoodLaws.{Paired, paired_start, paired_fails, paired_turn
 use Rattle.page.proofs.good.pairs_good.Statement.{statement}
 use Rattle.page.proofs.good.pairs_good.Tie as tie
 
-abbrev invariant-loop : tie.invariant-loop
-invariant-loop page n at₀ s₀ at s = Paired page n s at
+abbrev invariant-loop-s : tie.invariant-loop-s
+invariant-loop-s page n at₀ s₀ at s = Paired page n s at
 
-abbrev decreases-loop : tie.decreases-loop
-decreases-loop page n at₀ s₀ at s = n - s
+abbrev decreases-loop-s : tie.decreases-loop-s
+decreases-loop-s page n at₀ s₀ at s = n - s
 
 pub pairs_good_spec : {M : Type 1} → statement M
 pairs_good_spec =
     tie.close
     (tie.spec
-    invariant-loop decreases-loop (λ c κs. search rules) (λ c. search paired_start) (λ c κs. search rules) (λ c. search paired_fails) (λ c κs. search rules)
+    invariant-loop-s decreases-loop-s (λ c κs. search rules) (λ c. search paired_start) (λ c κs. search rules) (λ c. search paired_fails) (λ c κs. search rules)
     (λ c. search rules) (λ c. search rules) (λ c. search rules) (λ c. search paired_turn) (λ c. search paired_end))

@@ -6,27 +6,27 @@ use Rattle.page.proofs.SaveLaws.{record_long, record_held, body_placed, pair_ask
 use Rattle.page.proofs.saving.write_streams.Statement.{statement}
 use Rattle.page.proofs.saving.write_streams.Tie as tie
 
-abbrev invariant-loop : tie.invariant-loop
-invariant-loop page₀ table n at₀ s₀ page at s = Saving table page₀ page n s at
+abbrev invariant-loop-s : tie.invariant-loop-s
+invariant-loop-s page₀ table n at₀ s₀ page at s = Saving table page₀ page n s at
 
-abbrev decreases-loop : tie.decreases-loop
-decreases-loop page₀ table n at₀ s₀ page at s = n - s
+abbrev decreases-loop-s : tie.decreases-loop-s
+decreases-loop-s page₀ table n at₀ s₀ page at s = n - s
 
-write-pair-requires : tie.Need-write-pair-requires invariant-loop decreases-loop
-write-pair-requires c κs =
-    let start : tie.Start invariant-loop decreases-loop = search in
-    let counted : tie.After-streams invariant-loop decreases-loop = search in
-    let turn : tie.In-loop invariant-loop decreases-loop = search in
-    let placed : tie.After-record-at invariant-loop decreases-loop = search in
-    let body : tie.After-write-body invariant-loop decreases-loop = search in
-    pair_asks _ _ start.pre.0 start.pre.1 _ _ _ _ _ turn.before.loop.inv counted.streams.ensures.0 turn.loop-test.true
-    placed.record-at.ensures.0 _ _ body.write-body.ensures
+write_pair-requires : tie.Need-write_pair-requires invariant-loop-s decreases-loop-s
+write_pair-requires c κs =
+    let start : tie.Start invariant-loop-s decreases-loop-s = search in
+    let counted : tie.After-streams-n invariant-loop-s decreases-loop-s = search in
+    let turn : tie.In-loop-s invariant-loop-s decreases-loop-s = search in
+    let placed : tie.After-record_at-from invariant-loop-s decreases-loop-s = search in
+    let body : tie.After-write_body-past invariant-loop-s decreases-loop-s = search in
+    pair_asks _ _ start.requires.0 start.requires.1 _ _ _ _ _ turn.before.loop-s.invariant counted.streams-n.ensures.0 turn.loop-s-test.true
+    placed.record_at-from.ensures.0 _ _ body.write_body-past.ensures
 
 pub write_streams_spec : {M : Type 1} → statement M
 write_streams_spec =
     tie.close
     (tie.spec
-    invariant-loop decreases-loop (λ c κs. search rules) (λ c κs. search rules) (λ c. search saving_start) (λ c κs. search rules) (λ c. search rules)
+    invariant-loop-s decreases-loop-s (λ c κs. search rules) (λ c κs. search rules) (λ c. search saving_start) (λ c κs. search rules) (λ c. search rules)
     (λ c. search rules) (λ c. search rules) (λ c. search rules) (λ c. omega (arith, well_whole))
-    (λ c κs. search (record_long, record_held, body_placed)) (λ c. search rules) write-pair-requires (λ c. search rules) (λ c. search rules)
+    (λ c κs. search (record_long, record_held, body_placed)) (λ c. search rules) write_pair-requires (λ c. search rules) (λ c. search rules)
     (λ c. search saving_turn) (λ c. search saving_length) (λ c. search saving_end))

@@ -8,7 +8,7 @@ use Rattle.panel.proofs.values.units.Tie as tie
 
 returns : tie.Need-returns
 unfolding units_of
-returns c = back c.value_of.result c.value_of.type-inv (c.value_of.ensures ∙ ap (twos_complement 64) c.before.high-first.ensures)
+returns c = back c.value_of.result c.value_of.type_inv (c.value_of.ensures ∙ ap (twos_complement 64) c.before.high_first.ensures)
 
 pub units_spec : {M : Type 1} → statement M
 units_spec =

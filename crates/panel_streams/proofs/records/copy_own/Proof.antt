@@ -10,4 +10,4 @@ copy_own_spec =
     tie.close
     (tie.spec
     (λ c κs. search rules) (λ c. search own_room) (λ c. search rules) (λ c κs. search rules) (λ c κs. (search own_inside, search rules))
-    (λ c. let k : tie.After-copy-part = search in k.copy-part.kept.0 ∙ simp length-set) (λ c. search own_made))
+    (λ c. let k : tie.After-copy_part = search in k.copy_part.auto.dst ∙ simp length-set) (λ c. search own_made))

@@ -1,6 +1,6 @@
 -- `enter_data` meets its promise: a packet of no stream of the table is what plain reading refuses, and else STREAM; another is entered by its stream's choice,
 -- and counted.
-use Rattle.words.proofs.Kit.{sym, ◌∙◌, now}
+use Rattle.words.proofs.Kit.{sym, ◌∙◌}
 use Rattle.play.specs.inner.Entered.{Headed}
 use Rattle.play.proofs.StreamLaws.{sized_parts, sized_whole, found, found_below, found_few, found_data}
 use Rattle.play.proofs.CheckedLaws.{unread_plain, headed_plain, unread_data, headed_data}
@@ -18,11 +18,11 @@ enter_data_spec =
     (λ c κs. search rules) (λ c κs. search rules) (λ c. search rules) (λ c. search (noted_unread, unread_plain))
     (λ c κs. search rules) (λ c κs. search rules) (λ c. search rules)
     (λ c. search (noted_undeclared, headed_plain)) (λ c κs. search found_below)
-    (λ c κs. (search, (search found, sym c.before.before.is-survey.ensures ∙ c.before.if1.true))) (λ c. search rules) (λ c. search rules)
+    (λ c κs. (search, (search found, sym c.before.before.is_survey.ensures ∙ c.before.if-is_survey.true))) (λ c. search rules) (λ c. search rules)
     (λ c κs. search (sized_parts, sized_whole)) (λ c. search rules) (λ c. search rules) (λ c κs. search rules)
     (λ c κs. search rules) (λ c. search rules) (λ c. search (noted_unread, unread_data)) (λ c κs. search (found_below, found_data))
     (λ c κs. search found_few) (λ c. search rules)
     (λ c.
     let start : tie.Start = search in
-    let read : Headed start.args.w (now start.args.given) (now start.args.table) = search headed_data in
+    let read : Headed start.args.w start.args.given.now start.args.table.now = search headed_data in
     search (noted_heard, heard_data, found, read)))

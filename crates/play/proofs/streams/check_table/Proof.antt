@@ -9,4 +9,4 @@ unfolding made_of
 check_table_spec =
     tie.close
     (tie.spec
-    (λ c κs. search rules) (λ c. rw (← c.before.well_made_lem.ensures, c.if1.true)) (λ c. rw (← c.before.well_made_lem.ensures, c.if1.false)))
+    (λ c κs. search rules) (λ c. rw (← c.before.well_made.ensures, c.if-well_made.true)) (λ c. rw (← c.before.well_made.ensures, c.if-well_made.false)))

@@ -5,4 +5,4 @@ use Rattle.play.proofs.streams.seek_streamed.Tie as tie
 
 pub seek_streamed_spec : {M : Type 1} → statement M
 seek_streamed_spec =
-    tie.close (tie.spec (λ c κs. search rules) (λ c. rw c.before.if1.true c.seek-stream.ensures) (λ c. rw c.if1.false))
+    tie.close (tie.spec (λ c κs. search rules) (λ c. rw c.before.if-streamed.true c.seek_stream.ensures) (λ c. rw c.if-streamed.false))
