@@ -142,8 +142,8 @@ module _ (j place offset : ℕ) (t ix : List ℕ) (w : well_made t ≡ true) (b 
   unfolding with_entry
   at_entry i g = get_d_put_at (entry_from j) 4 words paged entered refl i g
 
-  pub entry_place : entry_place (with_entry j place offset t ix) j ≡ place
-  entry_place = ap₂ high_first (rw (add-zero (entry_from j)) at (at_entry 0 (omega arith))) (at_entry 1 (omega arith)) ∙ place_whole place
+  pub entry_place_lem : entry_place (with_entry j place offset t ix) j ≡ place
+  entry_place_lem = ap₂ high_first (rw (add-zero (entry_from j)) at (at_entry 0 (omega arith))) (at_entry 1 (omega arith)) ∙ place_whole place
 
   pub entry_offset_lem : entry_offset (with_entry j place offset t ix) j ≡ offset
   entry_offset_lem = at_entry 2 (omega arith)
@@ -221,7 +221,7 @@ entry_more j place t ix w b h p e =
     let pages : (k : ℕ) → k ≤ j → pages_from last k ≡ pages_from ix k = pages_before j place offset t ix w b o h in
     record {
       places = λ k g. ⊎_elim
-          (λ (d : j ≤ k). let i : k ≡ j = omega arith in rw (i, entry_place j place offset t ix w b o h) p)
+          (λ (d : j ≤ k). let i : k ≡ j = omega arith in rw (i, entry_place_lem j place offset t ix w b o h) p)
           (λ (d : k < j). rw (other k d).place (e.places k d)) (le_or_lt j k);
       gapless = λ k g. ⊎_elim
           (λ (d : j ≤ k). let i : k ≡ j = omega arith in rw i (entry_offset_lem j place offset t ix w b o h ∙ sym (pages j (omega arith))))
@@ -276,7 +276,7 @@ module _ (t ix : List ℕ) (w : well_made t ≡ true) (h : start_words t ≤ len
       record {
         packets = reached_packets 0 0 first whole;
         reached = reached_place_lem 0 0 first whole;
-        place = (reached_entry 0 0 first whole 0).place ∙ entry_place 0 0 index_contents t ix w (omega arith) (omega arith) h;
+        place = (reached_entry 0 0 first whole 0).place ∙ entry_place_lem 0 0 index_contents t ix w (omega arith) (omega arith) h;
         page = reached_page 0 0 first whole 0 (omega (arith, here)) ∙ entry_page 0 0 index_contents t ix w (omega arith) (omega arith) h;
       }
 

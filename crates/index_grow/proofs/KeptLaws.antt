@@ -15,7 +15,7 @@ use Rattle.index.specs.Layout.{boundaries_by, with_entry}
 use Rattle.index.specs.Good.{most_place, index_good, GoodIndex}
 use Rattle.index.proofs.GoodLaws.{index_of}
 use Rattle.index.proofs.WrittenLaws.{SameEntry, Entries, reached_entries, reached_packets, reached_place_lem, reached_entry, reached_page, reached_good}
-use Rattle.index.proofs.WrittenLaws.{entry_long, entry_place, entry_offset_lem, entry_page, entry_other, page_other, entry_more, pages_behind, page_stands}
+use Rattle.index.proofs.WrittenLaws.{entry_long, entry_place_lem, entry_offset_lem, entry_page, entry_other, page_other, entry_more, pages_behind, page_stands}
 use Rattle.index_grow.specs.Grow.{table_taken, packets_then, place_then, reaches_entry, entry_lacks, index_then}
 
 -- the index last before the packet is counted, which was ix
@@ -145,7 +145,7 @@ module _ (t ws ix : List ℕ) (g : index_good ix ≡ true) (w : well_made (table
       let long : index_contents ≤ length more = omega (arith, facts.whole, (kept_more e).long) in
       let behind : 4 ≤ entry_offset more j = omega (arith, o, entry_offset_lem j (place_then ws ix) (pages_end ix) (table_taken t ws) ix w b o h) in
       rw e (
-        (reached_entry (packets_then ix) (place_then ws ix) more long j).place ∙ entry_place j (place_then ws ix) (pages_end ix) (table_taken t ws) ix w b o h,
+        (reached_entry (packets_then ix) (place_then ws ix) more long j).place ∙ entry_place_lem j (place_then ws ix) (pages_end ix) (table_taken t ws) ix w b o h,
         reached_page (packets_then ix) (place_then ws ix) more long j behind ∙ entry_page j (place_then ws ix) (pages_end ix) (table_taken t ws) ix w b o h,
         boundary e,
       )

@@ -12,6 +12,6 @@ make_entry_spec =
     (λ c κs. search (rules, entered_whole, entered_small))
     (λ c. search rules)
     (λ c.
-    let saved : tie.After-save-at = search in
-    let wrote : tie.After-write-entry = search in
-    search (entered_made, saved.save-at.ensures, wrote.write-entry.ensures)))
+    let saved : tie.After-save_at-saved = search in
+    let wrote : tie.After-write_entry = search in
+    search (entered_made, saved.save_at-saved.ensures, wrote.write_entry.ensures)))

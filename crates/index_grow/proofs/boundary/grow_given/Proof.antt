@@ -9,6 +9,6 @@ grow_given_spec =
     tie.close
     (tie.spec
     (λ c κs. search (rules, copy_ready))
-    (λ c κs. let grown : tie.After-grow-played = search in search (back_fits, grown.grow-played.ensures))
+    (λ c κs. let grown : tie.After-grow_played-answer = search in search (back_fits, grown.grow_played-answer.ensures))
     (λ c. search rules) (λ c. search rules) (λ c. search rules)
-    (λ c. let grown : tie.After-grow-played = search in search (copied, grown.grow-played.ensures)))
+    (λ c. let grown : tie.After-grow_played-answer = search in search (copied, grown.grow_played-answer.ensures)))

@@ -12,26 +12,26 @@ grow_in_spec =
     (λ c κs.
     let start : tie.Start = search in
     let counted : tie.After-streams = search in
-    let sized : tie.After-layout-words = search in
+    let sized : tie.After-layout_words-size = search in
     let k = counted.streams.ensures in
-    let n = sized.layout-words.ensures in
+    let n = sized.layout_words-size.ensures in
     (copy_fits _ _ start.args.table.now k n (search) start.args.space.now (search), copy_there _ _ start.args.table.now k n (search)))
     (λ c. search rules) (λ c. search rules)
     (λ c.
     let start : tie.Start = search in
     let counted : tie.After-streams = search in
-    let sized : tie.After-layout-words = search in
-    let made : tie.After-copy-part = search in
-    copy_inside _ _ start.args.table.now counted.streams.ensures sized.layout-words.ensures (search) start.args.space.now _ (search)
-    made.copy-part.ensures)
+    let sized : tie.After-layout_words-size = search in
+    let made : tie.After-copy_part = search in
+    copy_inside _ _ start.args.table.now counted.streams.ensures sized.layout_words-size.ensures (search) start.args.space.now _ (search)
+    made.copy_part.ensures)
     (λ c κs.
     let start : tie.Start = search in
     let counted : tie.After-streams = search in
-    let sized : tie.After-layout-words = search in
-    let made : tie.After-copy-part = search in (
+    let sized : tie.After-layout_words-size = search in
+    let made : tie.After-copy_part = search in (
       search rules,
       search rules,
-      copy_is _ _ start.args.table.now counted.streams.ensures sized.layout-words.ensures (search) start.args.space.now _ (search)
-          made.copy-part.ensures,
+      copy_is _ _ start.args.table.now counted.streams.ensures sized.layout_words-size.ensures (search) start.args.space.now _ (search)
+          made.copy_part.ensures,
     ))
     (λ c. search rules) (λ c. search rules) (λ c. search rules) (λ c. search rules))

@@ -12,5 +12,5 @@ take_entry_spec =
     (λ c κs. search ready_whole) (λ c. search rules) (λ c κs. search ready_whole) (λ c. search ready_further) (λ c κs. search rules) (λ c. search rules)
     (λ c. search taken_full)
     (λ c κs.
-    let made : tie.After-make-next = search in
-    (search (made_whole, made.make-next.ensures), search (rules, ready_more))) (λ c. search rules) (λ c. search taken_made))
+    let made : tie.After-make_next = search in
+    (search (made_whole, made.make_next.ensures), search (rules, ready_more))) (λ c. search rules) (λ c. search taken_made))

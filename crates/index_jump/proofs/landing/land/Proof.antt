@@ -7,22 +7,22 @@ use Rattle.index_jump.proofs.landing.land.Statement.{statement}
 use Rattle.index_jump.proofs.landing.land.Tie as tie
 
 -- the place behind the packets does not overflow
-add-t19 : tie.Need-overflow-add-t19
-add-t19 c =
-    let page : tie.After-page-in = search in
-    let put : tie.After-put-back = search in
-    let entry : tie.After-entry-place = search in
-    let walked : tie.After-walk = search in
-    search (land_small, page.page-in.ensures, put.put_back.ensures, entry.entry_place.ensures, walked.walk.ensures)
+overflow_add-result : tie.Need-overflow_add-result
+overflow_add-result c =
+    let page : tie.After-page_in = search in
+    let put : tie.After-put_back-back = search in
+    let entry : tie.After-entry_place-place = search in
+    let walked : tie.After-walk-reached = search in
+    search (land_small, page.page_in.ensures, put.put_back-back.ensures, entry.entry_place-place.ensures, walked.walk-reached.ensures)
 
 -- the packets are there
-returns-5 : tie.Need-returns-5
-returns-5 c =
-    let page : tie.After-page-in = search in
-    let put : tie.After-put-back = search in
-    let entry : tie.After-entry-place = search in
-    let walked : tie.After-walk = search in
-    search (land_made, page.page-in.ensures, put.put_back.ensures, entry.entry_place.ensures, walked.walk.ensures)
+returns : tie.Need-returns
+returns c =
+    let page : tie.After-page_in = search in
+    let put : tie.After-put_back-back = search in
+    let entry : tie.After-entry_place-place = search in
+    let walked : tie.After-walk-reached = search in
+    search (land_made, page.page_in.ensures, put.put_back-back.ensures, entry.entry_place-place.ensures, walked.walk-reached.ensures)
 
 pub land_spec : {M : Type 1} → statement M
 land_spec =
@@ -31,4 +31,4 @@ land_spec =
     (λ c κs. search entry_there) (λ c κs. search rules) (λ c. search rules) (λ c. search rules) (λ c. search rules) (λ c. search land_unput)
     (λ c κs. search (entry_whole, entry_low)) (λ c. search rules) (λ c. search land_early) (λ c. search rules) (λ c. search land_far)
     (λ c. search rules) (λ c. search rules) (λ c. search land_room) (λ c κs. search land_well) (λ c. search rules) (λ c. search rules)
-    (λ c. search rules) (λ c. search land_short) add-t19 (λ c. search rules) returns-5)
+    (λ c. search rules) (λ c. search land_short) overflow_add-result (λ c. search rules) returns)

@@ -4,16 +4,16 @@ use Rattle.index_jump.proofs.WalkLaws.{Onto, onto_start, onto_end, onto_some, on
 use Rattle.index_jump.proofs.landing.walk_on.Statement.{statement}
 use Rattle.index_jump.proofs.landing.walk_on.Tie as tie
 
-abbrev invariant-loop : tie.invariant-loop
-invariant-loop table₀ given from n entries₀ at₀ i₀ table entries at i = Onto n given from table₀ entries₀ table entries at i
+abbrev invariant-loop-i : tie.invariant-loop-i
+invariant-loop-i table₀ given from n entries₀ at₀ i₀ table entries at i = Onto n given from table₀ entries₀ table entries at i
 
-abbrev decreases-loop : tie.decreases-loop
-decreases-loop table₀ given from n entries₀ at₀ i₀ table entries at i = n - i
+abbrev decreases-loop-i : tie.decreases-loop-i
+decreases-loop-i table₀ given from n entries₀ at₀ i₀ table entries at i = n - i
 
 pub walk_on_spec : {M : Type 1} → statement M
 walk_on_spec =
     tie.close
     (tie.spec
-    invariant-loop decreases-loop (λ c. search onto_start) (λ c. search rules) (λ c κs. search rules) (λ c κs. search (rules, onto_some, onto_room)) (λ c. search rules)
+    invariant-loop-i decreases-loop-i (λ c. search onto_start) (λ c. search rules) (λ c κs. search rules) (λ c κs. search (rules, onto_some, onto_room)) (λ c. search rules)
     (λ c. search rules) (λ c. search rules) (λ c. search rules) (λ c. search onto_short) (λ c. search rules) (λ c. search onto_less) (λ c. search onto_turn)
     (λ c. search rules) (λ c. search rules) (λ c. search onto_end))

@@ -13,7 +13,7 @@ walk_run_spec =
     (λ c. search rules) (λ c. search rules)
     (λ c.
     let start : tie.Start = search in
-    let ran : tie.After-run-on = search in
+    let ran : tie.After-run_on-reached = search in
     let a = start.args in
-    run_there a.n a.given.now a.from a.table.now a.entries.now _ _ _ _ (search) (search) (search) ran.run_on.ensures (search)
-    c.if2.false))
+    run_there a.n a.given.now a.from a.table.now a.entries.now _ _ _ _ (search) (search) (search) ran.run_on-reached.ensures (search)
+    c.if-entries-end-eq0.false))

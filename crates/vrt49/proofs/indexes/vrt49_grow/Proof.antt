@@ -9,33 +9,33 @@ use Rattle.vrt49.proofs.NumberLaws.{grow_fitting}
 use Rattle.vrt49.proofs.indexes.vrt49_grow.Statement.{statement}
 use Rattle.vrt49.proofs.indexes.vrt49_grow.Tie as tie
 
-number-for-requires : tie.Need-number-for-requires
-number-for-requires c κs =
+number_for-requires : tie.Need-number_for-requires
+number_for-requires c κs =
     let k : tie.After-grow = search in
-    (grow_fitting _ _ _ _ (said_refused _ _ (sym k.grow.ensures.answer ∙ ap grown_paper c.before.r.given.1))).fits
+    (grow_fitting _ _ _ _ (said_refused _ _ (sym k.grow.ensures.answer ∙ ap grown_paper c.before.r-1.given.1))).fits
 
-taken-words-requires : tie.Need-taken-words-requires
-taken-words-requires c κs =
+taken_words-requires : tie.Need-taken_words-requires
+taken_words-requires c κs =
     let k : tie.After-grow = search in
-    taken_small _ _ _ _ _ _ k.grow.ensures c.before.taken.given.1
+    taken_small _ _ _ _ _ _ k.grow.ensures c.before.taken-1.given.1
 
-returns : tie.Need-returns
-returns c =
+returns-in-Refused : tie.Need-returns-in-Refused
+returns-in-Refused c =
     let k : tie.After-grow = search in
-    let at-r : tie.After-r = search in
-    let at-number : tie.After-number-for = search in
-    beside_where_refused taken_values _ _ _ _ _ _ k.grow.ensures _ _ (ap grown_paper at-r.r.given.1) at-number.number-for.ensures
+    let at-r : tie.In-Refused-2 = search in
+    let at-number : tie.After-number_for = search in
+    beside_where_refused taken_values _ _ _ _ _ _ k.grow.ensures _ _ (ap grown_paper at-r.r-1.given.1) at-number.number_for.ensures
 
-returns-2 : tie.Need-returns-2
-returns-2 c =
+returns-in-Accepted : tie.Need-returns-in-Accepted
+returns-in-Accepted c =
     let k : tie.After-grow = search in
-    let at-taken : tie.After-taken = search in
-    let at_words : tie.After-taken-words = search in
-    beside_where_values taken_values _ _ _ _ _ _ k.grow.ensures _ _ (ap grown_paper at-taken.taken.given.1) at_words.taken-words.ensures
+    let at-taken : tie.In-Accepted-2 = search in
+    let at_words : tie.After-taken_words = search in
+    beside_where_values taken_values _ _ _ _ _ _ k.grow.ensures _ _ (ap grown_paper at-taken.taken-1.given.1) at_words.taken_words.ensures
 
 pub vrt49_grow_spec : {M : Type 1} → statement M
 vrt49_grow_spec =
     tie.close
     (tie.spec
-    (λ c κs. search rules) (λ c. search rules) number-for-requires (λ c. search rules) taken-words-requires (λ c. search rules) (λ c. search rules) returns
-    (λ c. search rules) (λ c. search rules) returns-2)
+    (λ c κs. search rules) (λ c. search rules) number_for-requires (λ c. search rules) taken_words-requires (λ c. search rules) (λ c. search rules) returns-in-Refused
+    (λ c. search rules) (λ c. search rules) returns-in-Accepted)

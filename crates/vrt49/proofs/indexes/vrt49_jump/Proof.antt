@@ -6,25 +6,25 @@ use Rattle.vrt49.proofs.AnswerLaws.{beside_refused, beside_values}
 use Rattle.vrt49.proofs.indexes.vrt49_jump.Statement.{statement}
 use Rattle.vrt49.proofs.indexes.vrt49_jump.Tie as tie
 
-returns : tie.Need-returns
-returns c =
+returns-in-Refused : tie.Need-returns-in-Refused
+returns-in-Refused c =
     let start : tie.Start = search in
     let k : tie.After-jump = search in
-    let at-k : tie.After-k = search in
+    let at-k : tie.In-Refused-2 = search in
     let a = start.args in
     beside_refused landed_values _ (jump_of a.words.now a.first a.index.now a.n a.table.now) _ _ _ _ k.jump.ensures _
-    (ap jumped_paper at-k.k.given.1)
+    (ap jumped_paper at-k.k-1.given.1)
 
-returns-2 : tie.Need-returns-2
-returns-2 c =
+returns-in-Accepted : tie.Need-returns-in-Accepted
+returns-in-Accepted c =
     let start : tie.Start = search in
     let k : tie.After-jump = search in
-    let at-l : tie.After-l = search in
+    let at-l : tie.In-Accepted-2 = search in
     let a = start.args in
     beside_values landed_values _ (jump_of a.words.now a.first a.index.now a.n a.table.now) _ _ _ _ k.jump.ensures _ _
-    (ap jumped_paper at-l.l.given.1) refl
+    (ap jumped_paper at-l.l-1.given.1) refl
 
 pub vrt49_jump_spec : {M : Type 1} → statement M
 vrt49_jump_spec =
     tie.close
-    (tie.spec (λ c κs. search rules) (λ c. search rules) (λ c. search rules) (λ c. search rules) returns (λ c. search rules) returns-2)
+    (tie.spec (λ c κs. search rules) (λ c. search rules) (λ c. search rules) (λ c. search rules) returns-in-Refused (λ c. search rules) returns-in-Accepted)

@@ -5,8 +5,8 @@ use Rattle.vrt49.proofs.packets.packet_words.Tie as tie
 
 returns : tie.Need-returns
 returns c =
-    let k : tie.After-flag3 = search in
-    rw (← k.flag3.ensures, ← k.before.flag2.ensures, ← k.before.before.flag.ensures)
+    let k : tie.After-flag-3 = search in
+    rw (← k.flag-3.ensures, ← k.before.flag-2.ensures, ← k.before.before.flag.ensures)
 
 pub packet_words_spec : {M : Type 1} → statement M
 packet_words_spec =

@@ -9,31 +9,31 @@ use Rattle.vrt49.proofs.NumberLaws.{read_fitting}
 use Rattle.vrt49.proofs.packets.vrt49_read.Statement.{statement}
 use Rattle.vrt49.proofs.packets.vrt49_read.Tie as tie
 
-number-for-requires : tie.Need-number-for-requires
-number-for-requires c κs =
+number_for-requires : tie.Need-number_for-requires
+number_for-requires c κs =
     let k : tie.After-read = search in
-    (read_fitting _ _ (sym k.read.ensures ∙ ap parsed_paper c.before.r.given.1)).fits
+    (read_fitting _ _ (sym k.read.ensures ∙ ap parsed_paper c.before.r-1.given.1)).fits
 
-packet-words-requires : tie.Need-packet-words-requires
-packet-words-requires c κs =
+packet_words-requires : tie.Need-packet_words-requires
+packet_words-requires c κs =
     let k : tie.After-read = search in
-    let e = told_packet _ _ (sym k.read.ensures ∙ ap parsed_paper c.before.p.given.1) in
+    let e = told_packet _ _ (sym k.read.ensures ∙ ap parsed_paper c.before.p-1.given.1) in
     (size_small false _ _ e, body_inside false _ _ e)
 
-returns : tie.Need-returns
-returns c =
+returns-in-Refused : tie.Need-returns-in-Refused
+returns-in-Refused c =
     let k : tie.After-read = search in
-    let at-r : tie.After-r = search in
-    let at-number : tie.After-number-for = search in
-    where_refused packet_values _ _ _ _ (sym k.read.ensures ∙ ap parsed_paper at-r.r.given.1) at-number.number-for.ensures
+    let at-r : tie.In-Refused-2 = search in
+    let at-number : tie.After-number_for = search in
+    where_refused packet_values _ _ _ _ (sym k.read.ensures ∙ ap parsed_paper at-r.r-1.given.1) at-number.number_for.ensures
 
-returns-2 : tie.Need-returns-2
-returns-2 c =
+returns-in-Accepted : tie.Need-returns-in-Accepted
+returns-in-Accepted c =
     let k : tie.After-read = search in
-    let at_p : tie.After-p = search in
-    let at-packet-words : tie.After-packet-words = search in
-    where_values packet_values _ _ _ _ (sym k.read.ensures ∙ ap parsed_paper at_p.p.given.1) at-packet-words.packet-words.ensures
+    let at_p : tie.In-Accepted-2 = search in
+    let at-packet-words : tie.After-packet_words = search in
+    where_values packet_values _ _ _ _ (sym k.read.ensures ∙ ap parsed_paper at_p.p-1.given.1) at-packet-words.packet_words.ensures
 
 pub vrt49_read_spec : {M : Type 1} → statement M
 vrt49_read_spec =
-    tie.close (tie.spec (λ c κs. search rules) (λ c. search rules) number-for-requires (λ c. search rules) packet-words-requires returns returns-2)
+    tie.close (tie.spec (λ c κs. search rules) (λ c. search rules) number_for-requires (λ c. search rules) packet_words-requires returns-in-Refused returns-in-Accepted)

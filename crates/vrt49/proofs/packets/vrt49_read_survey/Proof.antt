@@ -9,31 +9,31 @@ use Rattle.vrt49.proofs.NumberLaws.{survey_fitting}
 use Rattle.vrt49.proofs.packets.vrt49_read_survey.Statement.{statement}
 use Rattle.vrt49.proofs.packets.vrt49_read_survey.Tie as tie
 
-number-for-requires : tie.Need-number-for-requires
-number-for-requires c κs =
-    let k : tie.After-read-survey = search in
-    (survey_fitting _ _ (sym k.read-survey.ensures ∙ ap survey_paper c.before.r.given.1)).fits
+number_for-requires : tie.Need-number_for-requires
+number_for-requires c κs =
+    let k : tie.After-read_survey = search in
+    (survey_fitting _ _ (sym k.read_survey.ensures ∙ ap survey_paper c.before.r-1.given.1)).fits
 
-survey-words-requires : tie.Need-survey-words-requires
-survey-words-requires c κs =
-    let k : tie.After-read-survey = search in
-    let e = survey_packet _ _ (sym k.read-survey.ensures ∙ ap survey_paper c.before.s.given.1) in
+survey_words-requires : tie.Need-survey_words-requires
+survey_words-requires c κs =
+    let k : tie.After-read_survey = search in
+    let e = survey_packet _ _ (sym k.read_survey.ensures ∙ ap survey_paper c.before.s-1.given.1) in
     (size_small true _ _ e, body_inside true _ _ e)
 
-returns : tie.Need-returns
-returns c =
-    let k : tie.After-read-survey = search in
-    let at-r : tie.After-r = search in
-    let at-number : tie.After-number-for = search in
-    where_refused survey_values _ _ _ _ (sym k.read-survey.ensures ∙ ap survey_paper at-r.r.given.1) at-number.number-for.ensures
+returns-in-Refused : tie.Need-returns-in-Refused
+returns-in-Refused c =
+    let k : tie.After-read_survey = search in
+    let at-r : tie.In-Refused-2 = search in
+    let at-number : tie.After-number_for = search in
+    where_refused survey_values _ _ _ _ (sym k.read_survey.ensures ∙ ap survey_paper at-r.r-1.given.1) at-number.number_for.ensures
 
-returns-2 : tie.Need-returns-2
-returns-2 c =
-    let k : tie.After-read-survey = search in
-    let at-s : tie.After-s = search in
-    let at-survey-words : tie.After-survey-words = search in
-    where_values survey_values _ _ _ _ (sym k.read-survey.ensures ∙ ap survey_paper at-s.s.given.1) at-survey-words.survey-words.ensures
+returns-in-Accepted : tie.Need-returns-in-Accepted
+returns-in-Accepted c =
+    let k : tie.After-read_survey = search in
+    let at-s : tie.In-Accepted-2 = search in
+    let at-survey-words : tie.After-survey_words = search in
+    where_values survey_values _ _ _ _ (sym k.read_survey.ensures ∙ ap survey_paper at-s.s-1.given.1) at-survey-words.survey_words.ensures
 
 pub vrt49_read_survey_spec : {M : Type 1} → statement M
 vrt49_read_survey_spec =
-    tie.close (tie.spec (λ c κs. search rules) (λ c. search rules) number-for-requires (λ c. search rules) survey-words-requires returns returns-2)
+    tie.close (tie.spec (λ c κs. search rules) (λ c. search rules) number_for-requires (λ c. search rules) survey_words-requires returns-in-Refused returns-in-Accepted)

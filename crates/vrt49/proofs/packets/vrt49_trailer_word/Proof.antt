@@ -6,16 +6,16 @@ use Rattle.vrt49.proofs.AnswerLaws.{tells_refused, tells_values}
 use Rattle.vrt49.proofs.packets.vrt49_trailer_word.Statement.{statement}
 use Rattle.vrt49.proofs.packets.vrt49_trailer_word.Tie as tie
 
-returns : tie.Need-returns
-returns c =
-    let k : tie.After-trailer-word = search in
-    tells_refused plain _ _ _ (sym k.trailer-word.ensures ∙ ap trailer_paper c.before.n.given.1)
+returns-in-Refused : tie.Need-returns-in-Refused
+returns-in-Refused c =
+    let k : tie.After-trailer_word = search in
+    tells_refused plain _ _ _ (sym k.trailer_word.ensures ∙ ap trailer_paper c.before.n-1.given.1)
 
-returns-2 : tie.Need-returns-2
-returns-2 c =
-    let k : tie.After-trailer-word = search in
-    tells_values plain _ _ _ _ (sym k.trailer-word.ensures ∙ ap trailer_paper c.before.w.given.1) refl
+returns-in-Accepted : tie.Need-returns-in-Accepted
+returns-in-Accepted c =
+    let k : tie.After-trailer_word = search in
+    tells_values plain _ _ _ _ (sym k.trailer_word.ensures ∙ ap trailer_paper c.before.w-1.given.1) refl
 
 pub vrt49_trailer_word_spec : {M : Type 1} → statement M
 vrt49_trailer_word_spec =
-    tie.close (tie.spec (λ c κs. search rules) (λ c. search rules) (λ c. search rules) returns returns-2)
+    tie.close (tie.spec (λ c κs. search rules) (λ c. search rules) (λ c. search rules) returns-in-Refused returns-in-Accepted)

@@ -6,17 +6,17 @@ use Rattle.vrt49.proofs.AnswerLaws.{tells_refused, tells_values}
 use Rattle.vrt49.proofs.payloads.vrt49_coordinates_of.Statement.{statement}
 use Rattle.vrt49.proofs.payloads.vrt49_coordinates_of.Tie as tie
 
-returns : tie.Need-returns
-returns c =
-    let k : tie.After-coordinates-of = search in
-    tells_refused coordinates_values _ _ _ (sym k.coordinates-of.ensures ∙ ap located_paper c.before.number.given.1)
+returns-in-Refused : tie.Need-returns-in-Refused
+returns-in-Refused c =
+    let k : tie.After-coordinates_of = search in
+    tells_refused coordinates_values _ _ _ (sym k.coordinates_of.ensures ∙ ap located_paper c.before.number-1.given.1)
 
-returns-2 : tie.Need-returns-2
-returns-2 c =
-    let k : tie.After-coordinates-of = search in
-    let at_at : tie.After-at = search in
-    tells_values coordinates_values _ _ _ _ (sym k.coordinates-of.ensures ∙ ap located_paper at_at.at.given.1) refl
+returns-in-At : tie.Need-returns-in-At
+returns-in-At c =
+    let k : tie.After-coordinates_of = search in
+    let at_at : tie.In-At-2 = search in
+    tells_values coordinates_values _ _ _ _ (sym k.coordinates_of.ensures ∙ ap located_paper at_at.at-1.given.1) refl
 
 pub vrt49_coordinates_of_spec : {M : Type 1} → statement M
 vrt49_coordinates_of_spec =
-    tie.close (tie.spec (λ c κs. search rules) (λ c. search rules) (λ c. search rules) returns returns-2)
+    tie.close (tie.spec (λ c κs. search rules) (λ c. search rules) (λ c. search rules) returns-in-Refused returns-in-At)

@@ -8,17 +8,17 @@ use borrow.Author.Rules.{sfits_of}
 use Rattle.vrt49.proofs.payloads.vrt49_signed.Statement.{statement}
 use Rattle.vrt49.proofs.payloads.vrt49_signed.Tie as tie
 
-returns : tie.Need-returns
-returns c =
+returns-in-Refused : tie.Need-returns-in-Refused
+returns-in-Refused c =
     let k : tie.After-signed = search in
-    tells_refused plain _ _ _ (sym k.signed.ensures ∙ ap shown_paper c.before.n.given.1)
+    tells_refused plain _ _ _ (sym k.signed.ensures ∙ ap shown_paper c.before.n-1.given.1)
 
-returns-2 : tie.Need-returns-2
-returns-2 c =
+returns-in-Value : tie.Need-returns-in-Value
+returns-in-Value c =
     let k : tie.After-signed = search in
-    let at-z : tie.After-z = search in
-    tells_values plain _ _ _ _ (sym k.signed.ensures ∙ ap shown_paper at-z.z.given.1) (to_z-of_z (sfits_of c.known-told2.given.0.1))
+    let at-z : tie.In-Value-2 = search in
+    tells_values plain _ _ _ _ (sym k.signed.ensures ∙ ap shown_paper at-z.z-1.given.1) (to_z-of_z (sfits_of c.known_told-in-Value-1.given.0.1))
 
 pub vrt49_signed_spec : {M : Type 1} → statement M
 vrt49_signed_spec =
-    tie.close (tie.spec (λ c κs. search rules) (λ c. search rules) (λ c. search rules) returns returns-2)
+    tie.close (tie.spec (λ c κs. search rules) (λ c. search rules) (λ c. search rules) returns-in-Refused returns-in-Value)

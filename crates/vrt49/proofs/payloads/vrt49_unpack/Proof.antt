@@ -6,19 +6,19 @@ use Rattle.vrt49.proofs.AnswerLaws.{left_number}
 use Rattle.vrt49.proofs.payloads.vrt49_unpack.Statement.{statement}
 use Rattle.vrt49.proofs.payloads.vrt49_unpack.Tie as tie
 
-returns : tie.Need-returns
-returns c =
+returns-in-Refused : tie.Need-returns-in-Refused
+returns-in-Refused c =
     let at-unpack : tie.After-unpack = search in
-    left_number measured _ _ _ _ _ at-unpack.unpack.ensures (ap (λ (r : Length). number_of (measured r)) c.before.number.given.1)
+    left_number measured _ _ _ _ _ at-unpack.unpack.ensures (ap (λ (r : Length). number_of (measured r)) c.before.number-1.given.1)
 
-returns-2 : tie.Need-returns-2
-returns-2 c =
+returns-in-Accepted : tie.Need-returns-in-Accepted
+returns-in-Accepted c =
     let at-unpack : tie.After-unpack = search in
-    left_number measured _ _ _ _ _ at-unpack.unpack.ensures (ap (λ (r : Length). number_of (measured r)) c.enum_told.given.1)
+    left_number measured _ _ _ _ _ at-unpack.unpack.ensures (ap (λ (r : Length). number_of (measured r)) c.enum_told-1.given.1)
 
 pub vrt49_unpack_spec : {M : Type 1} → statement M
 vrt49_unpack_spec =
     tie.close
     (tie.spec
-    (λ c κs. search rules) (λ c. search rules) (λ c. search rules) (λ c. search rules) (λ c. search rules) (λ c. search rules) returns
-    (λ c. search rules) (λ c. search rules) (λ c. search rules) returns-2)
+    (λ c κs. search rules) (λ c. search rules) (λ c. search rules) (λ c. search rules) (λ c. search rules) (λ c. search rules) returns-in-Refused
+    (λ c. search rules) (λ c. search rules) (λ c. search rules) returns-in-Accepted)

@@ -6,33 +6,33 @@ use borrow.Author.Rules.{rules, sfits_of}
 use Rattle.vrt49.proofs.readings.numbers_of.Statement.{statement}
 use Rattle.vrt49.proofs.readings.numbers_of.Tie as tie
 
-returns : tie.Need-returns
+returns-in-Frequency : tie.Need-returns-in-Frequency
 unfolding of_bits
-returns c = numbers_frequency _ _ _ _ (to_z-of_z (sfits_of c.known-told.given.0.1)) c.before.dial.given.1
+returns-in-Frequency c = numbers_frequency _ _ _ _ (to_z-of_z (sfits_of c.known_told-1.given.0.1)) c.before.dial-1.given.1
 
-returns-2 : tie.Need-returns-2
+returns-in-Level : tie.Need-returns-in-Level
 unfolding of_bits
-returns-2 c = numbers_told _ _ _ c.levelled.ensures c.before.before.dial2.given.1
+returns-in-Level c = numbers_told _ _ _ c.levelled.ensures c.before.before.dial-in-Level-1.given.1
 
-returns-3 : tie.Need-returns-3
+returns-in-Gain : tie.Need-returns-in-Gain
 unfolding of_bits
-returns-3 c = numbers_told _ _ _ c.levelled2.ensures c.before.before.dial3.given.1
+returns-in-Gain c = numbers_told _ _ _ c.levelled-in-Gain.ensures c.before.before.dial-in-Gain-1.given.1
 
-returns-4 : tie.Need-returns-4
+returns-in-Temperature : tie.Need-returns-in-Temperature
 unfolding of_bits
-returns-4 c = numbers_told _ _ _ c.levelled3.ensures c.before.before.dial4.given.1
+returns-in-Temperature c = numbers_told _ _ _ c.levelled-in-Temperature.ensures c.before.before.dial-in-Temperature-1.given.1
 
-returns-5 : tie.Need-returns-5
+returns-in-Other : tie.Need-returns-in-Other
 unfolding of_bits
-returns-5 c = numbers_told _ _ _ c.levelled4.ensures c.before.enum_told.given.1
+returns-in-Other c = numbers_told _ _ _ c.levelled-in-Other.ensures c.before.enum_told-1.given.1
 
-returns-6 : tie.Need-returns-6
+returns-in-Absent : tie.Need-returns-in-Absent
 unfolding of_bits
-returns-6 c = numbers_told _ _ _ c.levelled5.ensures c.before.enum-told2.given.1
+returns-in-Absent c = numbers_told _ _ _ c.levelled-in-Absent.ensures c.before.enum_told-in-Absent-1.given.1
 
-returns-7 : tie.Need-returns-7
+returns-in-Refused : tie.Need-returns-in-Refused
 unfolding of_bits
-returns-7 c = numbers_told _ _ _ c.levelled6.ensures c.before.enum-told3.given.1
+returns-in-Refused c = numbers_told _ _ _ c.levelled-in-Refused.ensures c.before.enum_told-in-Refused-1.given.1
 
 pub numbers_of_spec : {M : Type 1} → statement M
 numbers_of_spec =
@@ -40,4 +40,4 @@ numbers_of_spec =
     (tie.spec
     (λ c. search rules) (λ c. search rules) (λ c κs. search rules) (λ c. search rules) (λ c κs. search rules) (λ c. search rules)
     (λ c κs. search rules) (λ c. search rules) (λ c κs. search rules) (λ c. search rules) (λ c κs. search rules) (λ c. search rules)
-    (λ c κs. search rules) returns returns-2 returns-3 returns-4 returns-5 returns-6 returns-7)
+    (λ c κs. search rules) returns-in-Frequency returns-in-Level returns-in-Gain returns-in-Temperature returns-in-Other returns-in-Absent returns-in-Refused)

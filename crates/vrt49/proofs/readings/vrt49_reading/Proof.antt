@@ -9,19 +9,19 @@ use borrow.Author.Rules.{sfits_of}
 use Rattle.vrt49.proofs.readings.vrt49_reading.Statement.{statement}
 use Rattle.vrt49.proofs.readings.vrt49_reading.Tie as tie
 
+returns-in-Refused : tie.Need-returns-in-Refused
+returns-in-Refused c =
+    let k : tie.After-reading-dial = search in
+    tells_refused reading_values _ _ _ (sym k.reading-dial.ensures ∙ ap reading_paper c.before.dial-1.given.1)
+
 returns : tie.Need-returns
 returns c =
-    let k : tie.After-reading = search in
-    tells_refused reading_values _ _ _ (sym k.reading.ensures ∙ ap reading_paper c.before.dial.given.1)
-
-returns-2 : tie.Need-returns-2
-returns-2 c =
-    let k : tie.After-reading = search in
-    let at-match : tie.At-match-keys2 = search in
-    let at-numbers-of : tie.After-numbers-of = search in
-    reading_numbers _ _ k.reading.result _ _ k.reading.ensures (no_refusal _ at-match.match.keys2) at-numbers-of.Numbers-of.ensures
-    (to_z-of_z (sfits_of c.before.struct_told.given.1.1.0.1))
+    let k : tie.After-reading-dial = search in
+    let at-match : tie.In_default = search in
+    let at-numbers-of : tie.After-numbers_of-v = search in
+    reading_numbers _ _ k.reading-dial.result _ _ k.reading-dial.ensures (no_refusal _ at-match.in-Refused.keys2) at-numbers-of.Numbers-of.ensures
+    (to_z-of_z (sfits_of c.before.struct_told-1.given.1.1.0.1))
 
 pub vrt49_reading_spec : {M : Type 1} → statement M
 vrt49_reading_spec =
-    tie.close (tie.spec (λ c κs. search rules) (λ c. search rules) returns (λ c κs. search rules) returns-2)
+    tie.close (tie.spec (λ c κs. search rules) (λ c. search rules) returns-in-Refused (λ c κs. search rules) returns)

@@ -5,15 +5,15 @@ use borrow.Author.Rules.{rules}
 use Rattle.vrt49.proofs.readings.vrt49_readings.Statement.{statement}
 use Rattle.vrt49.proofs.readings.vrt49_readings.Tie as tie
 
-returns-2 : tie.Need-returns-2
-returns-2 c =
-    let found : tie.After-check-stream = search in
-    let made : tie.After-columns-of = search in
-    readings_told _ _ found.check-stream.result found.check-stream.ensures _ _ (search) made.columns_of.ensures
+returns-in-Fine : tie.Need-returns-in-Fine
+returns-in-Fine c =
+    let found : tie.After-check_stream = search in
+    let made : tie.After-columns_of = search in
+    readings_told _ _ found.check_stream.result found.check_stream.ensures _ _ (search) made.columns_of.ensures
 
 pub vrt49_readings_spec : {M : Type 1} → statement M
 vrt49_readings_spec =
     tie.close
     (tie.spec
     (λ c κs. search rules) (λ c. search rules) (λ c. search rules) (λ c κs. search (checked_few, checked_has)) (λ c. search readings_told_refused)
-    returns-2)
+    returns-in-Fine)

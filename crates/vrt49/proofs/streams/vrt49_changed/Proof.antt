@@ -6,16 +6,16 @@ use Rattle.vrt49.proofs.AnswerLaws.{tells_refused, tells_values}
 use Rattle.vrt49.proofs.streams.vrt49_changed.Statement.{statement}
 use Rattle.vrt49.proofs.streams.vrt49_changed.Tie as tie
 
-returns : tie.Need-returns
-returns c =
+returns-in-Refused : tie.Need-returns-in-Refused
+returns-in-Refused c =
     let k : tie.After-changed = search in
-    tells_refused plain _ _ _ (sym k.changed.ensures ∙ ap changed_paper c.before.n.given.1)
+    tells_refused plain _ _ _ (sym k.changed.ensures ∙ ap changed_paper c.before.n-1.given.1)
 
-returns-2 : tie.Need-returns-2
-returns-2 c =
+returns-in-Fields : tie.Need-returns-in-Fields
+returns-in-Fields c =
     let k : tie.After-changed = search in
-    let at-w : tie.After-w = search in
-    tells_values plain _ _ _ _ (sym k.changed.ensures ∙ ap changed_paper at-w.w.given.1) refl
+    let at-w : tie.In-Fields-2 = search in
+    tells_values plain _ _ _ _ (sym k.changed.ensures ∙ ap changed_paper at-w.w-1.given.1) refl
 
 pub vrt49_changed_spec : {M : Type 1} → statement M
-vrt49_changed_spec = tie.close (tie.spec (λ c κs. search rules) (λ c. search rules) (λ c. search rules) returns returns-2)
+vrt49_changed_spec = tie.close (tie.spec (λ c κs. search rules) (λ c. search rules) (λ c. search rules) returns-in-Refused returns-in-Fields)

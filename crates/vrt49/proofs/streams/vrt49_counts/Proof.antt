@@ -6,23 +6,23 @@ use Rattle.vrt49.proofs.AnswerLaws.{tells_refused, tells_values}
 use Rattle.vrt49.proofs.streams.vrt49_counts.Statement.{statement}
 use Rattle.vrt49.proofs.streams.vrt49_counts.Tie as tie
 
-returns : tie.Need-returns
-returns c =
+returns-in-Refused : tie.Need-returns-in-Refused
+returns-in-Refused c =
     let k : tie.After-counts = search in
-    tells_refused count_values _ _ _ (sym k.counts.ensures ∙ ap type_counts_paper c.before.n.given.1)
+    tells_refused count_values _ _ _ (sym k.counts.ensures ∙ ap type_counts_paper c.before.n-1.given.1)
 
-returns-2 : tie.Need-returns-2
-returns-2 c =
+returns-in-Started : tie.Need-returns-in-Started
+returns-in-Started c =
     let k : tie.After-counts = search in
-    let at_seen : tie.After-seen = search in
-    tells_values count_values _ _ _ _ (sym k.counts.ensures ∙ ap type_counts_paper at_seen.seen.given.1) refl
+    let at_seen : tie.In-Started-2 = search in
+    tells_values count_values _ _ _ _ (sym k.counts.ensures ∙ ap type_counts_paper at_seen.seen-1.given.1) refl
 
-returns-3 : tie.Need-returns-3
-returns-3 c =
+returns-in-NotStarted : tie.Need-returns-in-NotStarted
+returns-in-NotStarted c =
     let k : tie.After-counts = search in
-    let at_told : tie.After-enum-told = search in
-    tells_values count_values _ _ _ _ (sym k.counts.ensures ∙ ap type_counts_paper at_told.enum_told.given.1) refl
+    let at_told : tie.In-NotStarted = search in
+    tells_values count_values _ _ _ _ (sym k.counts.ensures ∙ ap type_counts_paper at_told.enum_told-1.given.1) refl
 
 pub vrt49_counts_spec : {M : Type 1} → statement M
 vrt49_counts_spec =
-    tie.close (tie.spec (λ c κs. search rules) (λ c. search rules) (λ c. search rules) (λ c. search rules) returns returns-2 returns-3)
+    tie.close (tie.spec (λ c κs. search rules) (λ c. search rules) (λ c. search rules) (λ c. search rules) returns-in-Refused returns-in-Started returns-in-NotStarted)

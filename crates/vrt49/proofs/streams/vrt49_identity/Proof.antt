@@ -6,17 +6,17 @@ use Rattle.vrt49.proofs.AnswerLaws.{tells_refused, tells_values}
 use Rattle.vrt49.proofs.streams.vrt49_identity.Statement.{statement}
 use Rattle.vrt49.proofs.streams.vrt49_identity.Tie as tie
 
-returns : tie.Need-returns
-returns c =
+returns-in-Refused : tie.Need-returns-in-Refused
+returns-in-Refused c =
     let k : tie.After-identity = search in
-    tells_refused identity_values _ _ _ (sym k.identity.ensures ∙ ap identity_paper c.before.n.given.1)
+    tells_refused identity_values _ _ _ (sym k.identity.ensures ∙ ap identity_paper c.before.n-1.given.1)
 
-returns-2 : tie.Need-returns-2
-returns-2 c =
+returns-in-Declared : tie.Need-returns-in-Declared
+returns-in-Declared c =
     let k : tie.After-identity = search in
-    let at_i : tie.After-i = search in
-    tells_values identity_values _ _ _ _ (sym k.identity.ensures ∙ ap identity_paper at_i.i.given.1) refl
+    let at_i : tie.In-Declared-2 = search in
+    tells_values identity_values _ _ _ _ (sym k.identity.ensures ∙ ap identity_paper at_i.i-1.given.1) refl
 
 pub vrt49_identity_spec : {M : Type 1} → statement M
 vrt49_identity_spec =
-    tie.close (tie.spec (λ c κs. search rules) (λ c. search rules) (λ c. search rules) returns returns-2)
+    tie.close (tie.spec (λ c κs. search rules) (λ c. search rules) (λ c. search rules) returns-in-Refused returns-in-Declared)

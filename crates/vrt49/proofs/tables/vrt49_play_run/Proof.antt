@@ -6,26 +6,26 @@ use Rattle.vrt49.proofs.AnswerLaws.{beside_refused, beside_values}
 use Rattle.vrt49.proofs.tables.vrt49_play_run.Statement.{statement}
 use Rattle.vrt49.proofs.tables.vrt49_play_run.Tie as tie
 
-returns : tie.Need-returns
-returns c =
+returns-in-Refused : tie.Need-returns-in-Refused
+returns-in-Refused c =
     let start : tie.Start = search in
-    let k : tie.After-play-run = search in
+    let k : tie.After-play_run = search in
     let a = start.args in
-    beside_refused reached_values _ (run_of a.table.now a.words.now a.from a.answers.now) _ _ _ _ k.play-run.ensures _
-    (ap run_paper c.before.n.given.1)
+    beside_refused reached_values _ (run_of a.table.now a.words.now a.from a.answers.now) _ _ _ _ k.play_run.ensures _
+    (ap run_paper c.before.n-1.given.1)
 
-returns-2 : tie.Need-returns-2
-returns-2 c =
+returns-in-Accepted : tie.Need-returns-in-Accepted
+returns-in-Accepted c =
     let start : tie.Start = search in
-    let k : tie.After-play-run = search in
-    let at-r : tie.After-r = search in
+    let k : tie.After-play_run = search in
+    let at-r : tie.In-Accepted-2 = search in
     let a = start.args in
-    beside_values reached_values _ (run_of a.table.now a.words.now a.from a.answers.now) _ _ _ _ k.play-run.ensures _ _
-    (ap run_paper at-r.r.given.1) refl
+    beside_values reached_values _ (run_of a.table.now a.words.now a.from a.answers.now) _ _ _ _ k.play_run.ensures _ _
+    (ap run_paper at-r.r-1.given.1) refl
 
 pub vrt49_play_run_spec : {M : Type 1} → statement M
 vrt49_play_run_spec =
     tie.close
     (tie.spec
-    (λ c κs. search rules) (λ c. search rules) (λ c. search rules) (λ c. search rules) (λ c. search rules) returns
-    (λ c. search rules) (λ c. search rules) returns-2)
+    (λ c κs. search rules) (λ c. search rules) (λ c. search rules) (λ c. search rules) (λ c. search rules) returns-in-Refused
+    (λ c. search rules) (λ c. search rules) returns-in-Accepted)
