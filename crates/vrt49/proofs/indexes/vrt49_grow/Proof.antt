@@ -12,26 +12,26 @@ use Rattle.vrt49.proofs.indexes.vrt49_grow.Tie as tie
 number_for-requires : tie.Need-number_for-requires
 number_for-requires c κs =
     let k : tie.After-grow = search in
-    (grow_fitting _ _ _ _ (said_refused _ _ (sym k.grow.ensures.answer ∙ ap grown_paper c.before.r-1.given.1))).fits
+    (grow_fitting _ _ _ _ (said_refused _ _ (sym k.grow.ensures.answer ∙ ap grown_paper c.in-Refused.is))).fits
 
 taken_words-requires : tie.Need-taken_words-requires
 taken_words-requires c κs =
     let k : tie.After-grow = search in
-    taken_small _ _ _ _ _ _ k.grow.ensures c.before.taken-1.given.1
+    taken_small _ _ _ _ _ _ k.grow.ensures c.in-Accepted.is
 
 returns-in-Refused : tie.Need-returns-in-Refused
 returns-in-Refused c =
     let k : tie.After-grow = search in
-    let at-r : tie.In-Refused-2 = search in
+    let at-r : tie.In-Refused = search in
     let at-number : tie.After-number_for = search in
-    beside_where_refused taken_values _ _ _ _ _ _ k.grow.ensures _ _ (ap grown_paper at-r.r-1.given.1) at-number.number_for.ensures
+    beside_where_refused taken_values _ _ _ _ _ _ k.grow.ensures _ _ (ap grown_paper at-r.in-Refused.is) at-number.number_for.ensures
 
 returns-in-Accepted : tie.Need-returns-in-Accepted
 returns-in-Accepted c =
     let k : tie.After-grow = search in
-    let at-taken : tie.In-Accepted-2 = search in
+    let at-taken : tie.In-Accepted = search in
     let at_words : tie.After-taken_words = search in
-    beside_where_values taken_values _ _ _ _ _ _ k.grow.ensures _ _ (ap grown_paper at-taken.taken-1.given.1) at_words.taken_words.ensures
+    beside_where_values taken_values _ _ _ _ _ _ k.grow.ensures _ _ (ap grown_paper at-taken.in-Accepted.is) at_words.taken_words.ensures
 
 pub vrt49_grow_spec : {M : Type 1} → statement M
 vrt49_grow_spec =

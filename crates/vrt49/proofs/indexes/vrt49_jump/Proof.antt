@@ -10,19 +10,19 @@ returns-in-Refused : tie.Need-returns-in-Refused
 returns-in-Refused c =
     let start : tie.Start = search in
     let k : tie.After-jump = search in
-    let at-k : tie.In-Refused-2 = search in
+    let at-k : tie.In-Refused = search in
     let a = start.args in
     beside_refused landed_values _ (jump_of a.words.now a.first a.index.now a.n a.table.now) _ _ _ _ k.jump.ensures _
-    (ap jumped_paper at-k.k-1.given.1)
+    (ap jumped_paper at-k.in-Refused.is)
 
 returns-in-Accepted : tie.Need-returns-in-Accepted
 returns-in-Accepted c =
     let start : tie.Start = search in
     let k : tie.After-jump = search in
-    let at-l : tie.In-Accepted-2 = search in
+    let at-l : tie.In-Accepted = search in
     let a = start.args in
     beside_values landed_values _ (jump_of a.words.now a.first a.index.now a.n a.table.now) _ _ _ _ k.jump.ensures _ _
-    (ap jumped_paper at-l.l-1.given.1) refl
+    (ap jumped_paper at-l.in-Accepted.is) refl
 
 pub vrt49_jump_spec : {M : Type 1} → statement M
 vrt49_jump_spec =

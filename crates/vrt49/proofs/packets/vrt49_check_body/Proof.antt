@@ -9,12 +9,12 @@ use Rattle.vrt49.proofs.packets.vrt49_check_body.Tie as tie
 returns-in-Fine : tie.Need-returns-in-Fine
 returns-in-Fine c =
     let k : tie.After-check_body = search in
-    tells_values plain _ _ _ _ (sym k.check_body.ensures ∙ ap checked c.enum_told-1.given.1) refl
+    tells_values plain _ _ _ _ (sym k.check_body.ensures ∙ ap checked c.in-Fine.is) refl
 
 returns-in-Refused : tie.Need-returns-in-Refused
 returns-in-Refused c =
     let k : tie.After-check_body = search in
-    tells_refused plain _ _ _ (sym k.check_body.ensures ∙ ap checked c.before.n-1.given.1)
+    tells_refused plain _ _ _ (sym k.check_body.ensures ∙ ap checked c.in-Refused.is)
 
 pub vrt49_check_body_spec : {M : Type 1} → statement M
 vrt49_check_body_spec =

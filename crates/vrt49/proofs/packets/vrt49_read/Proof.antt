@@ -12,27 +12,27 @@ use Rattle.vrt49.proofs.packets.vrt49_read.Tie as tie
 number_for-requires : tie.Need-number_for-requires
 number_for-requires c κs =
     let k : tie.After-read = search in
-    (read_fitting _ _ (sym k.read.ensures ∙ ap parsed_paper c.before.r-1.given.1)).fits
+    (read_fitting _ _ (sym k.read.ensures ∙ ap parsed_paper c.in-Refused.is)).fits
 
 packet_words-requires : tie.Need-packet_words-requires
 packet_words-requires c κs =
     let k : tie.After-read = search in
-    let e = told_packet _ _ (sym k.read.ensures ∙ ap parsed_paper c.before.p-1.given.1) in
+    let e = told_packet _ _ (sym k.read.ensures ∙ ap parsed_paper c.in-Accepted.is) in
     (size_small false _ _ e, body_inside false _ _ e)
 
 returns-in-Refused : tie.Need-returns-in-Refused
 returns-in-Refused c =
     let k : tie.After-read = search in
-    let at-r : tie.In-Refused-2 = search in
+    let at-r : tie.In-Refused = search in
     let at-number : tie.After-number_for = search in
-    where_refused packet_values _ _ _ _ (sym k.read.ensures ∙ ap parsed_paper at-r.r-1.given.1) at-number.number_for.ensures
+    where_refused packet_values _ _ _ _ (sym k.read.ensures ∙ ap parsed_paper at-r.in-Refused.is) at-number.number_for.ensures
 
 returns-in-Accepted : tie.Need-returns-in-Accepted
 returns-in-Accepted c =
     let k : tie.After-read = search in
-    let at_p : tie.In-Accepted-2 = search in
+    let at_p : tie.In-Accepted = search in
     let at-packet-words : tie.After-packet_words = search in
-    where_values packet_values _ _ _ _ (sym k.read.ensures ∙ ap parsed_paper at_p.p-1.given.1) at-packet-words.packet_words.ensures
+    where_values packet_values _ _ _ _ (sym k.read.ensures ∙ ap parsed_paper at_p.in-Accepted.is) at-packet-words.packet_words.ensures
 
 pub vrt49_read_spec : {M : Type 1} → statement M
 vrt49_read_spec =

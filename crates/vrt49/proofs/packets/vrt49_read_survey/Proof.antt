@@ -12,27 +12,27 @@ use Rattle.vrt49.proofs.packets.vrt49_read_survey.Tie as tie
 number_for-requires : tie.Need-number_for-requires
 number_for-requires c κs =
     let k : tie.After-read_survey = search in
-    (survey_fitting _ _ (sym k.read_survey.ensures ∙ ap survey_paper c.before.r-1.given.1)).fits
+    (survey_fitting _ _ (sym k.read_survey.ensures ∙ ap survey_paper c.in-Refused.is)).fits
 
 survey_words-requires : tie.Need-survey_words-requires
 survey_words-requires c κs =
     let k : tie.After-read_survey = search in
-    let e = survey_packet _ _ (sym k.read_survey.ensures ∙ ap survey_paper c.before.s-1.given.1) in
+    let e = survey_packet _ _ (sym k.read_survey.ensures ∙ ap survey_paper c.in-Accepted.is) in
     (size_small true _ _ e, body_inside true _ _ e)
 
 returns-in-Refused : tie.Need-returns-in-Refused
 returns-in-Refused c =
     let k : tie.After-read_survey = search in
-    let at-r : tie.In-Refused-2 = search in
+    let at-r : tie.In-Refused = search in
     let at-number : tie.After-number_for = search in
-    where_refused survey_values _ _ _ _ (sym k.read_survey.ensures ∙ ap survey_paper at-r.r-1.given.1) at-number.number_for.ensures
+    where_refused survey_values _ _ _ _ (sym k.read_survey.ensures ∙ ap survey_paper at-r.in-Refused.is) at-number.number_for.ensures
 
 returns-in-Accepted : tie.Need-returns-in-Accepted
 returns-in-Accepted c =
     let k : tie.After-read_survey = search in
-    let at-s : tie.In-Accepted-2 = search in
+    let at-s : tie.In-Accepted = search in
     let at-survey-words : tie.After-survey_words = search in
-    where_values survey_values _ _ _ _ (sym k.read_survey.ensures ∙ ap survey_paper at-s.s-1.given.1) at-survey-words.survey_words.ensures
+    where_values survey_values _ _ _ _ (sym k.read_survey.ensures ∙ ap survey_paper at-s.in-Accepted.is) at-survey-words.survey_words.ensures
 
 pub vrt49_read_survey_spec : {M : Type 1} → statement M
 vrt49_read_survey_spec =

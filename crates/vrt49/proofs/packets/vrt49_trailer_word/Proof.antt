@@ -9,12 +9,12 @@ use Rattle.vrt49.proofs.packets.vrt49_trailer_word.Tie as tie
 returns-in-Refused : tie.Need-returns-in-Refused
 returns-in-Refused c =
     let k : tie.After-trailer_word = search in
-    tells_refused plain _ _ _ (sym k.trailer_word.ensures ∙ ap trailer_paper c.before.n-1.given.1)
+    tells_refused plain _ _ _ (sym k.trailer_word.ensures ∙ ap trailer_paper c.in-Refused.is)
 
 returns-in-Accepted : tie.Need-returns-in-Accepted
 returns-in-Accepted c =
     let k : tie.After-trailer_word = search in
-    tells_values plain _ _ _ _ (sym k.trailer_word.ensures ∙ ap trailer_paper c.before.w-1.given.1) refl
+    tells_values plain _ _ _ _ (sym k.trailer_word.ensures ∙ ap trailer_paper c.in-Accepted.is) refl
 
 pub vrt49_trailer_word_spec : {M : Type 1} → statement M
 vrt49_trailer_word_spec =

@@ -9,13 +9,13 @@ use Rattle.vrt49.proofs.payloads.vrt49_coordinates_of.Tie as tie
 returns-in-Refused : tie.Need-returns-in-Refused
 returns-in-Refused c =
     let k : tie.After-coordinates_of = search in
-    tells_refused coordinates_values _ _ _ (sym k.coordinates_of.ensures ∙ ap located_paper c.before.number-1.given.1)
+    tells_refused coordinates_values _ _ _ (sym k.coordinates_of.ensures ∙ ap located_paper c.in-Refused.is)
 
 returns-in-At : tie.Need-returns-in-At
 returns-in-At c =
     let k : tie.After-coordinates_of = search in
-    let at_at : tie.In-At-2 = search in
-    tells_values coordinates_values _ _ _ _ (sym k.coordinates_of.ensures ∙ ap located_paper at_at.at-1.given.1) refl
+    let at_at : tie.In-At = search in
+    tells_values coordinates_values _ _ _ _ (sym k.coordinates_of.ensures ∙ ap located_paper at_at.in-At.is) refl
 
 pub vrt49_coordinates_of_spec : {M : Type 1} → statement M
 vrt49_coordinates_of_spec =

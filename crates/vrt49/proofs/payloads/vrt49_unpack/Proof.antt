@@ -9,12 +9,12 @@ use Rattle.vrt49.proofs.payloads.vrt49_unpack.Tie as tie
 returns-in-Refused : tie.Need-returns-in-Refused
 returns-in-Refused c =
     let at-unpack : tie.After-unpack = search in
-    left_number measured _ _ _ _ _ at-unpack.unpack.ensures (ap (λ (r : Length). number_of (measured r)) c.before.number-1.given.1)
+    left_number measured _ _ _ _ _ at-unpack.unpack.ensures (ap (λ (r : Length). number_of (measured r)) c.in-Refused.is)
 
 returns-in-Accepted : tie.Need-returns-in-Accepted
 returns-in-Accepted c =
     let at-unpack : tie.After-unpack = search in
-    left_number measured _ _ _ _ _ at-unpack.unpack.ensures (ap (λ (r : Length). number_of (measured r)) c.enum_told-1.given.1)
+    left_number measured _ _ _ _ _ at-unpack.unpack.ensures (ap (λ (r : Length). number_of (measured r)) c.in-Accepted.is)
 
 pub vrt49_unpack_spec : {M : Type 1} → statement M
 vrt49_unpack_spec =

@@ -2,6 +2,7 @@
 -- next bit.
 use Rattle.words.proofs.Kit.{◌≡◌, ◌+◌, ◌-◌, ◌*◌, ◌≤◌, ◌<◌, arith, rules}
 use mir.Facts.{to_z-of_z}
+use mir.Syntax.{w64}
 use borrow.Author.Rules.{sfits_of}
 use Rattle.record.specs.Held.{slot_at}
 use Rattle.table.specs.Layout.{record_at}
@@ -37,8 +38,8 @@ loop-again c =
     let told : tie.After-numbers_of-v invariant-loop-i decreases-loop-i = search in
     let inside : turn.before.loop-i.i < 21 = omega arith in (
       columns_turn (record_at start.args.stream start.args.table.now) turn.before.loop-i.i _ _ _ _ _ shown.show_at.result
-          told.Numbers-of.result _ inside turn.before.loop-i.invariant.0 shown.show_at.ensures told.Numbers-of.ensures
-          (to_z-of_z (sfits_of c.struct_told-1.given.1.1.0.1)),
+          told.numbers_of-v.result _ inside turn.before.loop-i.invariant.0 shown.show_at.ensures told.numbers_of-v.ensures
+          (to_z-of_z {w = w64} (search rules)),
       search (slot_along_next, inside),
       omega arith,
     )

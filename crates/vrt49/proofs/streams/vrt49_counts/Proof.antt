@@ -9,19 +9,19 @@ use Rattle.vrt49.proofs.streams.vrt49_counts.Tie as tie
 returns-in-Refused : tie.Need-returns-in-Refused
 returns-in-Refused c =
     let k : tie.After-counts = search in
-    tells_refused count_values _ _ _ (sym k.counts.ensures ∙ ap type_counts_paper c.before.n-1.given.1)
+    tells_refused count_values _ _ _ (sym k.counts.ensures ∙ ap type_counts_paper c.in-Refused.is)
 
 returns-in-Started : tie.Need-returns-in-Started
 returns-in-Started c =
     let k : tie.After-counts = search in
-    let at_seen : tie.In-Started-2 = search in
-    tells_values count_values _ _ _ _ (sym k.counts.ensures ∙ ap type_counts_paper at_seen.seen-1.given.1) refl
+    let at_seen : tie.In-Started = search in
+    tells_values count_values _ _ _ _ (sym k.counts.ensures ∙ ap type_counts_paper at_seen.in-Started.is) refl
 
 returns-in-NotStarted : tie.Need-returns-in-NotStarted
 returns-in-NotStarted c =
     let k : tie.After-counts = search in
     let at_told : tie.In-NotStarted = search in
-    tells_values count_values _ _ _ _ (sym k.counts.ensures ∙ ap type_counts_paper at_told.enum_told-1.given.1) refl
+    tells_values count_values _ _ _ _ (sym k.counts.ensures ∙ ap type_counts_paper at_told.in-NotStarted.is) refl
 
 pub vrt49_counts_spec : {M : Type 1} → statement M
 vrt49_counts_spec =

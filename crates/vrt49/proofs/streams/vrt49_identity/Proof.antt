@@ -9,13 +9,13 @@ use Rattle.vrt49.proofs.streams.vrt49_identity.Tie as tie
 returns-in-Refused : tie.Need-returns-in-Refused
 returns-in-Refused c =
     let k : tie.After-identity = search in
-    tells_refused identity_values _ _ _ (sym k.identity.ensures ∙ ap identity_paper c.before.n-1.given.1)
+    tells_refused identity_values _ _ _ (sym k.identity.ensures ∙ ap identity_paper c.in-Refused.is)
 
 returns-in-Declared : tie.Need-returns-in-Declared
 returns-in-Declared c =
     let k : tie.After-identity = search in
-    let at_i : tie.In-Declared-2 = search in
-    tells_values identity_values _ _ _ _ (sym k.identity.ensures ∙ ap identity_paper at_i.i-1.given.1) refl
+    let at_i : tie.In-Declared = search in
+    tells_values identity_values _ _ _ _ (sym k.identity.ensures ∙ ap identity_paper at_i.in-Declared.is) refl
 
 pub vrt49_identity_spec : {M : Type 1} → statement M
 vrt49_identity_spec =

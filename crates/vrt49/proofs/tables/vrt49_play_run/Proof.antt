@@ -12,16 +12,16 @@ returns-in-Refused c =
     let k : tie.After-play_run = search in
     let a = start.args in
     beside_refused reached_values _ (run_of a.table.now a.words.now a.from a.answers.now) _ _ _ _ k.play_run.ensures _
-    (ap run_paper c.before.n-1.given.1)
+    (ap run_paper c.in-Refused.is)
 
 returns-in-Accepted : tie.Need-returns-in-Accepted
 returns-in-Accepted c =
     let start : tie.Start = search in
     let k : tie.After-play_run = search in
-    let at-r : tie.In-Accepted-2 = search in
+    let at-r : tie.In-Accepted = search in
     let a = start.args in
     beside_values reached_values _ (run_of a.table.now a.words.now a.from a.answers.now) _ _ _ _ k.play_run.ensures _ _
-    (ap run_paper at-r.r-1.given.1) refl
+    (ap run_paper at-r.in-Accepted.is) refl
 
 pub vrt49_play_run_spec : {M : Type 1} → statement M
 vrt49_play_run_spec =
