@@ -101,7 +101,7 @@ demand_3_made = record {
       b.answer ∙ ap said_of again.accepts ∙ ap accepted again.says;
   days = λ list lent t last packets answers stops a d.
       let k = days list [] t (started list lent t a) packets last (map played_paper answers) stops (day d) in
-      (record { table = k.right; said = k.ruled }, same_pages list t (started list lent t a) stops k.same-pages);
+      (record { table = k.right; said = k.ruled }, same_pages list t (started list lent t a) stops k.same_pages);
   unbroken = λ list lent t last whole packets answers all stops a d p.
       let k = days list [] t (started list lent t a) packets last (map played_paper answers) stops (day d) in
       (k.same_table ∙ ap (layout_of list) (sym (played p).0), k.same_answers ∙ sym (played p).1);

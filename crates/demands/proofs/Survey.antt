@@ -172,7 +172,7 @@ module _ (ws : List ℕ) (s : Survey) (e : read_survey_of ws ≡ accepted s) whe
     whole = pad_whole (classed w) (trailed w) high low l not_pad
 
     legal : low_known low ≡ true
-    legal = class_low high low known
+    legal = class_low_lem high low known
 
     fill : n * item_bits (data_type low) + pad_of high ≡ 32 * l
     fill = items_fill high low l whole known
