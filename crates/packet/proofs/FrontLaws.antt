@@ -4,7 +4,6 @@ use Rattle.words.proofs.Kit.{◌≡◌, sym, ap, ◌∙◌, Bool, true, false, L
 use Rattle.words.proofs.Kit.{not-false, eqb, length, get_or}
 use borrow.Author.Tests.{eqb-false}
 use Rattle.words.specs.declared.Check.{Check}
-use Rattle.words.specs.declared.Check.TheVariants as Check
 use Rattle.words.specs.Tests.{both}
 use Rattle.words.specs.Outcome.{refused, accepted, after, onward, checked}
 use Rattle.words.specs.Refusals.{Refusals, first_given}

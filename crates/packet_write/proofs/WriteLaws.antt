@@ -4,7 +4,6 @@ use Rattle.words.proofs.Kit.{◌≡◌, refl, sym, ap, ◌∙◌, Bool, true, fa
 use lib.Dec.{lit<}
 use Rattle.words.specs.Numbers.{VALUE}
 use Rattle.words.specs.declared.Check.{Check}
-use Rattle.words.specs.declared.Check.TheVariants as Check
 use Rattle.words.specs.declared.Length.TheVariants.{Accepted, Refused}
 use Rattle.words.specs.Outcome.{accepted, checked, measured, Meets}
 use Rattle.words.proofs.RefusalLaws.{first_passed, first_fine}

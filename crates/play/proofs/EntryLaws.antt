@@ -4,7 +4,6 @@ use Rattle.words.proofs.Kit.{◌≡◌, refl, sym, ap, subst, ◌∙◌, Bool, t
 use Rattle.words.proofs.Kit.{eqb-true, eqb, length, take, drop, get_or}
 use native.Mathlib.Nat.{mod-lt}
 use Rattle.words.specs.declared.Check.{Check}
-use Rattle.words.specs.declared.Check.TheVariants as Check
 use Rattle.words.specs.declared.Where.{Where}
 use Rattle.words.specs.declared.Where.TheVariants.{Nowhere, Word}
 use Rattle.words.specs.Numbers.{STREAM, TABLE}
@@ -27,7 +26,6 @@ use Rattle.packet.proofs.InsideLaws.{PlaceTold, placeable, place_told, stream_to
 use Rattle.table.specs.Well.{well_made}
 use Rattle.play.specs.declared.Heard.{Heard}
 use Rattle.play.specs.declared.Played.{Played}
-use Rattle.play.specs.declared.Played.TheVariants as Played
 use Rattle.play.specs.declared.run.Entry.{Entry}
 use Rattle.play.specs.declared.streams.Sought.{Sought}
 use Rattle.play.specs.declared.streams.Sought.TheVariants.{Unknown}

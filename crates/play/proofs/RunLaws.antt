@@ -7,7 +7,6 @@ use native.Mathlib.Nat.{zero-add, add-zero}
 use lib.ListN.{length-append, length-drop}
 use lib.Seq.{drop-drop}
 use Rattle.words.specs.declared.Check.{Check}
-use Rattle.words.specs.declared.Check.TheVariants as Check
 use Rattle.words.specs.Numbers.{EMPTY}
 use Rattle.words.specs.Tests.{pick}
 use Rattle.words.specs.Part.{put}

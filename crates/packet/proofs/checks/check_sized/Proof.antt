@@ -1,7 +1,6 @@
 -- `check_sized` meets its promise: no words are EMPTY; a header that is refused ends the chain, and else the size decides.
 use Rattle.words.proofs.Kit.{◌≡◌, List, eq-eqb, ℕ, length, get_or, rules}
 use Rattle.words.specs.declared.Check.{Check}
-use Rattle.words.specs.declared.Check.TheVariants as Check
 use Rattle.words.specs.Numbers.{EMPTY}
 use Rattle.words.specs.Outcome.{refused, checked}
 use Rattle.packet.specs.inner.Steps.{header_checks, size_checks, sized_checks}

@@ -1,5 +1,4 @@
 -- `finish` meets its promise: `word_left` puts the bits that are held at the left of a word.
-use Rattle.bitstream.proofs.SpanLaws.{none}
 use Rattle.bitstream.proofs.AccumulatorLaws.{word_left}
 use Rattle.words.proofs.Kit.{arith, refl, ap, ℕ, set, rules}
 use Rattle.bitstream.proofs.inner.accumulator.finish.Statement.{statement}
