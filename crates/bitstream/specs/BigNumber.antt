@@ -1,5 +1,5 @@
 -- Words as one big number.
-use Rattle.words.specs.Kit.{ℕ, ◌+◌, ◌*◌, ◌^◌, List, [], ◌∷◌, length}
+use Rattle.std.specs.Prelude.{ℕ, ◌+◌, ◌*◌, ◌^◌, List, [], ◌∷◌, length}
 
 -- the first word at the left
 unfoldable pub value : List ℕ → ℕ

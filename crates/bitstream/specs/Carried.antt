@@ -1,6 +1,6 @@
 -- Packing fields in words of 32 bits, of which the leftmost c carry the stream of fields. One number says both packings of document 01: c is 32 where
 -- "fields of f bits follow without a gap", and as many bits as whole fields take where "each word holds as many whole fields as fit, from the left".
-use Rattle.words.specs.Kit.{ℕ, ◌+◌, ◌-◌, ◌*◌, ◌/◌, ◌^◌, List, get_or}
+use Rattle.std.specs.Prelude.{ℕ, ◌+◌, ◌-◌, ◌*◌, ◌/◌, ◌^◌, List, get_or}
 use Rattle.bitstream.specs.Stream.{span}
 
 -- the bits of word j that carry the stream; past the last word they are 0

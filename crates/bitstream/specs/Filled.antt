@@ -1,5 +1,5 @@
 -- What a call that fills the first places of a buffer leaves in it.
-use Rattle.words.specs.Kit.{ℕ, zero, suc, List, [], ◌∷◌, ◌++◌, drop}
+use Rattle.std.specs.Prelude.{ℕ, zero, suc, List, [], ◌∷◌, ◌++◌, drop}
 
 -- the list of `h 0` to `h (n - 1)`
 unfoldable pub list_of : ℕ → (ℕ → ℕ) → List ℕ

@@ -1,6 +1,6 @@
 -- Streams apart: "With the list unchanged, other streams' packets may be altered at will, none becoming this stream's, without altering this stream's answers
 -- or record."
-use Rattle.words.specs.Kit.{◌≡◌, ℕ, false, List, [], ◌∷◌}
+use Rattle.std.specs.Prelude.{◌≡◌, ℕ, false, List, [], ◌∷◌}
 use Rattle.words.specs.Tests.{pick}
 use Rattle.words.specs.declared.Refusal.{Refusal}
 use Rattle.words.specs.Outcome.{refused, accepted}

@@ -1,8 +1,7 @@
 -- Every public call, with its promise. No call has a `requires`: it may be handed any words. The promise of a call that is lent nothing is `paper r ≡ want h`,
 -- and that of a call that is lent words is `Meets paper (want h) (lent h) r after`, of what it is handed, h, its answer r, and the lent words afterwards; these
 -- are the `ensures` of the calls, word for word.
-use Rattle.words.specs.Kit.{◌≡◌, ℕ, List, [], ◌∷◌}
-use Rattle.std.specs.Prelude.{map}
+use Rattle.std.specs.Prelude.{◌≡◌, ℕ, List, [], ◌∷◌, map}
 use Rattle.words.specs.Outcome.{Reply, refused, checked, measured, Done, Meets}
 use Rattle.fields.specs.Answers.{found_paper}
 use Rattle.fields.specs.Layout.{field_count, found_of, context_of}

@@ -1,7 +1,6 @@
 -- Demand 3, of calls as they are made: outcomes, answer and lent words, of which nothing is known but that each meets its call's promise. These are the
 -- outcomes of the code, since its `ensures` are these promises.
-use Rattle.words.specs.Kit.{◌≡◌, ℕ, suc, ◌≤◌, ◌<◌, List, [], ◌∷◌, ◌++◌, length, take, drop}
-use Rattle.std.specs.Prelude.{map}
+use Rattle.std.specs.Prelude.{◌≡◌, ℕ, suc, ◌≤◌, ◌<◌, List, [], ◌∷◌, ◌++◌, length, take, drop, map}
 use Rattle.words.specs.declared.Length.{Length}
 use Rattle.words.specs.Outcome.{accepted, measured, Meets}
 use Rattle.table.specs.Layout.{streams_of, layout_words, record_at}

@@ -1,5 +1,5 @@
 -- Document 01, 'Payload': "Writers put zero in unused bits; readers ignore them." Words as a writer makes them.
-use Rattle.words.specs.Kit.{◌≡◌, ℕ, ◌-◌, ◌*◌, ◌%◌, ◌^◌, ◌≤◌, ◌<◌, List, get_or}
+use Rattle.std.specs.Prelude.{◌≡◌, ℕ, ◌-◌, ◌*◌, ◌%◌, ◌^◌, ◌≤◌, ◌<◌, List, get_or}
 use Rattle.fields.specs.Format.{packing_size}
 use Rattle.bitstream.specs.Stream.{bit}
 use Rattle.bitstream.specs.Carried.{stream_bits}

@@ -1,6 +1,6 @@
 -- The three demands, in the words of the person this is built for (quoted above each statement), as statements about a program (Program). proofs/AllMet.antt
 -- proves them of `ours`, the program of this project, and so of the code.
-use Rattle.words.specs.Kit.{◌≡◌, ℕ, ◌+◌, ◌^◌, ◌≤◌, ◌<◌, Bool, List, [], ◌++◌, eqb, length, take, drop}
+use Rattle.std.specs.Prelude.{◌≡◌, ℕ, ◌+◌, ◌^◌, ◌≤◌, ◌<◌, Bool, List, [], ◌++◌, eqb, length, take, drop}
 use Rattle.words.specs.Numbers.{ROOM}
 use Rattle.words.specs.Word.{bits, has}
 use Rattle.words.specs.Part.{part}

@@ -1,6 +1,6 @@
 -- "Context fields .. are read": what `find` gives of the body of an accepted Context packet. Document 01, 'The packet': "A type 4 body begins with the
 -- indicator word. Bit 31 says "changed" and has no field. Fields follow from bit 30 downwards."
-use Rattle.words.specs.Kit.{◌≡◌, ℕ, ◌+◌, ◌≤◌, Bool, true, false, List, [], ◌∷◌, leb, length}
+use Rattle.std.specs.Prelude.{◌≡◌, ℕ, ◌+◌, ◌≤◌, Bool, true, false, List, [], ◌∷◌, leb, length}
 use Rattle.words.specs.Tests.{both}
 use Rattle.words.specs.Word.{has}
 use Rattle.words.specs.Part.{part}

@@ -1,8 +1,7 @@
 -- Document 02, C-12: "Add both orders (section 6.1.6.3 of source document 003) and the numbering from an item to time, channel, component and repeat and back,
 -- proved one-to-one and onto once over vector size, repeat and component count. n becomes a multiple of the whole group. A group over 2,097,120 items is legal
 -- only with n of 0."
-use Rattle.words.specs.Kit.{◌≡◌, ℕ, zero, suc, ◌+◌, ◌*◌, ◌<◌, Bool, false, List, [], ◌∷◌}
-use Rattle.std.specs.Prelude.{◌⊎◌}
+use Rattle.std.specs.Prelude.{◌≡◌, ℕ, zero, suc, ◌+◌, ◌*◌, ◌<◌, Bool, false, List, [], ◌∷◌, ◌⊎◌}
 use Rattle.words.specs.Outcome.{Outcome, refused, accepted}
 use Rattle.payload_format.specs.Format.{repeat_size, component_count, format_bad}
 use Rattle.payload_format.specs.Count.{group_of, count_bad}

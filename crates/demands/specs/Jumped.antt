@@ -1,7 +1,6 @@
 -- Jumps: "Demand 3's resuming now speaks of jumps both ways" (document 02, C-16). "With an index grown over this recording from the table at boundary 0, each
 -- packet's table handed to the next and recording and index unchanged since, the table equals that from playing all earlier packets on the first."
-use Rattle.words.specs.Kit.{◌≡◌, ℕ, zero, suc, ◌+◌, ◌-◌, ◌≤◌, ◌<◌, true, false, List, [], ◌∷◌, ◌++◌, ltb, length, take, drop, get_or}
-use Rattle.std.specs.Prelude.{◌↔◌, ◌⊎◌}
+use Rattle.std.specs.Prelude.{◌≡◌, ℕ, zero, suc, ◌+◌, ◌-◌, ◌≤◌, ◌<◌, true, false, List, [], ◌∷◌, ◌++◌, ltb, length, take, drop, get_or, ◌↔◌, ◌⊎◌}
 use Rattle.words.specs.declared.Where.TheVariants.{Nowhere}
 use Rattle.words.specs.Numbers.{ROOM, PAGE, PLACE}
 use Rattle.words.specs.Tests.{pick, both}

@@ -1,6 +1,6 @@
 -- Overload lights go out: what lasts for one data packet leaves no trace. Document 02, C-11: "over-range and sample loss (25/13, 24/12) are never held", and
 -- field 22 "is now checked and never held".
-use Rattle.words.specs.Kit.{◌≡◌, ℕ, ◌+◌, true, false, List, get_or}
+use Rattle.std.specs.Prelude.{◌≡◌, ℕ, ◌+◌, true, false, List, get_or}
 use Rattle.words.specs.Word.{has}
 use Rattle.words.specs.Outcome.{accepted, left_of}
 use Rattle.fields.specs.Layout.{indicator_of, field_of}

@@ -1,6 +1,6 @@
 -- The list of a table's streams. Document 02, C-13: "The caller chooses plain 49.0 (word 0) or 49A (1) for each stream in the list"; "Demands 2 and 3 count it
 -- as part of the list."
-use Rattle.words.specs.Kit.{◌≡◌, ℕ, Bool, true, List, eqb, ltb, length, get_or}
+use Rattle.std.specs.Prelude.{◌≡◌, ℕ, Bool, true, List, eqb, ltb, length, get_or}
 use Rattle.words.specs.Tests.{both}
 use Rattle.words.specs.All.{first_of}
 use Rattle.table.specs.Identifiers.{listed, list_good, choices_good}

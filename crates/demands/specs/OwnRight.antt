@@ -1,6 +1,6 @@
 -- A stream's own table: it is right for the list of the stream's identifier and choice alone and the same packets, so that all that demand 3 says of a right
 -- table holds of it.
-use Rattle.words.specs.Kit.{◌≡◌, ℕ, List, [], ◌∷◌}
+use Rattle.std.specs.Prelude.{◌≡◌, ℕ, List, [], ◌∷◌}
 use Rattle.words.specs.Outcome.{accepted, Done}
 use Rattle.table.specs.Identifiers.{listed}
 use Rattle.demands.specs.Listing.{Listing, choice_in}

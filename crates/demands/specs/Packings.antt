@@ -1,6 +1,6 @@
 -- Document 01, 'Payload', of packed samples: where each packing field lies in the words, how many words there are, and the parts of a field. Both packings and
 -- fields of 64 bits are said as the document says them, apart from the one definition that the promises of `pack` and `unpack` cite.
-use Rattle.words.specs.Kit.{◌≡◌, ℕ, ◌+◌, ◌-◌, ◌*◌, ◌/◌, ◌%◌, ◌^◌, ◌≤◌, ◌<◌, true, false, List, length, get_or}
+use Rattle.std.specs.Prelude.{◌≡◌, ℕ, ◌+◌, ◌-◌, ◌*◌, ◌/◌, ◌%◌, ◌^◌, ◌≤◌, ◌<◌, true, false, List, length, get_or}
 use Rattle.words.specs.Word.{high_first}
 use Rattle.fields.specs.Format.{event_size, channel_size, packing_size, item_size}
 use Rattle.bitstream.specs.BigNumber.{value}

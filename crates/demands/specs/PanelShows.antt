@@ -1,8 +1,7 @@
 -- What the panel and the caller see is what is held: `reading`, `readings` and `held_words` answer by the values in the last accepted Context packets of the
 -- stream that carried the things of the field, "and nothing if none did"; `counts` by its own accepted packets; `identity` by the list and by which fields were
 -- carried; `changed` by the values in two tables.
-use Rattle.words.specs.Kit.{◌≡◌, ℕ, ◌+◌, ◌%◌, ◌^◌, ◌≤◌, ◌<◌, Bool, true, false, not, List, [], ◌∷◌, ◌++◌, length, drop}
-use Rattle.std.specs.Prelude.{map}
+use Rattle.std.specs.Prelude.{◌≡◌, ℕ, ◌+◌, ◌%◌, ◌^◌, ◌≤◌, ◌<◌, Bool, true, false, not, List, [], ◌∷◌, ◌++◌, length, drop, map}
 use Rattle.std.proofs.Math.Option.{Option, none, some}
 use Rattle.words.specs.Numbers.{ROOM}
 use Rattle.words.specs.Tests.{among, both, either, same_words}

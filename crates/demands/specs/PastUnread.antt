@@ -2,7 +2,7 @@
 -- with whatever words past it, however many, as of the layout alone; and what it leaves is what it leaves of the layout alone, and then those words. So two
 -- tables with one layout get the same answers and the same layouts. (What `start`, `put_back` and `jump` write over is not read at all: their
 -- definitions say so.)
-use Rattle.words.specs.Kit.{◌≡◌, ℕ, List, ◌++◌, length}
+use Rattle.std.specs.Prelude.{◌≡◌, ℕ, List, ◌++◌, length}
 use Rattle.words.specs.Outcome.{said_of, left_of}
 use Rattle.table.specs.Layout.{streams_of, layout_words}
 use Rattle.demands.specs.Program.{Program}

@@ -1,6 +1,5 @@
 -- Where a packet is refused. Document 02, C-15: "Every reading refusal is to carry the word place from the packet's start, and FIELD also the field bit."
-use Rattle.words.specs.Kit.{◌≡◌, ℕ, ◌+◌, ◌≤◌, ◌<◌, true, false, List, [], ◌∷◌, length, get_or}
-use Rattle.std.specs.Prelude.{◌⊎◌}
+use Rattle.std.specs.Prelude.{◌≡◌, ℕ, ◌+◌, ◌≤◌, ◌<◌, true, false, List, [], ◌∷◌, length, get_or, ◌⊎◌}
 use Rattle.words.specs.declared.Where.TheVariants.{Nowhere, Word, Field}
 use Rattle.words.specs.declared.Refusal.{Refusal}
 use Rattle.words.specs.Numbers.{EMPTY, TYPE, BITS, SHORT, CUT, CLASS, TIME, INDICATOR, LAYOUT, FIELD, ROOM, TABLE, PAGE}

@@ -1,6 +1,6 @@
 -- A program, of which the demands speak: a record of what its calls answer, and what they leave in the words that they are lent. `ours` is the program of this
 -- project: each call by the definition that its promise cites, so that what is proved of `ours` is proved of the code.
-use Rattle.words.specs.Kit.{◌≡◌, ℕ, ◌^◌, ◌<◌, Bool, true, false, List, [], ◌∷◌, get_or}
+use Rattle.std.specs.Prelude.{◌≡◌, ℕ, ◌^◌, ◌<◌, Bool, true, false, List, [], ◌∷◌, get_or}
 use Rattle.words.specs.Outcome.{Outcome, Reply, accepted, onward, Done, said_of, left_of}
 use Rattle.words.specs.Told.{Told}
 use Rattle.fields.specs.Layout.{found_of}

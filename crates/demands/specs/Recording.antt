@@ -1,6 +1,6 @@
 -- Many packets in one slice of words: `play_run` plays a recording as `play` plays its packets. Document 01, of `vrtplay`: it "stops when no word is left";
 -- "STREAM goes on by the size, any other ends at W".
-use Rattle.words.specs.Kit.{◌≡◌, ℕ, zero, suc, ◌+◌, ◌/◌, Bool, true, List, [], ◌∷◌, ◌++◌, eqb, leb, length, get_or, drop}
+use Rattle.std.specs.Prelude.{◌≡◌, ℕ, zero, suc, ◌+◌, ◌/◌, Bool, true, List, [], ◌∷◌, ◌++◌, eqb, leb, length, get_or, drop}
 use Rattle.words.specs.Numbers.{STREAM}
 use Rattle.words.specs.Tests.{pick, when}
 use Rattle.words.specs.Outcome.{refused, accepted, Done}

@@ -1,6 +1,6 @@
 -- Document 01, 'Numbers given back': "The first that applies is given, in these orders." For each call the numbers in the document's order, and that the call
 -- gives the first of its list that applies. The list of a call, each number with the test that says when it is given, stands with the call's definition.
-use Rattle.words.specs.Kit.{◌≡◌, ℕ, true, List, [], ◌∷◌, ◌++◌, length, get_or, drop}
+use Rattle.std.specs.Prelude.{◌≡◌, ℕ, true, List, [], ◌∷◌, ◌++◌, length, get_or, drop}
 use Rattle.words.specs.Numbers.{TYPE, SHORT, TIME, INDICATOR, LAYOUT, FIELD}
 use Rattle.words.specs.Numbers.{STREAM, LIST, ROOM, VALUE, SIZE, FORMAT, COUNT, TABLE, PAGE, PAD, PLACE}
 use Rattle.words.specs.Word.{join}

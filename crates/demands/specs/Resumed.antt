@@ -1,6 +1,6 @@
 -- Stopping and resuming: "Save a page after any packet, put it back where there is room, play the rest: every answer and the final table equal those of the
 -- unbroken play." All is said of any table that is right for the packets so far, so of one that was put back too: the crews "stop and resume all day".
-use Rattle.words.specs.Kit.{◌≡◌, ℕ, ◌+◌, ◌*◌, ◌≤◌, ◌<◌, List, [], ◌∷◌, ◌++◌, length, take, drop}
+use Rattle.std.specs.Prelude.{◌≡◌, ℕ, ◌+◌, ◌*◌, ◌≤◌, ◌<◌, List, [], ◌∷◌, ◌++◌, length, take, drop}
 use Rattle.words.specs.Numbers.{ROOM}
 use Rattle.words.specs.Outcome.{refused, accepted, Done, said_of, left_of}
 use Rattle.words.specs.Told.{Told}

@@ -1,6 +1,5 @@
 -- Tables that the rules fix: what it is for a table to be right for the packets that were played, and the words that are the table's own.
-use Rattle.words.specs.Kit.{◌≡◌, ℕ, ◌<◌, true, List, take, drop}
-use Rattle.std.specs.Prelude.{◌↔◌}
+use Rattle.std.specs.Prelude.{◌≡◌, ℕ, ◌<◌, true, List, take, drop, ◌↔◌}
 use Rattle.std.proofs.Math.Option.{Option, none, some}
 use Rattle.words.specs.Tests.{among}
 use Rattle.record.specs.Layout.{held_of, choice_of, counted_types, order_of, count_words, slot_of}

@@ -1,7 +1,6 @@
 -- Document 01, 'Samples from the bench': the cases marked P, as one table. A row says what the definitions give and what the bench wants; `Hold` is the one
 -- statement over all rows, proved in proofs/Samples.antt.
-use Rattle.words.specs.Kit.{◌≡◌, ℕ, true, List, [], ◌∷◌}
-use Rattle.std.specs.Prelude.{pos, negsuc}
+use Rattle.std.specs.Prelude.{◌≡◌, ℕ, true, List, [], ◌∷◌, pos, negsuc}
 use Rattle.std.specs.Float.{fin}
 use Rattle.words.specs.Numbers.{SHORT, CUT}
 use Rattle.words.specs.declared.Where.TheVariants.{Word}

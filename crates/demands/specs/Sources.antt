@@ -2,7 +2,7 @@
 -- the prover has them from its `requires` and `ensures`. A promise that is weakened in its crate, or a `requires` that is added there, breaks `Sources`. Each
 -- line ends with three functions: from the parameters a, in their order, to what the call is handed; from the result z to its answer; and from ws, what is left
 -- behind each parameter, to the lent words.
-use Rattle.words.specs.Kit.{◌≡◌, ℕ, List}
+use Rattle.std.specs.Prelude.{◌≡◌, ℕ, List}
 use contract.Lifetimes.{Lfts}
 use borrow.Fn.Kinds.{ParamKind, ResultKind, Dens, In, Out, res_t, ended_of}
 use denote.Triple.Clauses.{Lasts, at_exit}

@@ -1,5 +1,5 @@
 -- Each call for C of the list `calls_for_c` (vrt49/specs/Calls.antt), tied to the function that it is, as Sources.antt does for the calls inside.
-use Rattle.words.specs.Kit.{◌≡◌, ℕ, List}
+use Rattle.std.specs.Prelude.{◌≡◌, ℕ, List}
 use contract.Lifetimes.{Lfts}
 use borrow.Fn.Kinds.{ParamKind, ResultKind, Dens, In, Out, res_t, ended_of}
 use denote.Triple.Clauses.{Lasts, at_exit}

@@ -1,7 +1,6 @@
 -- 49A packets, document 02, C-13: "bits 31-27 of the class's first word are a pad count, so n follows from the payload"; "An accepted 49A packet has one n";
 -- "The choice governs type 1 only; other types, packets of no declared stream .. stay plain."
-use Rattle.words.specs.Kit.{◌≡◌, ℕ, ◌+◌, ◌*◌, ◌≤◌, List, [], ◌∷◌, length, get_or}
-use Rattle.std.specs.Prelude.{◌↔◌}
+use Rattle.std.specs.Prelude.{◌≡◌, ℕ, ◌+◌, ◌*◌, ◌≤◌, List, [], ◌∷◌, length, get_or, ◌↔◌}
 use Rattle.words.specs.Numbers.{STREAM, CLASS, PAD}
 use Rattle.words.specs.Part.{part}
 use Rattle.words.specs.declared.Where.TheVariants.{Word}

@@ -1,6 +1,6 @@
 -- What is kept of what Context packets say, thing by thing. Document 02, C-11: "The last-carried rule of demand 3 is read per indicator." A thing is a field
 -- that is replaced whole, one of the six persistent indicators of field 16, or its user bits, which are "replaced together".
-use Rattle.words.specs.Kit.{ℕ, ◌+◌, ◌-◌, ◌%◌, ◌^◌, Bool, true, false, not, List, [], ◌∷◌, eqb, leb, ltb, get_or}
+use Rattle.std.specs.Prelude.{ℕ, ◌+◌, ◌-◌, ◌%◌, ◌^◌, Bool, true, false, not, List, [], ◌∷◌, eqb, leb, ltb, get_or}
 use Rattle.std.proofs.Math.Option.{Option, none, some}
 use Rattle.words.specs.Tests.{pick, when, both}
 use Rattle.words.specs.Word.{has, marked}

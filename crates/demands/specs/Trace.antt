@@ -1,7 +1,6 @@
 -- What a trace of packets says by itself: which of them are accepted, by reading and by the list of streams, and the rules that a table is held to. No
 -- rule here goes through a table, or through playing: each looks at the packets.
-use Rattle.words.specs.Kit.{◌≡◌, ℕ, ◌+◌, ◌%◌, ◌^◌, Bool, false, List, [], ◌∷◌, ◌++◌, eqb, leb, length, get_or}
-use Rattle.std.specs.Prelude.{map}
+use Rattle.std.specs.Prelude.{◌≡◌, ℕ, ◌+◌, ◌%◌, ◌^◌, Bool, false, List, [], ◌∷◌, ◌++◌, eqb, leb, length, get_or, map}
 use Rattle.std.proofs.Math.Option.{Option, none, some}
 use Rattle.words.specs.Numbers.{STREAM}
 use Rattle.words.specs.Tests.{pick, both, among, either}

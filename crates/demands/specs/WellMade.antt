@@ -1,7 +1,6 @@
 -- "Bad .. tables, pages .. are refused": which are bad. Document 01, 'The table and its page', clause by clause, with what C-11 and C-13 of document 02 add;
 -- the tests that TABLE and PAGE go by hold exactly where the clauses do.
-use Rattle.words.specs.Kit.{◌≡◌, ℕ, ◌+◌, ◌-◌, ◌^◌, ◌≤◌, ◌<◌, true, false, List, length, get_or}
-use Rattle.std.specs.Prelude.{◌↔◌, replicate}
+use Rattle.std.specs.Prelude.{◌≡◌, ℕ, ◌+◌, ◌-◌, ◌^◌, ◌≤◌, ◌<◌, true, false, List, length, get_or, ◌↔◌, replicate}
 use Rattle.words.specs.Numbers.{PAGE}
 use Rattle.words.specs.Tests.{among}
 use Rattle.words.specs.Word.{bits, has}

@@ -1,5 +1,5 @@
 -- The answers of this crate's calls, by their values.
-use Rattle.words.specs.Kit.{ℕ, List, [], ◌∷◌}
+use Rattle.std.specs.Prelude.{ℕ, List, [], ◌∷◌}
 use Rattle.fields.specs.declared.places.Found.{Found}
 use Rattle.fields.specs.declared.places.Found.TheVariants.{At, Absent}
 

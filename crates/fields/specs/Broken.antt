@@ -1,5 +1,5 @@
 -- Document 02, C-15: of FIELD the place is "the first word of the highest broken field", and FIELD carries "also the field bit".
-use Rattle.words.specs.Kit.{◌≡◌, ℕ, ◌<◌, Bool, true, false, not, List, [], ◌∷◌, drop}
+use Rattle.std.specs.Prelude.{◌≡◌, ℕ, ◌<◌, Bool, true, false, not, List, [], ◌∷◌, drop}
 use Rattle.words.specs.declared.Where.{Where}
 use Rattle.words.specs.declared.Where.TheVariants.{Nowhere, Field}
 use Rattle.words.specs.Tests.{pick}

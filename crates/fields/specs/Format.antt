@@ -1,5 +1,5 @@
 -- Document 01, 'The packet', field rules: "Format (15)". The parts of the format's first word have the names of 'Payload'.
-use Rattle.words.specs.Kit.{ℕ, ◌+◌, Bool, true, not, eqb, leb}
+use Rattle.std.specs.Prelude.{ℕ, ◌+◌, Bool, true, not, eqb, leb}
 use Rattle.words.specs.Tests.{pick, both}
 use Rattle.words.specs.Word.{bits}
 

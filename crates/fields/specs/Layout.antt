@@ -1,6 +1,6 @@
 -- Document 01, 'The packet': "A type 4 body begins with the indicator word. .. Fields follow from bit 30 downwards."
 -- A word past the end of a body reads as 0: a body that ends inside a field has fewer words than its fields need, whatever that field says.
-use Rattle.words.specs.Kit.{ℕ, ◌+◌, Bool, true, not, List, [], ◌∷◌, eqb, ltb, leb, length, take, drop, get_or}
+use Rattle.std.specs.Prelude.{ℕ, ◌+◌, Bool, true, not, List, [], ◌∷◌, eqb, ltb, leb, length, take, drop, get_or}
 use Rattle.words.specs.Numbers.{INDICATOR, LAYOUT, FIELD}
 use Rattle.words.specs.Tests.{pick, both}
 use Rattle.words.specs.Word.{bits, has}

@@ -1,5 +1,5 @@
 -- Document 01, 'The packet': "Field rules". Each rule is of a field whose own words are the first of ws.
-use Rattle.words.specs.Kit.{ℕ, Bool, true, List, [], ◌∷◌, eqb, get_or}
+use Rattle.std.specs.Prelude.{ℕ, Bool, true, List, [], ◌∷◌, eqb, get_or}
 use Rattle.words.specs.Tests.{pick, both, among}
 use Rattle.words.specs.Word.{bits}
 use Rattle.fields.specs.Format.{format_ok}

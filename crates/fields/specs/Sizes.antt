@@ -1,5 +1,5 @@
 -- Document 01, 'The packet': "Words for each bit".
-use Rattle.words.specs.Kit.{ℕ, ◌+◌, ◌*◌, List, [], ◌∷◌, eqb, get_or}
+use Rattle.std.specs.Prelude.{ℕ, ◌+◌, ◌*◌, List, [], ◌∷◌, eqb, get_or}
 use Rattle.words.specs.Tests.{pick, among}
 use Rattle.words.specs.Word.{bits}
 

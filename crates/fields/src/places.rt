@@ -1,5 +1,5 @@
 // Where the fields of a body stand.
-ghost use Rattle.words.specs.Kit.{◌≡◌, ◌<◌};
+ghost use Rattle.std.specs.Prelude.{◌≡◌, ◌<◌};
 ghost use Rattle.fields.specs.Layout.{inside_of, found_of};
 ghost use Rattle.fields.specs.Answers.{found_paper};
 

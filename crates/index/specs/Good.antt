@@ -1,7 +1,7 @@
 -- Document 02, C-16: "Contents are well made when wholly there, with one entry for each boundary reached, no word place over 65,535 words for each packet
 -- before it, and pages behind the contents in order, without gaps, inside the buffer." No more is asked: not that word places rise, nor anything of the
 -- entries that are not there yet, nor of the pages.
-use Rattle.words.specs.Kit.{◌≡◌, ℕ, ◌*◌, ◌≤◌, ◌<◌, Bool, List, eqb, leb, length}
+use Rattle.std.specs.Prelude.{◌≡◌, ℕ, ◌*◌, ◌≤◌, ◌<◌, Bool, List, eqb, leb, length}
 use Rattle.words.specs.Tests.{both}
 use Rattle.words.specs.All.{all}
 use Rattle.index.specs.Layout.{most_entries, spacing, index_contents, entries_in, packets_taken, place_reached, entry_place, entry_offset, pages_from, pages_end}

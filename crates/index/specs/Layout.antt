@@ -2,7 +2,7 @@
 -- with its word place." Boundary N is the place just before packet N; packets and boundaries are numbered from 0. docs/LAYOUT.md has the words in a picture:
 -- word 0 is the number of entries, word 1 that of the packets taken in, words 2 and 3 the word place of the boundary behind them; then four words for each
 -- entry, and then the pages. Word places take two words, high first.
-use Rattle.words.specs.Kit.{ℕ, zero, suc, ◌+◌, ◌*◌, ◌/◌, ◌%◌, ◌^◌, List, [], ◌∷◌, get_or}
+use Rattle.std.specs.Prelude.{ℕ, zero, suc, ◌+◌, ◌*◌, ◌/◌, ◌%◌, ◌^◌, List, [], ◌∷◌, get_or}
 use Rattle.words.specs.Word.{high_first}
 use Rattle.words.specs.Part.{part, put}
 use Rattle.page.specs.Layout.{page_of, page_length}

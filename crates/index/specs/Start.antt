@@ -1,5 +1,5 @@
 -- Document 02, C-16: "a saved page at packet boundary 0"; "starting TABLE, ROOM".
-use Rattle.words.specs.Kit.{ℕ, ◌+◌, not, List, [], ◌∷◌, ltb, length}
+use Rattle.std.specs.Prelude.{ℕ, ◌+◌, not, List, [], ◌∷◌, ltb, length}
 use Rattle.words.specs.Numbers.{TABLE, ROOM}
 use Rattle.words.specs.Outcome.{Outcome, accepted, Done}
 use Rattle.words.specs.Refusals.{Refusals, first_given}

@@ -1,5 +1,5 @@
 // What the contents of an index say.
-ghost use Rattle.words.specs.Kit.{◌≡◌, ◌^◌, ◌≤◌, ◌<◌, length};
+ghost use Rattle.std.specs.Prelude.{◌≡◌, ◌^◌, ◌≤◌, ◌<◌, length};
 ghost use Rattle.index.specs.Layout.{most_entries, entry_from, index_contents, entries_in, packets_taken, place_reached};
 ghost use Rattle.index.specs.Layout.{entry_place, entry_offset, entry_length};
 

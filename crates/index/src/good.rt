@@ -1,5 +1,5 @@
 // Whether the contents of an index are well made.
-ghost use Rattle.words.specs.Kit.{◌≡◌, ◌^◌, ◌≤◌, ◌<◌, length};
+ghost use Rattle.std.specs.Prelude.{◌≡◌, ◌^◌, ◌≤◌, ◌<◌, length};
 ghost use Rattle.index.specs.Layout.{most_entries, index_contents, pages_from};
 ghost use Rattle.index.specs.Good.{most_place, entry_good, entries_good, index_good};
 

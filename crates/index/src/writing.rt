@@ -1,5 +1,5 @@
 // What is written into the contents of an index.
-ghost use Rattle.words.specs.Kit.{◌≡◌, [], ◌∷◌, ◌+◌, ◌/◌, ◌%◌, ◌^◌, ◌≤◌, ◌<◌, length};
+ghost use Rattle.std.specs.Prelude.{◌≡◌, [], ◌∷◌, ◌+◌, ◌/◌, ◌%◌, ◌^◌, ◌≤◌, ◌<◌, length};
 ghost use Rattle.words.specs.Part.{put};
 ghost use Rattle.words.specs.Outcome.{measured, Meets};
 ghost use Rattle.index.specs.Layout.{most_entries, entry_from, index_contents, place_words, with_reached};

@@ -1,7 +1,7 @@
 -- Document 02, C-16: "growing TABLE, PAGE for contents, reading refusals, ROOM"; "Packets are numbered as `vrtplay` walks them, each read by its stream's
 -- choice (C-13): STREAM refusals have numbers, any other ends the recording." The words that are handed in are those of the recording from the next packet
 -- on: that packet's alone, or all that stand behind it too. What happens to the table is what play does.
-use Rattle.words.specs.Kit.{ℕ, ◌+◌, ◌%◌, ◌^◌, Bool, not, List, [], ◌∷◌, ◌++◌, eqb, ltb, leb, length, get_or}
+use Rattle.std.specs.Prelude.{ℕ, ◌+◌, ◌%◌, ◌^◌, Bool, not, List, [], ◌∷◌, ◌++◌, eqb, ltb, leb, length, get_or}
 use Rattle.words.specs.Numbers.{TABLE, PAGE, ROOM}
 use Rattle.words.specs.Tests.{pick, both, either}
 use Rattle.words.specs.Outcome.{Outcome, refused, accepted, Done, said_of, left_of}

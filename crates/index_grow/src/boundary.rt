@@ -1,6 +1,6 @@
 // A packet taken in behind which the index keeps a page. Where that page may not fit, the packet is played on a copy of the table: if it does not, nothing has
 // changed, and nothing is undone.
-ghost use Rattle.words.specs.Kit.{◌≡◌, true, ◌^◌, ◌≤◌, ◌<◌, length};
+ghost use Rattle.std.specs.Prelude.{◌≡◌, true, ◌^◌, ◌≤◌, ◌<◌, length};
 ghost use Rattle.words.specs.Outcome.{Meets};
 ghost use Rattle.index.specs.Layout.{pages_end};
 ghost use Rattle.index.specs.Good.{index_good};

@@ -1,5 +1,5 @@
 // A packet taken in: played, and counted.
-ghost use Rattle.words.specs.Kit.{◌≡◌, true, false, ◌^◌, ◌<◌};
+ghost use Rattle.std.specs.Prelude.{◌≡◌, true, false, ◌^◌, ◌<◌};
 ghost use Rattle.words.specs.declared.Where.TheVariants.{Nowhere};
 ghost use Rattle.words.specs.Outcome.{refused, Meets};
 ghost use Rattle.words.specs.Told.{refusal};

@@ -2,7 +2,7 @@
 -- PLACE exactly for N above that number", of the packets taken in; "PAGE for contents or an entry not well made, or an entry from which the recording has no
 -- boundary N"; "A jump plays at most 1,023 packets". The words that are handed in are those of the recording from a word place on, `first`; from 0 on they
 -- are all of it.
-use Rattle.words.specs.Kit.{ℕ, ◌+◌, ◌-◌, ◌/◌, ◌%◌, Bool, not, List, [], ◌∷◌, ◌++◌, ltb, leb, length, drop}
+use Rattle.std.specs.Prelude.{ℕ, ◌+◌, ◌-◌, ◌/◌, ◌%◌, Bool, not, List, [], ◌∷◌, ◌++◌, ltb, leb, length, drop}
 use Rattle.words.specs.Numbers.{PAGE, PLACE, ROOM}
 use Rattle.words.specs.Tests.{both}
 use Rattle.words.specs.Outcome.{Outcome, refused, accepted, Done}

@@ -1,6 +1,6 @@
 -- Packets one after the other. Document 02, C-16: "Packets are numbered as `vrtplay` walks them, each read by its stream's choice (C-13): STREAM refusals have
 -- numbers, any other ends the recording." And document 01, of `vrtplay`: it "stops when no word is left".
-use Rattle.words.specs.Kit.{ℕ, zero, suc, Bool, true, false, List}
+use Rattle.std.specs.Prelude.{ℕ, zero, suc, Bool, true, false, List}
 use Rattle.words.specs.Tests.{pick}
 use Rattle.play.specs.Run.{goes_on, said_at, left_at, next_of}
 

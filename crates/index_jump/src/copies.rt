@@ -1,6 +1,6 @@
 // A jump behind PLACE. To the boundary of an entry its page is put back; to a packet behind it, the packets are played in words of its own, and the layout is
 // copied into the lent table. Those words are cleared first: fewer for few streams.
-ghost use Rattle.words.specs.Kit.{◌≡◌, true, ◌%◌, ◌≤◌, length};
+ghost use Rattle.std.specs.Prelude.{◌≡◌, true, ◌%◌, ◌≤◌, length};
 ghost use Rattle.words.specs.Outcome.{Meets};
 ghost use Rattle.page.specs.Layout.{bodies_in};
 ghost use Rattle.index.specs.Layout.{packets_taken};

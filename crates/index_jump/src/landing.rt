@@ -1,5 +1,5 @@
 // A landing in words of its own: the entry's page put back there, and the packets from its boundary on.
-ghost use Rattle.words.specs.Kit.{◌≡◌, true, ◌*◌, ◌≤◌, ◌<◌, leb, length};
+ghost use Rattle.std.specs.Prelude.{◌≡◌, true, ◌*◌, ◌≤◌, ◌<◌, leb, length};
 ghost use Rattle.table.specs.Well.{well_made};
 ghost use Rattle.play.specs.Run.{entry_words};
 ghost use Rattle.page.specs.Layout.{bodies_in};

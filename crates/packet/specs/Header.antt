@@ -1,6 +1,6 @@
 -- Document 01, 'The packet': "Header: type 31-28, C 27, then for types 0-3 T (trailer) 26 and 25-24 reserved; for types 4-5, 26-25 reserved
 -- and TSM 24. TSI 23-22, TSF 21-20, count 19-16, size 15-0 in words with the header." Each is a part of the header word w.
-use Rattle.words.specs.Kit.{ℕ, Bool, false, ltb}
+use Rattle.std.specs.Prelude.{ℕ, Bool, false, ltb}
 use Rattle.words.specs.Tests.{pick}
 use Rattle.words.specs.Word.{bits, has}
 

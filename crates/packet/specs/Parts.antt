@@ -1,6 +1,6 @@
 -- Document 01, 'The packet': "Order: header; stream identifier (types 1, 3, 4, 5); class (two words, if C); integer seconds (if TSI is not 0);
 -- fraction (two words, high first, if TSF is not 0); body; trailer (if T)." w is the header word; a part that is absent reads as zero.
-use Rattle.words.specs.Kit.{ℕ, ◌+◌, ◌-◌, Bool, not, List, [], ◌∷◌, eqb, get_or}
+use Rattle.std.specs.Prelude.{ℕ, ◌+◌, ◌-◌, Bool, not, List, [], ◌∷◌, eqb, get_or}
 use Rattle.words.specs.Tests.{when, among}
 use Rattle.words.specs.Word.{bits, high_first}
 use Rattle.words.specs.Part.{part}

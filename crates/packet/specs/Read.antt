@@ -1,6 +1,6 @@
 -- Document 01, 'Numbers given back': "The first that applies is given, in these orders. Read: 1 to 10 as listed; words beyond the size are
 -- ignored." Document 02, C-13: packets are read as plain 49.0 or as 49A. w is the header word, ws the words that were handed in.
-use Rattle.words.specs.Kit.{ℕ, ◌^◌, Bool, false, not, List, [], ◌∷◌, ◌++◌, eqb, ltb, leb, length, get_or}
+use Rattle.std.specs.Prelude.{ℕ, ◌^◌, Bool, false, not, List, [], ◌∷◌, ◌++◌, eqb, ltb, leb, length, get_or}
 use Rattle.words.specs.Numbers.{EMPTY, TYPE, BITS, SHORT, CUT, CLASS, TIME, PAD}
 use Rattle.words.specs.Tests.{both}
 use Rattle.words.specs.Word.{bits}

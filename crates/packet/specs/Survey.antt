@@ -1,6 +1,6 @@
 -- What a reading gives that follows 49A (document 02, C-13): the packet; and of type 1, which 49A governs, the pad count, the two words of the payload's
 -- format, and n, the items of the payload. Of other types these four are zero.
-use Rattle.words.specs.Kit.{ℕ, true, List, eqb, get_or}
+use Rattle.std.specs.Prelude.{ℕ, true, List, eqb, get_or}
 use Rattle.words.specs.Tests.{when}
 use Rattle.words.specs.Outcome.{Outcome, refused, accepted}
 use Rattle.words.specs.Refusals.{first_given}

@@ -1,6 +1,6 @@
 -- Document 02, C-15: "Every reading refusal is to carry the word place from the packet's start, and FIELD also the field bit." Which number is given stays
 -- as it is; where follows from the number and the words. w is the header word, ws the words that were handed in.
-use Rattle.words.specs.Kit.{ℕ, Bool, List, [], ◌∷◌, eqb, get_or}
+use Rattle.std.specs.Prelude.{ℕ, Bool, List, [], ◌∷◌, eqb, get_or}
 use Rattle.words.specs.Numbers.{EMPTY, TYPE, BITS, SHORT, CUT, CLASS, TIME, INDICATOR, LAYOUT, FIELD, STREAM, PAD}
 use Rattle.words.specs.declared.Where.{Where}
 use Rattle.words.specs.declared.Where.TheVariants.{Nowhere, Word}

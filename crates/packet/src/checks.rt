@@ -1,5 +1,5 @@
 // The refusals of reading, each number in one place.
-ghost use Rattle.words.specs.Kit.{◌≡◌, true, false, ◌^◌, ◌≤◌, ◌<◌, leb, length};
+ghost use Rattle.std.specs.Prelude.{◌≡◌, true, false, ◌^◌, ◌≤◌, ◌<◌, leb, length};
 ghost use Rattle.words.specs.Word.{high_first};
 ghost use Rattle.words.specs.Outcome.{checked};
 ghost use Rattle.packet.specs.Header.{type_of, size_of};

@@ -1,5 +1,5 @@
 // The header word: what it says, which parts it announces, and where each begins.
-ghost use Rattle.words.specs.Kit.{◌≡◌, ◌≤◌};
+ghost use Rattle.std.specs.Prelude.{◌≡◌, ◌≤◌};
 ghost use Rattle.packet.specs.Header.{type_of, classed, trailed, tsm_of, reserved_of, tsi_of, tsf_of, count_of, size_of};
 ghost use Rattle.packet.specs.Parts.{streamed, has_seconds, has_fraction, class_at, seconds_at, fraction_at, body_at, required_of};
 

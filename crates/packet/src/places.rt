@@ -1,5 +1,5 @@
 // Where a packet is refused. This is worked out for a refusal alone, from its number and the words.
-ghost use Rattle.words.specs.Kit.{◌≡◌, ◌^◌, ◌≤◌, ◌<◌, length};
+ghost use Rattle.std.specs.Prelude.{◌≡◌, ◌^◌, ◌≤◌, ◌<◌, length};
 ghost use Rattle.words.specs.Told.{refusal, place_word, place_further};
 ghost use Rattle.fields.specs.Broken.{broken_of};
 ghost use Rattle.packet.specs.Header.{size_of};

@@ -1,5 +1,5 @@
 // The parts of a packet whose words are all there.
-ghost use Rattle.words.specs.Kit.{◌≡◌, true, ◌+◌, ◌^◌, ◌≤◌, ◌<◌, length};
+ghost use Rattle.std.specs.Prelude.{◌≡◌, true, ◌+◌, ◌^◌, ◌≤◌, ◌<◌, length};
 ghost use Rattle.packet.specs.Header.{reserved_of, size_of};
 ghost use Rattle.packet.specs.Parts.{streamed, required_of, body_at, body_length, word_if, class_high, class_low, fraction_of, parts_of, packet_of};
 

@@ -1,5 +1,5 @@
 // Reading that follows 49A: packets of type 1, which it governs, and those of other types, which are plain.
-ghost use Rattle.words.specs.Kit.{◌≡◌, ◌^◌, ◌≤◌, ◌<◌, eqb, length, get_or};
+ghost use Rattle.std.specs.Prelude.{◌≡◌, ◌^◌, ◌≤◌, ◌<◌, eqb, length, get_or};
 ghost use Rattle.words.specs.Outcome.{accepted};
 ghost use Rattle.packet.specs.Header.{type_of, reserved_of, size_of};
 ghost use Rattle.packet.specs.Parts.{required_of, body_length, class_high, class_low};

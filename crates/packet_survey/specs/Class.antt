@@ -1,6 +1,6 @@
 -- Source document 004, Table 4-4, 'Standard Data Packet Class Identifier', and Table 4-5, its data types. Document 02, C-13: "bits 31-27 of the class's
 -- first word are a pad count". The class's two words are high and low.
-use Rattle.words.specs.Kit.{ℕ, ◌+◌, Bool, [], ◌∷◌, eqb, leb, get_or}
+use Rattle.std.specs.Prelude.{ℕ, ◌+◌, Bool, [], ◌∷◌, eqb, leb, get_or}
 use Rattle.words.specs.Tests.{both, among}
 use Rattle.words.specs.Word.{bits}
 

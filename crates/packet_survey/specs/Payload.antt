@@ -1,6 +1,6 @@
 -- What the payload of a 49A packet holds, of l words, by the class's words high and low. Document 02, C-13: "bits 31-27 of the class's first word are a pad
 -- count, so n follows from the payload".
-use Rattle.words.specs.Kit.{ℕ, ◌+◌, ◌-◌, ◌*◌, ◌/◌, ◌%◌, Bool, not, [], ◌∷◌, eqb, leb}
+use Rattle.std.specs.Prelude.{ℕ, ◌+◌, ◌-◌, ◌*◌, ◌/◌, ◌%◌, Bool, not, [], ◌∷◌, eqb, leb}
 use Rattle.words.specs.Tests.{both, either}
 use Rattle.words.specs.Word.{bits, join}
 use Rattle.packet_survey.specs.Class.{pad_of, real_complex_in, data_type, vector_in, class_known, item_bits, code_of}

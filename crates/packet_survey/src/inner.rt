@@ -1,5 +1,5 @@
 // The class of a 49A packet by its two words, high and low, and its payload by its length in words.
-ghost use Rattle.words.specs.Kit.{◌≡◌, true, ◌+◌, ◌*◌, ◌^◌, ◌≤◌, ◌<◌};
+ghost use Rattle.std.specs.Prelude.{◌≡◌, true, ◌+◌, ◌*◌, ◌^◌, ◌≤◌, ◌<◌};
 ghost use Rattle.packet_survey.specs.Class.{pad_of, high_known, real_complex_in, data_type, low_known, class_known, item_bits, code_of};
 ghost use Rattle.packet_survey.specs.Payload.{vector_bits, payload_bits, payload_whole, pad_bad, items_in, format_first, format_second};
 

@@ -1,5 +1,5 @@
 -- Document 01, 'The packet': "Trailer: enables 31-20, indicators 19-8, E 7, associated count 6-0; no bit combination is refused (ours)."
-use Rattle.words.specs.Kit.{ℕ, ◌^◌, not, [], ◌∷◌, ltb}
+use Rattle.std.specs.Prelude.{ℕ, ◌^◌, not, [], ◌∷◌, ltb}
 use Rattle.words.specs.Numbers.{VALUE}
 use Rattle.words.specs.Tests.{both}
 use Rattle.words.specs.Word.{bits, has, join}

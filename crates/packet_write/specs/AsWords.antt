@@ -1,7 +1,7 @@
 -- The parts of a packet as fifteen words: type, C, T, TSM, TSI, TSF, count, identifier, OUI, information class, packet class, seconds, fraction high, fraction
 -- low, trailer word. So they come from C, and so the functions inside have them: the parts that `write` lays out as words are those that it was given
 -- (`parts_again` of proofs/GivenLaws.antt).
-use Rattle.words.specs.Kit.{ℕ, ◌%◌, List, eqb, get_or}
+use Rattle.std.specs.Prelude.{ℕ, ◌%◌, List, eqb, get_or}
 use Rattle.words.specs.Word.{high_first}
 use Rattle.packet.specs.declared.Parts.{Parts}
 

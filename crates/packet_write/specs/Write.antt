@@ -1,7 +1,7 @@
 -- What writing a packet does. Document 01, 'Numbers given back': "Write: TYPE, VALUE, SHORT, SIZE, TIME, INDICATOR, LAYOUT, FIELD, ROOM";
 -- "A packet, its body given as words, is written into a part of a longer buffer that starts at the caller's chosen word." Document 02, C-13: a packet is
 -- written as plain 49.0, or as 49A with a pad count.
-use Rattle.words.specs.Kit.{ℕ, ◌+◌, ◌/◌, ◌%◌, ◌^◌, Bool, true, false, not, List, [], ◌∷◌, ◌++◌, eqb, ltb, length, take, drop}
+use Rattle.std.specs.Prelude.{ℕ, ◌+◌, ◌/◌, ◌%◌, ◌^◌, Bool, true, false, not, List, [], ◌∷◌, ◌++◌, eqb, ltb, length, take, drop}
 use Rattle.words.specs.Numbers.{TYPE, VALUE, SHORT, SIZE, TIME, PAD, ROOM}
 use Rattle.words.specs.Tests.{pick, when, both}
 use Rattle.words.specs.Word.{join}

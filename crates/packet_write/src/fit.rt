@@ -1,6 +1,6 @@
 // The refusals of writing, of a packet whose parts are fifteen words q; at the end those of a packet of type 1 that is written as 49A, with a pad count. Each number
 // of the list is given in one place, but for those that reading has too, and for SHORT and VALUE.
-ghost use Rattle.words.specs.Kit.{◌≡◌, true, ◌+◌, ◌^◌, ◌≤◌, ◌<◌, eqb, length};
+ghost use Rattle.std.specs.Prelude.{◌≡◌, true, ◌+◌, ◌^◌, ◌≤◌, ◌<◌, eqb, length};
 ghost use Rattle.words.specs.Numbers.{SHORT, TIME};
 ghost use Rattle.words.specs.Tests.{pick, both};
 ghost use Rattle.words.specs.Outcome.{checked};

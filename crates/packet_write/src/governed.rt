@@ -1,6 +1,6 @@
 // Writing a packet of type 1 whose parts are words, as 49A, with a pad count. In a function of its own the compiler knows the type and, past PAD, that class and
 // trailer are there: so it lays the packet without asking for them.
-ghost use Rattle.words.specs.Kit.{◌≡◌, length};
+ghost use Rattle.std.specs.Prelude.{◌≡◌, length};
 ghost use Rattle.words.specs.Outcome.{measured, Meets};
 ghost use Rattle.packet_write.specs.Write.{write_survey_of};
 ghost use Rattle.packet_write.specs.AsWords.{parts_in};

@@ -1,6 +1,6 @@
 // The words of a packet, laid into a buffer: the prologue, the body and the trailer in turn. Its parts are fifteen words q; w is its header word, and pad the pad
 // count in its class, 0 for plain 49.0.
-ghost use Rattle.words.specs.Kit.{◌≡◌, true, [], ◌∷◌, ◌++◌, ◌+◌, ◌^◌, ◌≤◌, ◌<◌, length, take, drop};
+ghost use Rattle.std.specs.Prelude.{◌≡◌, true, [], ◌∷◌, ◌++◌, ◌+◌, ◌^◌, ◌≤◌, ◌<◌, length, take, drop};
 ghost use Rattle.words.specs.Tests.{when};
 ghost use Rattle.words.specs.Part.{part, put};
 ghost use Rattle.words.specs.Laid.{Laid};

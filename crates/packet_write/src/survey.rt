@@ -1,5 +1,5 @@
 // Writing a packet whose parts are words, as 49A, with a pad count: type 1 by `governed.rt`, and the other types by the steps of `writing.rt`.
-ghost use Rattle.words.specs.Kit.{◌≡◌, length, take, get_or};
+ghost use Rattle.std.specs.Prelude.{◌≡◌, length, take, get_or};
 ghost use Rattle.words.specs.Outcome.{measured, Meets};
 ghost use Rattle.packet_write.specs.Write.{write_survey_of};
 ghost use Rattle.packet_write.specs.AsWords.{parts_in};

@@ -1,6 +1,6 @@
 // Writing a packet whose parts are words, as plain 49.0. `survey.rt` goes the same steps as 49A: each is compiled whole into its call for C, and through one
 // function that both call, a small plain packet would take a seventh more instructions.
-ghost use Rattle.words.specs.Kit.{◌≡◌, length};
+ghost use Rattle.std.specs.Prelude.{◌≡◌, length};
 ghost use Rattle.words.specs.Outcome.{measured, Meets};
 ghost use Rattle.packet_write.specs.Write.{write_of};
 ghost use Rattle.packet_write.specs.AsWords.{parts_in};

@@ -1,8 +1,7 @@
 -- Document 01, 'The table and its page': "A body: identifier, held indicator, for types 1, 3, 4, 5 three words each (seen, missing, last plus one or 0 if not
 -- started), then the held words in field order"; and the choice (document 02, C-13), which stands behind the counts. A record's first words are those of its
 -- body; the slots are squeezed to the held words.
-use Rattle.words.specs.Kit.{ℕ, ◌+◌, List, ◌++◌}
-use Rattle.std.specs.Prelude.{replicate}
+use Rattle.std.specs.Prelude.{ℕ, ◌+◌, List, ◌++◌, replicate}
 use Rattle.words.specs.Part.{part}
 use Rattle.words.specs.SetBits.{bits_of}
 use Rattle.fields.specs.Sizes.{sizes_of}

@@ -1,5 +1,5 @@
 -- Document 01, 'The table and its page': "A page is well made when some well-made table saves exactly its words."
-use Rattle.words.specs.Kit.{Bool, List, ℕ}
+use Rattle.std.specs.Prelude.{Bool, List, ℕ}
 use Rattle.words.specs.Tests.{both, same_words}
 use Rattle.table.specs.Well.{well_made}
 use Rattle.page.specs.Layout.{page_of, table_of}

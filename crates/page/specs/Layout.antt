@@ -1,6 +1,6 @@
 -- Document 01, 'The table and its page': "Page, contents first: word 0 is S; word 1 the page's length; then S pairs, offset from word 0 and length of each
 -- body, in list order without gaps; then bodies."
-use Rattle.words.specs.Kit.{ℕ, zero, suc, ◌+◌, ◌*◌, List, [], ◌∷◌, ◌++◌, length, get_or}
+use Rattle.std.specs.Prelude.{ℕ, zero, suc, ◌+◌, ◌*◌, List, [], ◌∷◌, ◌++◌, length, get_or}
 use Rattle.words.specs.Part.{part}
 use Rattle.table.specs.Layout.{streams_of, record_at}
 use Rattle.words.specs.Pieces.{pieces}

@@ -1,6 +1,6 @@
 -- Document 01: "Put back: PAGE, ROOM." "Put back takes exactly one page." "A lent table may be longer than its layout: words past it are neither read nor
 -- changed."
-use Rattle.words.specs.Kit.{ℕ, not, List, [], ◌∷◌, ◌++◌, ltb, length, drop}
+use Rattle.std.specs.Prelude.{ℕ, not, List, [], ◌∷◌, ◌++◌, ltb, length, drop}
 use Rattle.words.specs.Numbers.{PAGE, ROOM}
 use Rattle.words.specs.Outcome.{Outcome, accepted, Done}
 use Rattle.words.specs.Refusals.{Refusals, first_given}

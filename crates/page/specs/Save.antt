@@ -1,5 +1,5 @@
 -- Document 01: "Save: TABLE, SIZE, ROOM."
-use Rattle.words.specs.Kit.{ℕ, not, List, [], ◌∷◌, ◌++◌, ltb, length, drop}
+use Rattle.std.specs.Prelude.{ℕ, not, List, [], ◌∷◌, ◌++◌, ltb, length, drop}
 use Rattle.words.specs.Numbers.{TABLE, SIZE, ROOM}
 use Rattle.words.specs.Outcome.{Outcome, accepted, Done}
 use Rattle.words.specs.Refusals.{Refusals, first_given}

@@ -1,5 +1,5 @@
 // The bodies of a page, one for each stream.
-ghost use Rattle.words.specs.Kit.{◌≡◌, true, ◌+◌, ◌≤◌, ◌<◌, length};
+ghost use Rattle.std.specs.Prelude.{◌≡◌, true, ◌+◌, ◌≤◌, ◌<◌, length};
 ghost use Rattle.std.specs.Int.Bits.{bit_and};
 ghost use Rattle.words.specs.SetBits.{bits_of};
 ghost use Rattle.words.specs.Laid.{Laid};

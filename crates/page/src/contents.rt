@@ -1,5 +1,5 @@
 // The contents of a page: S, the length, and a pair for each body. Places in them, and what a pair says.
-ghost use Rattle.words.specs.Kit.{◌≡◌, ◌^◌, ◌<◌};
+ghost use Rattle.std.specs.Prelude.{◌≡◌, ◌^◌, ◌<◌};
 ghost use Rattle.page.specs.Layout.{contents_words, pair_at, offset_at, length_at};
 
 // The words of the contents of a page of n bodies.

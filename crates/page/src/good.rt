@@ -1,5 +1,5 @@
 // Whether a page is well made: its contents, then its list, then each body's record.
-ghost use Rattle.words.specs.Kit.{◌≡◌, true, ◌≤◌, ◌<◌, length};
+ghost use Rattle.std.specs.Prelude.{◌≡◌, true, ◌≤◌, ◌<◌, length};
 ghost use Rattle.words.specs.All.{all};
 ghost use Rattle.record.specs.Layout.{held_of};
 ghost use Rattle.record.specs.Good.{record_good};

@@ -1,6 +1,5 @@
 // The table of a page: each body's record, and the records behind S.
-ghost use Rattle.words.specs.Kit.{◌≡◌, true, ◌++◌, ◌≤◌, ◌<◌, length, drop};
-ghost use Rattle.std.specs.Prelude.{replicate};
+ghost use Rattle.std.specs.Prelude.{◌≡◌, true, ◌++◌, ◌≤◌, ◌<◌, length, drop, replicate};
 ghost use Rattle.record.specs.Layout.{record_words, held_of};
 ghost use Rattle.table.specs.Layout.{layout_words, Has, with_record};
 ghost use Rattle.page.specs.Body.{page_body_words, record_of};

@@ -1,5 +1,5 @@
 // The page of a table, written: the contents, and then the bodies.
-ghost use Rattle.words.specs.Kit.{◌≡◌, true, ◌++◌, ◌+◌, ◌≤◌, ◌<◌, length, drop, set};
+ghost use Rattle.std.specs.Prelude.{◌≡◌, true, ◌++◌, ◌+◌, ◌≤◌, ◌<◌, length, drop, set};
 ghost use Rattle.words.specs.Laid.{Laid};
 ghost use Rattle.table.specs.Well.{well_made};
 ghost use Rattle.page.specs.Layout.{pair_at, pairs_of, bodies_of, page_of, page_length, most_words};

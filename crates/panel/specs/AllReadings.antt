@@ -1,6 +1,5 @@
 -- All readings of a stream at once: TABLE and STREAM as a reading. Entry by entry they are what a reading answers of the bits 30 to 10 (`readings_each`).
-use Rattle.words.specs.Kit.{ℕ, List}
-use Rattle.std.specs.Prelude.{map}
+use Rattle.std.specs.Prelude.{ℕ, List, map}
 use Rattle.words.specs.Outcome.{Outcome, refused, accepted}
 use Rattle.words.specs.Refusals.{first_given}
 use Rattle.record.specs.Held.{slot_bits}

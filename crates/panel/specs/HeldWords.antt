@@ -1,6 +1,6 @@
 -- The held words themselves, for a field of which a reading says no more: TABLE, STREAM and VALUE as a reading, then ROOM. Document 01: "A refusal returns its
 -- number alone and writes nothing"; "Only words needed by an accepted answer change."
-use Rattle.words.specs.Kit.{ℕ, List, [], ◌∷◌, ◌++◌, ltb, length, drop}
+use Rattle.std.specs.Prelude.{ℕ, List, [], ◌∷◌, ◌++◌, ltb, length, drop}
 use Rattle.words.specs.Numbers.{ROOM}
 use Rattle.words.specs.Outcome.{Outcome, accepted, Done}
 use Rattle.words.specs.Refusals.{Refusals, first_given}

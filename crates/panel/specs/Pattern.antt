@@ -1,7 +1,6 @@
 -- Document 01: "the promise fixes each f32 by its sign, exponent and fraction as whole numbers, zero being plus zero". The three fields of an f32 that is z
 -- over 2 ^ k, z being below 2 ^ 24: all are 0 of zero.
-use Rattle.words.specs.Kit.{ℕ, zero, suc, ◌+◌, ◌-◌, ◌*◌, ◌^◌}
-use Rattle.std.specs.Prelude.{ℤ, pos, negsuc}
+use Rattle.std.specs.Prelude.{ℕ, zero, suc, ◌+◌, ◌-◌, ◌*◌, ◌^◌, ℤ, pos, negsuc}
 use Rattle.std.specs.Float.Ieee.{size}
 
 -- the sign: 1 below zero

@@ -1,7 +1,6 @@
 -- Document 01, 'Readings for the panel': "A reading is a frequency, a level, a gain pair, a temperature, other (held, nothing more said), or absent"; and
 -- "Reading: TABLE, STREAM, VALUE".
-use Rattle.words.specs.Kit.{ℕ, Bool, true, List, [], ◌∷◌, ◌++◌, eqb, ltb, leb, get_or}
-use Rattle.std.specs.Prelude.{ℤ, Float}
+use Rattle.std.specs.Prelude.{ℕ, Bool, true, List, [], ◌∷◌, ◌++◌, eqb, ltb, leb, get_or, ℤ, Float}
 use Rattle.words.specs.Numbers.{VALUE}
 use Rattle.words.specs.Tests.{pick, both, either}
 use Rattle.words.specs.Outcome.{Outcome, refused, accepted}

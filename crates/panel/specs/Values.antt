@@ -1,7 +1,6 @@
 -- Document 01, 'Readings for the panel': numbers out of held words. "These three are f32 and exact: the promise fixes each f32 by its sign, exponent and
 -- fraction as whole numbers, zero being plus zero." Two's complement is that of crate `words`.
-use Rattle.words.specs.Kit.{ℕ, zero, suc, ◌-◌, ◌/◌, ◌%◌, ◌^◌, Bool, true, false}
-use Rattle.std.specs.Prelude.{ℤ, pos, negsuc, Float}
+use Rattle.std.specs.Prelude.{ℕ, zero, suc, ◌-◌, ◌/◌, ◌%◌, ◌^◌, Bool, true, false, ℤ, pos, negsuc, Float}
 use Rattle.std.specs.Int.Count.{count_trailing_zeros}
 use Rattle.std.specs.Float.{fin}
 use Rattle.std.specs.Float.Ieee.{minus}

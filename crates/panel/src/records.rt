@@ -1,6 +1,5 @@
 // A field in the record of a stream: what it shows, and its words.
-ghost use Rattle.std.specs.Prelude.{map};
-ghost use Rattle.words.specs.Kit.{◌≡◌, ◌≤◌, ◌<◌, length};
+ghost use Rattle.std.specs.Prelude.{map, ◌≡◌, ◌≤◌, ◌<◌, length};
 ghost use Rattle.words.specs.Outcome.{accepted, measured, Meets};
 ghost use Rattle.record.specs.Held.{slot_at};
 ghost use Rattle.record.specs.Layout.{record_words, held_words_in};

@@ -1,5 +1,5 @@
 // What the words of a field show.
-ghost use Rattle.words.specs.Kit.{◌≡◌, ◌≤◌, length};
+ghost use Rattle.std.specs.Prelude.{◌≡◌, ◌≤◌, length};
 ghost use Rattle.words.specs.Outcome.{accepted};
 ghost use Rattle.record.specs.Held.{slot_at};
 ghost use Rattle.record.specs.Layout.{record_words};

@@ -1,6 +1,6 @@
 -- Which held fields are not the same in two records, such as those of a stream before a packet and after it: TABLE where either table is not well made, STREAM
 -- where either number is not in its table.
-use Rattle.words.specs.Kit.{ℕ, Bool, not, List, [], ◌∷◌, leb}
+use Rattle.std.specs.Prelude.{ℕ, Bool, not, List, [], ◌∷◌, leb}
 use Rattle.words.specs.Numbers.{TABLE, STREAM}
 use Rattle.words.specs.Tests.{both, either, same_words}
 use Rattle.words.specs.Word.{marked}

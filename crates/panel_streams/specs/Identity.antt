@@ -1,6 +1,6 @@
 -- Who a stream is, and what it holds: TABLE, STREAM. Its identifier, its choice (document 02, C-13), and its held indicator, of which bit b is set exactly
 -- where the field of bit b is held.
-use Rattle.words.specs.Kit.{ℕ, List}
+use Rattle.std.specs.Prelude.{ℕ, List}
 use Rattle.words.specs.Outcome.{Outcome, refused, accepted}
 use Rattle.words.specs.Refusals.{first_given}
 use Rattle.record.specs.Layout.{identifier_of, held_of, choice_of}

@@ -1,6 +1,6 @@
 -- The record of a stream as a table of its own: TABLE, STREAM, ROOM. Document 01: "A refusal returns its number alone and writes nothing"; "Only words
 -- needed by an accepted answer change."
-use Rattle.words.specs.Kit.{ℕ, List, [], ◌∷◌, ◌++◌, ltb, length, drop}
+use Rattle.std.specs.Prelude.{ℕ, List, [], ◌∷◌, ◌++◌, ltb, length, drop}
 use Rattle.words.specs.Numbers.{ROOM}
 use Rattle.words.specs.Outcome.{Outcome, accepted, Done}
 use Rattle.words.specs.Refusals.{Refusals, first_given}

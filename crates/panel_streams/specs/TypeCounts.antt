@@ -1,6 +1,6 @@
 -- What a stream counted of a type: TABLE, STREAM, and VALUE for a type that is not counted. Document 01: "Types 1, 3, 4 and 5 are counted apart within a
 -- stream. Each has seen and missing, both kept modulo 2^32, and the last count."
-use Rattle.words.specs.Kit.{ℕ, ◌-◌, List, not, eqb, [], ◌∷◌, ◌++◌}
+use Rattle.std.specs.Prelude.{ℕ, ◌-◌, List, not, eqb, [], ◌∷◌, ◌++◌}
 use Rattle.words.specs.Numbers.{VALUE}
 use Rattle.words.specs.Tests.{pick, among}
 use Rattle.words.specs.Outcome.{Outcome, refused, accepted}

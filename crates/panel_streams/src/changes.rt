@@ -1,5 +1,5 @@
 // Which held fields are not the same in two records.
-ghost use Rattle.words.specs.Kit.{◌≡◌, ◌+◌, ◌^◌, ◌≤◌, ◌<◌, length};
+ghost use Rattle.std.specs.Prelude.{◌≡◌, ◌+◌, ◌^◌, ◌≤◌, ◌<◌, length};
 ghost use Rattle.words.specs.Tests.{when, same_words};
 ghost use Rattle.words.specs.Part.{part};
 ghost use Rattle.words.specs.Outcome.{accepted, checked};

@@ -1,5 +1,5 @@
 // What the record of a stream says.
-ghost use Rattle.words.specs.Kit.{◌≡◌, true, ◌<◌};
+ghost use Rattle.std.specs.Prelude.{◌≡◌, true, ◌<◌};
 ghost use Rattle.words.specs.Tests.{among};
 ghost use Rattle.words.specs.Outcome.{accepted, measured, Meets};
 ghost use Rattle.record.specs.Layout.{counted_types};

@@ -1,5 +1,5 @@
 -- Document 01, 'Payload': how many items, and how many words. COUNT: "wrong number of items or words".
-use Rattle.words.specs.Kit.{ℕ, ◌*◌, ◌%◌, Bool, not, [], ◌∷◌, eqb, ltb}
+use Rattle.std.specs.Prelude.{ℕ, ◌*◌, ◌%◌, Bool, not, [], ◌∷◌, eqb, ltb}
 use Rattle.words.specs.Tests.{either}
 use Rattle.words.specs.Outcome.{Outcome, accepted}
 use Rattle.words.specs.Refusals.{Refusals, first_given}

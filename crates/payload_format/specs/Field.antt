@@ -1,5 +1,5 @@
 -- Document 01, 'Payload': "A packing field holds the item at its left, unused bits, event tags, then the channel tag at its right."
-use Rattle.words.specs.Kit.{ℕ, ◌+◌, ◌-◌, ◌*◌, ◌/◌, ◌%◌, ◌^◌, List, get_or}
+use Rattle.std.specs.Prelude.{ℕ, ◌+◌, ◌-◌, ◌*◌, ◌/◌, ◌%◌, ◌^◌, List, get_or}
 use Rattle.bitstream.specs.Carried.{packing_field}
 use Rattle.payload_format.specs.declared.inner.Packing.{Packing}
 

@@ -1,5 +1,5 @@
 -- Document 01, 'Payload': the format's two words. The parts of the first that field 15's rule speaks of are named in crate `fields`.
-use Rattle.words.specs.Kit.{ℕ, ◌+◌, ◌*◌, ◌/◌, Bool, not, eqb, ltb, leb}
+use Rattle.std.specs.Prelude.{ℕ, ◌+◌, ◌*◌, ◌/◌, Bool, not, eqb, ltb, leb}
 use Rattle.words.specs.Tests.{pick, both, either}
 use Rattle.words.specs.Word.{bits, has}
 use Rattle.fields.specs.Format.{real_complex, event_size, channel_size, packing_size, item_size, format_ok}

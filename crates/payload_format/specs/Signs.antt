@@ -1,6 +1,5 @@
 -- Document 01: "Another answer gives the two's complement value of a 1 to 64 bit item"; "Signed value: FORMAT, VALUE".
-use Rattle.words.specs.Kit.{ℕ, ◌^◌, [], ◌∷◌, ltb, leb}
-use Rattle.std.specs.Prelude.{ℤ}
+use Rattle.std.specs.Prelude.{ℕ, ◌^◌, [], ◌∷◌, ltb, leb, ℤ}
 use Rattle.words.specs.Tests.{either}
 use Rattle.words.specs.Signed.{twos_complement}
 use Rattle.words.specs.Outcome.{Outcome, accepted}

@@ -1,5 +1,5 @@
 // The format's two words: the sizes that they give, FORMAT, COUNT, and the words that fields take.
-ghost use Rattle.words.specs.Kit.{◌≡◌, ◌≤◌, ◌<◌};
+ghost use Rattle.std.specs.Prelude.{◌≡◌, ◌≤◌, ◌<◌};
 ghost use Rattle.words.specs.Outcome.{checked};
 ghost use Rattle.bitstream.specs.Carried.{needed};
 ghost use Rattle.payload_format.specs.Format.{link_efficient, component_repeat, repeat_size, vector_size, component_count, wide_processing};

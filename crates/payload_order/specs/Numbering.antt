@@ -1,5 +1,5 @@
 -- Document 02, C-12: what the two calls of the numbering answer. Their order of refusals is that of packing, without ROOM: FORMAT, COUNT, VALUE.
-use Rattle.words.specs.Kit.{ℕ, ◌/◌, Bool, [], ◌∷◌, leb}
+use Rattle.std.specs.Prelude.{ℕ, ◌/◌, Bool, [], ◌∷◌, leb}
 use Rattle.words.specs.Tests.{either}
 use Rattle.words.specs.Outcome.{Outcome, refused, accepted}
 use Rattle.words.specs.Refusals.{Refusals, first_given}

@@ -1,7 +1,7 @@
 -- Document 02, C-12: "Add both orders (section 6.1.6.3 of source document 003) and the numbering from an item to time, channel, component and repeat and back".
 -- Items are numbered from 0 as they stand in the payload. Here v is the vector size, r the repeat, c the number of components of a sample, and `apart`
 -- is bit 23 of the format: the components of repeated samples stand apart.
-use Rattle.words.specs.Kit.{ℕ, ◌+◌, ◌*◌, ◌/◌, ◌%◌, ◌<◌, Bool}
+use Rattle.std.specs.Prelude.{ℕ, ◌+◌, ◌*◌, ◌/◌, ◌%◌, ◌<◌, Bool}
 use Rattle.words.specs.Tests.{pick}
 use Rattle.payload_order.specs.declared.Coordinates.{Coordinates}
 

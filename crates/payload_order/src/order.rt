@@ -1,5 +1,5 @@
 // The two orders of a payload: an item's coordinates, and the item of coordinates.
-ghost use Rattle.words.specs.Kit.{◌≡◌, ◌<◌};
+ghost use Rattle.std.specs.Prelude.{◌≡◌, ◌<◌};
 ghost use Rattle.payload_order.specs.Numbering.{coordinates_under, item_under, outside};
 
 use crate::Coordinates;

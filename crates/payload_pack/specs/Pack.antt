@@ -1,5 +1,5 @@
 -- Document 01: "Pack: FORMAT, COUNT, VALUE, ROOM"; "in packing, the three inputs have n entries each".
-use Rattle.words.specs.Kit.{ℕ, ◌^◌, Bool, not, List, [], ◌∷◌, length, get_or, eqb, ltb}
+use Rattle.std.specs.Prelude.{ℕ, ◌^◌, Bool, not, List, [], ◌∷◌, length, get_or, eqb, ltb}
 use Rattle.words.specs.Tests.{either}
 use Rattle.words.specs.All.{all}
 use Rattle.words.specs.Outcome.{Outcome, accepted, Done}

@@ -1,5 +1,5 @@
 // The refusals of packing: FORMAT, COUNT, VALUE, ROOM.
-ghost use Rattle.words.specs.Kit.{◌≡◌, ◌≤◌, ◌<◌, length};
+ghost use Rattle.std.specs.Prelude.{◌≡◌, ◌≤◌, ◌<◌, length};
 ghost use Rattle.words.specs.Outcome.{checked};
 ghost use Rattle.payload_pack.specs.Pack.{fitting, value_bad};
 ghost use Rattle.payload_pack.specs.inner.AnyBits.{any_bits};

@@ -1,5 +1,5 @@
 // The words of packing fields.
-ghost use Rattle.words.specs.Kit.{◌≡◌, ◌-◌, ◌*◌, ◌^◌, ◌<◌, length, get_or};
+ghost use Rattle.std.specs.Prelude.{◌≡◌, ◌-◌, ◌*◌, ◌^◌, ◌<◌, length, get_or};
 ghost use Rattle.bitstream.specs.Carried.{needed, word_of};
 ghost use Rattle.bitstream.specs.Filled.{filled};
 ghost use Rattle.payload_format.specs.inner.Legal.{Legal};

@@ -1,5 +1,5 @@
 // Fields without tags: their items, and their tags, which read as 0.
-ghost use Rattle.words.specs.Kit.{◌≡◌, ◌+◌, ◌*◌, ◌≤◌, ◌<◌, length, get_or};
+ghost use Rattle.std.specs.Prelude.{◌≡◌, ◌+◌, ◌*◌, ◌≤◌, ◌<◌, length, get_or};
 ghost use Rattle.words.specs.Word.{high_first};
 ghost use Rattle.bitstream.specs.Filled.{filled};
 ghost use Rattle.bitstream.specs.inner.FilledOn.{FilledOn};

@@ -1,5 +1,5 @@
 // Fields with tags: the item, the event tags and the channel tag of each.
-ghost use Rattle.words.specs.Kit.{◌≡◌, ◌+◌, ◌*◌, ◌≤◌, ◌<◌, length};
+ghost use Rattle.std.specs.Prelude.{◌≡◌, ◌+◌, ◌*◌, ◌≤◌, ◌<◌, length};
 ghost use Rattle.payload_format.specs.inner.Legal.{Legal};
 ghost use Rattle.payload_format.specs.Field.{event_in, channel_in};
 ghost use Rattle.payload_unpack.specs.Unpack.{buffers, unpacked};

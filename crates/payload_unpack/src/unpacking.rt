@@ -1,5 +1,5 @@
 // Unpacking: items and their tags from words.
-ghost use Rattle.words.specs.Kit.{◌≡◌, ◌≤◌, length};
+ghost use Rattle.std.specs.Prelude.{◌≡◌, ◌≤◌, length};
 ghost use Rattle.words.specs.Outcome.{checked, measured, Meets};
 ghost use Rattle.payload_unpack.specs.Unpack.{buffers, unpacked, unpack_of};
 ghost use Rattle.bitstream.specs.Carried.{needed};

@@ -13,7 +13,7 @@
 // enough for a field of up to 32 (`bits`), and three words hold 64 (`bits_wide`). The last fields are read otherwise, since no word stands behind them:
 // a field of up to 32 bits that begins in the last word lies in it whole (`bits_last`), and a longer one may end in the second of its words
 // (`bits_wide_last`).
-ghost use Rattle.words.specs.Kit.{◌≡◌, ◌+◌, ◌*◌, ◌/◌, ◌%◌, ◌-◌, ◌^◌, ◌<◌, length};
+ghost use Rattle.std.specs.Prelude.{◌≡◌, ◌+◌, ◌*◌, ◌/◌, ◌%◌, ◌-◌, ◌^◌, ◌<◌, length};
 ghost use Rattle.bitstream.specs.Stream.{span};
 ghost use Rattle.bitstream.specs.Carried.{stream_bits};
 

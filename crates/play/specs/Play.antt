@@ -1,6 +1,6 @@
 -- Document 01: "Play: TABLE, read order, STREAM". "Play answers size, type, stream number (place in the list, from 0) and missing added." Document 02, C-13:
 -- each packet is read by its stream's choice; "packets of no declared stream .. stay plain". C-15: "Play passes it on", the place of a refusal.
-use Rattle.words.specs.Kit.{ℕ, Bool, not, List, [], ◌∷◌, ◌++◌, leb, get_or}
+use Rattle.std.specs.Prelude.{ℕ, Bool, not, List, [], ◌∷◌, ◌++◌, leb, get_or}
 use Rattle.words.specs.Numbers.{STREAM, TABLE}
 use Rattle.words.specs.Tests.{among, either}
 use Rattle.words.specs.Part.{part}

@@ -1,6 +1,6 @@
 // The entry of one packet, from its words: what play says of the packet, as plain numbers. The header and the size are checked first, and a body only of type
 // 4, so that a data packet pays for no body. Data and Context packets have a function each, so that the compiler puts both in line where a run calls `enter`.
-ghost use Rattle.words.specs.Kit.{◌≡◌, true, ◌<◌, eqb};
+ghost use Rattle.std.specs.Prelude.{◌≡◌, true, ◌<◌, eqb};
 ghost use Rattle.words.specs.declared.Where.TheVariants.{Word, Field};
 ghost use Rattle.words.specs.Numbers.{FIELD};
 ghost use Rattle.words.specs.Tests.{pick};

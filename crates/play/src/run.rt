@@ -1,6 +1,6 @@
 // A run of packets over a recording, with an entry of answers for each. A packet by itself is a run with room for one entry, so that `enter` is called in one
 // place and the compiler puts it in line there: a call for each packet would cost a third more.
-ghost use Rattle.words.specs.Kit.{◌≡◌, true, ◌+◌, ◌^◌, ◌≤◌, ◌<◌, length};
+ghost use Rattle.std.specs.Prelude.{◌≡◌, true, ◌+◌, ◌^◌, ◌≤◌, ◌<◌, length};
 ghost use Rattle.words.specs.Part.{put};
 ghost use Rattle.table.specs.Well.{well_made};
 ghost use Rattle.play.specs.Run.{entry_words, words_of_entry, whole_walk, WalkDone};

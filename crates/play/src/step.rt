@@ -1,5 +1,5 @@
 // One step of a walk over a recording.
-ghost use Rattle.words.specs.Kit.{◌≡◌, true, ◌<◌, length};
+ghost use Rattle.std.specs.Prelude.{◌≡◌, true, ◌<◌, length};
 ghost use Rattle.table.specs.Well.{well_made};
 ghost use Rattle.play.specs.Run.{Stepped};
 

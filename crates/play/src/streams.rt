@@ -1,5 +1,5 @@
 // The stream of a packet, its record, and the refusals on the way.
-ghost use Rattle.words.specs.Kit.{◌≡◌, true, [], ◌∷◌, ◌<◌};
+ghost use Rattle.std.specs.Prelude.{◌≡◌, true, [], ◌∷◌, ◌<◌};
 ghost use Rattle.words.specs.Numbers.{STREAM};
 ghost use Rattle.words.specs.Tests.{pick, among};
 ghost use Rattle.words.specs.Outcome.{number_of, checked, refused};

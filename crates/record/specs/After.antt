@@ -1,6 +1,5 @@
 -- A record after an accepted packet: its type is counted, and the fields that a Context packet carries are held.
-use Rattle.std.specs.Prelude.{bit_and, bit_or}
-use Rattle.words.specs.Kit.{◌≡◌, ℕ, ◌+◌, ◌≤◌, Bool, true, List, [], ◌∷◌, eqb, length, get_or, set}
+use Rattle.std.specs.Prelude.{bit_and, bit_or, ◌≡◌, ℕ, ◌+◌, ◌≤◌, Bool, true, List, [], ◌∷◌, eqb, length, get_or, set}
 use Rattle.words.specs.Tests.{pick, both}
 use Rattle.words.specs.Word.{has}
 use Rattle.words.specs.Part.{part, put}

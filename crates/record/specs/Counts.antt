@@ -1,6 +1,6 @@
 -- Document 01, 'The table and its page': "Types 1, 3, 4 and 5 are counted apart within a stream. Each has seen and missing, both kept modulo 2^32, and
 -- the last count."
-use Rattle.words.specs.Kit.{ℕ, ◌+◌, ◌-◌, ◌%◌, ◌^◌, List, [], ◌∷◌, eqb}
+use Rattle.std.specs.Prelude.{ℕ, ◌+◌, ◌-◌, ◌%◌, ◌^◌, List, [], ◌∷◌, eqb}
 use Rattle.words.specs.Tests.{pick}
 use Rattle.words.specs.Part.{put}
 use Rattle.record.specs.Layout.{count_at, count_words, seen_of, missing_of, last_of}

@@ -1,8 +1,7 @@
 -- Document 01, 'The table and its page', of a stream's record: "unheld fields .. zero; held fields obey their rules; a count not started has zeros; a last
 -- count is at most 15; no field held unless type 4 has started"; and what of field 16 is held is by document 02, C-11, and the choice by C-13. Each is a
 -- test, and `Good` says the same in facts (proofs/GoodLaws.antt: `Good-of`, `of_good`).
-use Rattle.words.specs.Kit.{◌≡◌, ℕ, ◌^◌, ◌≤◌, ◌<◌, Bool, true, false, List, [], ◌∷◌, eqb, leb, length, get_or}
-use Rattle.std.specs.Prelude.{replicate, bit_and}
+use Rattle.std.specs.Prelude.{◌≡◌, ℕ, ◌^◌, ◌≤◌, ◌<◌, Bool, true, false, List, [], ◌∷◌, eqb, leb, length, get_or, replicate, bit_and}
 use Rattle.words.specs.Tests.{pick, both, among}
 use Rattle.words.specs.Word.{has}
 use Rattle.words.specs.All.{all}

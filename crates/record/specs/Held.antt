@@ -1,7 +1,7 @@
 -- Document 01, 'The table and its page': "An accepted Context packet replaces each field from bits 30 to 10 that it carries .. Bits 31, 9 and 8 are not
 -- held"; document 02, C-11: "field 22, which is now checked and never held". Which fields have a slot and which are held is said here alone; where a slot
 -- stands follows from it.
-use Rattle.words.specs.Kit.{ℕ, ◌-◌, ◌^◌, Bool, List, [], ◌∷◌, ◌++◌}
+use Rattle.std.specs.Prelude.{ℕ, ◌-◌, ◌^◌, Bool, List, [], ◌∷◌, ◌++◌}
 use Rattle.words.specs.Word.{has}
 use Rattle.words.specs.SetBits.{bits_of, above}
 use Rattle.fields.specs.Sizes.{sizes_of}

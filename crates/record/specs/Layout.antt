@@ -1,7 +1,7 @@
 -- A stream's record. Its first words are those of its body in a page: identifier, held indicator, "for types 1, 3, 4, 5 three words each (seen,
 -- missing, last plus one or 0 if not started)", and the choice, of which document 02, C-13 says that "the page body records it in one word more"; then a slot
 -- for each held field, in field order.
-use Rattle.words.specs.Kit.{ℕ, ◌+◌, ◌*◌, Bool, List, [], ◌∷◌, eqb, get_or}
+use Rattle.std.specs.Prelude.{ℕ, ◌+◌, ◌*◌, Bool, List, [], ◌∷◌, eqb, get_or}
 use Rattle.words.specs.Tests.{pick}
 use Rattle.words.specs.Word.{has}
 use Rattle.words.specs.Part.{part}

@@ -2,7 +2,7 @@
 -- enabled stays, over-range and sample loss (25/13, 24/12) are never held, and user bits 7-0 are replaced together." The persistent indicators have their
 -- enables in bits 31 to 26 and each its value 12 bits below: calibrated time 31/19, valid data 30/18, reference lock 29/17, AGC 28/16, detected signal 27/15,
 -- spectral inversion 26/14.
-use Rattle.words.specs.Kit.{ℕ, ◌+◌, Bool, true, eqb, leb, ltb}
+use Rattle.std.specs.Prelude.{ℕ, ◌+◌, Bool, true, eqb, leb, ltb}
 use Rattle.words.specs.Tests.{pick, both}
 use Rattle.words.specs.Word.{has, marked}
 

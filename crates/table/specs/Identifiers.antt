@@ -1,7 +1,7 @@
 -- Document 01, 'Numbers given back', LIST: "0 or over 32 identifiers, or one twice". Identifiers are given as a function from their place in the list, so that
 -- a list that is handed in and the list of a table are judged alike. Document 02, C-13: "The caller chooses plain 49.0 (word 0) or 49A (1) for each stream in
 -- the list".
-use Rattle.words.specs.Kit.{ℕ, ◌+◌, ◌*◌, Bool, not, List, eqb, leb, ltb, length, get_or}
+use Rattle.std.specs.Prelude.{ℕ, ◌+◌, ◌*◌, Bool, not, List, eqb, leb, ltb, length, get_or}
 use Rattle.words.specs.Tests.{both}
 use Rattle.words.specs.All.{all, first_of}
 use Rattle.record.specs.Layout.{choice_of}

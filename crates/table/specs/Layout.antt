@@ -1,6 +1,6 @@
 -- The table's layout: word 0 is S, the number of streams; then S records, in the order of the list. What lies past them is none of the table's: "words past
 -- it are neither read nor changed".
-use Rattle.words.specs.Kit.{ℕ, ◌+◌, ◌*◌, ◌≤◌, List, length, get_or}
+use Rattle.std.specs.Prelude.{ℕ, ◌+◌, ◌*◌, ◌≤◌, List, length, get_or}
 use Rattle.words.specs.Part.{part, put}
 use Rattle.record.specs.Layout.{record_words}
 

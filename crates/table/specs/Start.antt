@@ -1,7 +1,6 @@
 -- Document 01: "Start: LIST, ROOM"; a table "starts as zeroed words apart from the list", which is identifiers and choices by document 02,
 -- C-13.
-use Rattle.words.specs.Kit.{ℕ, ◌-◌, not, List, [], ◌∷◌, ◌++◌, ltb, length, drop}
-use Rattle.std.specs.Prelude.{replicate}
+use Rattle.std.specs.Prelude.{ℕ, ◌-◌, not, List, [], ◌∷◌, ◌++◌, ltb, length, drop, replicate}
 use Rattle.words.specs.Numbers.{LIST, ROOM}
 use Rattle.words.specs.Outcome.{Outcome, accepted, Done}
 use Rattle.words.specs.Tests.{both}

@@ -1,6 +1,6 @@
 -- What a call that is handed a table and a stream's number asks first. Document 01, 'Numbers given back': TABLE, "table not well made"; STREAM, "a stream
 -- number not in the table".
-use Rattle.words.specs.Kit.{ℕ, not, List, [], ◌∷◌, leb}
+use Rattle.std.specs.Prelude.{ℕ, not, List, [], ◌∷◌, leb}
 use Rattle.words.specs.Numbers.{TABLE, STREAM}
 use Rattle.words.specs.Refusals.{Refusals}
 use Rattle.table.specs.Layout.{streams_of}

@@ -1,5 +1,5 @@
 -- Document 01, 'The table and its page': "Well made: the whole layout is there; a valid list; .." and every record is good.
-use Rattle.words.specs.Kit.{◌≡◌, ℕ, ◌≤◌, ◌<◌, Bool, List, leb, length}
+use Rattle.std.specs.Prelude.{◌≡◌, ℕ, ◌≤◌, ◌<◌, Bool, List, leb, length}
 use Rattle.words.specs.Tests.{both}
 use Rattle.words.specs.All.{all}
 use Rattle.record.specs.Good.{record_good, Good}

@@ -1,6 +1,6 @@
 // Whether a list of identifiers is valid, and the choices beside it. The identifiers stand at equal distances: in a list one after the other, in a table a
 // record apart.
-ghost use Rattle.words.specs.Kit.{◌≡◌, ◌+◌, ◌*◌, ◌≤◌, ◌<◌, length};
+ghost use Rattle.std.specs.Prelude.{◌≡◌, ◌+◌, ◌*◌, ◌≤◌, ◌<◌, length};
 ghost use Rattle.words.specs.All.{all};
 ghost use Rattle.table.specs.Identifiers.{spaced, apart, list_good, choices_good};
 

@@ -1,5 +1,5 @@
 // Where things stand in a table.
-ghost use Rattle.words.specs.Kit.{◌≡◌, ◌^◌, ◌<◌};
+ghost use Rattle.std.specs.Prelude.{◌≡◌, ◌^◌, ◌<◌};
 ghost use Rattle.table.specs.Layout.{streams_of, base, layout_words};
 
 // S, the number of streams; 0 of no words.

@@ -1,5 +1,5 @@
 // The records of a table: made fresh, and tested.
-ghost use Rattle.words.specs.Kit.{◌≡◌, ◌++◌, ◌+◌, ◌≤◌, ◌<◌, length, take, drop};
+ghost use Rattle.std.specs.Prelude.{◌≡◌, ◌++◌, ◌+◌, ◌≤◌, ◌<◌, length, take, drop};
 ghost use Rattle.words.specs.All.{all};
 ghost use Rattle.table.specs.Layout.{base, Has, with_record};
 ghost use Rattle.table.specs.Well.{record_good_at};

@@ -1,7 +1,7 @@
 -- What a call for C gives: one number, 0 where it is accepted and else that of the refusal, and its values in the places that it was lent: single numbers,
 -- arrays of a fixed length, and buffers. Document 01: "A refusal returns its number alone and writes nothing"; "Only words needed by an accepted answer
 -- change."
-use Rattle.words.specs.Kit.{◌≡◌, ℕ, List, [], ◌∷◌}
+use Rattle.std.specs.Prelude.{◌≡◌, ℕ, List, [], ◌∷◌}
 use Rattle.words.specs.declared.Refusal.{Refusal}
 use Rattle.words.specs.Word.{join}
 use Rattle.words.specs.Outcome.{Outcome, refused, accepted, number_of, Done}

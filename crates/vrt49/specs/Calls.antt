@@ -2,8 +2,7 @@
 -- nothing and answers its value is `r ≡ want h`; that of every other call is `Tells values (want h) (lent h) r after`, of what it is handed, h, the number r
 -- that it answers, and the lent places afterwards; and where a refusal is told where, `Tells values (in_number (want h)) (lent h) r after`. These are the
 -- `ensures` of the calls, word for word; `want` is the definition of the call inside.
-use Rattle.words.specs.Kit.{◌≡◌, ℕ, ◌<◌, true, List, [], ◌∷◌, ◌++◌, length, get_or}
-use Rattle.std.specs.Prelude.{ℤ, Float}
+use Rattle.std.specs.Prelude.{◌≡◌, ℕ, ◌<◌, true, List, [], ◌∷◌, ◌++◌, length, get_or, ℤ, Float}
 use Rattle.words.specs.Numbers.{EMPTY, TYPE, BITS, SHORT, CUT, CLASS, TIME, INDICATOR, LAYOUT, FIELD}
 use Rattle.words.specs.Numbers.{STREAM, LIST, ROOM, VALUE, SIZE, FORMAT, COUNT, TABLE, PAGE, PAD, PLACE}
 use Rattle.words.specs.declared.Where.TheVariants.{Nowhere, Word}

@@ -1,5 +1,5 @@
 -- The index beside a recording: the values of each answer, in the order of include/vrt49.h.
-use Rattle.words.specs.Kit.{ℕ, ◌^◌, ◌≤◌, ◌<◌, List, [], ◌∷◌}
+use Rattle.std.specs.Prelude.{ℕ, ◌^◌, ◌≤◌, ◌<◌, List, [], ◌∷◌}
 use Rattle.words.specs.Numbers.{STREAM}
 use Rattle.index_grow.specs.declared.Taken.{Taken}
 use Rattle.index_grow.specs.declared.Taken.TheVariants.{Declared, Undeclared}

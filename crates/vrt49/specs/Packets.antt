@@ -1,5 +1,5 @@
 -- Packets, trailers and the fields of a body: the values of each answer in the order of include/vrt49.h, and a packet's parts as words.
-use Rattle.words.specs.Kit.{ℕ, ◌/◌, ◌%◌, ◌^◌, Bool, true, false, not, List, [], ◌∷◌, ◌++◌, ltb, length, get_or}
+use Rattle.std.specs.Prelude.{ℕ, ◌/◌, ◌%◌, ◌^◌, Bool, true, false, not, List, [], ◌∷◌, ◌++◌, ltb, length, get_or}
 use Rattle.words.specs.Numbers.{TYPE, VALUE}
 use Rattle.words.specs.Tests.{when, both, either}
 use Rattle.words.specs.Outcome.{Outcome, accepted, Done}

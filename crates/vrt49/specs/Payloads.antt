@@ -1,5 +1,5 @@
 -- Packed samples: the coordinates of an item as four words, in the order of include/vrt49.h.
-use Rattle.words.specs.Kit.{ℕ, List, [], ◌∷◌, get_or}
+use Rattle.std.specs.Prelude.{ℕ, List, [], ◌∷◌, get_or}
 use Rattle.payload_order.specs.declared.Coordinates.{Coordinates}
 
 -- time, channel, component, repeat

@@ -1,6 +1,5 @@
 -- Readings for the panel: the values of each kind in the order of include/vrt49.h.
-use Rattle.words.specs.Kit.{ℕ, false, List, [], ◌∷◌}
-use Rattle.std.specs.Prelude.{map, ℤ, pos, Float}
+use Rattle.std.specs.Prelude.{ℕ, false, List, [], ◌∷◌, map, ℤ, pos, Float}
 use Rattle.std.specs.Float.{fin}
 use Rattle.words.specs.Outcome.{Outcome, refused, accepted}
 use Rattle.panel.specs.Readings.{Reading, frequency, level, gain, temperature, other, absent}

@@ -1,5 +1,5 @@
 -- What a table says of a stream: the values of each answer, in the order of include/vrt49.h.
-use Rattle.words.specs.Kit.{ℕ, List, [], ◌∷◌}
+use Rattle.std.specs.Prelude.{ℕ, List, [], ◌∷◌}
 use Rattle.panel_streams.specs.Identity.{Declared}
 use Rattle.panel_streams.specs.TypeCounts.{Count, started, not_started}
 

@@ -1,5 +1,5 @@
 -- Tables of streams: the values of each answer, in the order of include/vrt49.h.
-use Rattle.words.specs.Kit.{ℕ, List, [], ◌∷◌}
+use Rattle.std.specs.Prelude.{ℕ, List, [], ◌∷◌}
 use Rattle.play.specs.declared.Heard.{Heard}
 use Rattle.play.specs.declared.run.Reached.{Reached}
 

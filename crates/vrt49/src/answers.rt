@@ -1,5 +1,5 @@
 // Values in lent places, and the number of a refusal.
-ghost use Rattle.words.specs.Kit.{◌≡◌};
+ghost use Rattle.std.specs.Prelude.{◌≡◌};
 ghost use Rattle.words.specs.Tests.{when};
 ghost use Rattle.words.specs.Word.{Within};
 ghost use Rattle.words.specs.Outcome.{measured};

@@ -1,5 +1,5 @@
 // The index beside a recording: started, grown, and jumped by.
-ghost use Rattle.words.specs.Kit.{◌≡◌};
+ghost use Rattle.std.specs.Prelude.{◌≡◌};
 ghost use Rattle.index.specs.Start.{start_index_of};
 ghost use Rattle.index_grow.specs.declared.Taken.TheVariants.{Declared, Undeclared};
 ghost use Rattle.index_grow.specs.Grow.{grow_told};

@@ -1,5 +1,5 @@
 // Packets, trailers and the fields of a body.
-ghost use Rattle.words.specs.Kit.{◌≡◌, ◌+◌, ◌^◌, ◌≤◌, ◌<◌, length};
+ghost use Rattle.std.specs.Prelude.{◌≡◌, ◌+◌, ◌^◌, ◌≤◌, ◌<◌, length};
 ghost use Rattle.words.specs.Outcome.{accepted, checked, measured, Meets};
 ghost use Rattle.fields.specs.Layout.{field_count, found_of, context_of};
 ghost use Rattle.packet.specs.Told.{read_told, survey_told};

@@ -1,6 +1,5 @@
 // What the panel shows of a stream's fields, one by one and all at once, and their held words.
-ghost use Rattle.std.specs.Prelude.{replicate};
-ghost use Rattle.words.specs.Kit.{◌≡◌, ◌++◌, ◌+◌, ◌-◌, ◌*◌, ◌<◌, take};
+ghost use Rattle.std.specs.Prelude.{replicate, ◌≡◌, ◌++◌, ◌+◌, ◌-◌, ◌*◌, ◌<◌, take};
 ghost use Rattle.record.specs.Held.{slot_at};
 ghost use Rattle.table.specs.Layout.{Has, record_at};
 ghost use Rattle.panel.specs.Readings.{absent, reading_of, reading_paper};

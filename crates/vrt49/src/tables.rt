@@ -1,5 +1,5 @@
 // Tables of streams: started, tested, and played on.
-ghost use Rattle.words.specs.Kit.{◌≡◌, ◌^◌, ◌≤◌, ◌<◌};
+ghost use Rattle.std.specs.Prelude.{◌≡◌, ◌^◌, ◌≤◌, ◌<◌};
 ghost use Rattle.words.specs.Tests.{when};
 ghost use Rattle.table.specs.Start.{start_of};
 ghost use Rattle.table.specs.Well.{well_made};

@@ -1,5 +1,5 @@
 -- A test at every number below a bound: what each loop that checks says, and each that looks for something.
-use Rattle.words.specs.Kit.{ℕ, zero, suc, Bool, true, List, eqb, ltb, get_or}
+use Rattle.std.specs.Prelude.{ℕ, zero, suc, Bool, true, List, eqb, ltb, get_or}
 use Rattle.words.specs.Tests.{pick, both}
 
 -- f passes at each number below n

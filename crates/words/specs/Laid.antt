@@ -1,5 +1,5 @@
 -- Words laid into a list one after the other: what every writer of words promises.
-use Rattle.words.specs.Kit.{◌≡◌, List, ℕ, ◌+◌, length}
+use Rattle.std.specs.Prelude.{◌≡◌, List, ℕ, ◌+◌, length}
 use Rattle.std.proofs.lemmas.List.Edits.{sets}
 
 -- the words ws are stored in the list `before` from the place at: `next` is the place past them, and `after` the list afterwards

@@ -1,7 +1,5 @@
 -- What every crate above speaks with, in reading order.
 
--- the names of the kit that definitions speak with, passed on
-pub mod Kit
 -- the refusal numbers of document 01
 pub mod Numbers
 -- tests, and the value that a test picks

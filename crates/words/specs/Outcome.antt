@@ -1,5 +1,5 @@
 -- What a call answers, as document 01 has it: "A refusal returns its number alone and writes nothing".
-use Rattle.words.specs.Kit.{◌≡◌, ℕ}
+use Rattle.std.specs.Prelude.{◌≡◌, ℕ}
 use Rattle.words.specs.declared.Check.{Check}
 use Rattle.words.specs.declared.Check.TheVariants.{Fine, Refused}
 use Rattle.words.specs.declared.Length.{Length}

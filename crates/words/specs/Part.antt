@@ -1,5 +1,5 @@
 -- A part of a list, and a list with a part replaced. Both are shut: the laws in proofs/PartLaws.antt say all that callers use.
-use Rattle.words.specs.Kit.{ℕ, List, ◌++◌, take, drop}
+use Rattle.std.specs.Prelude.{ℕ, List, ◌++◌, take, drop}
 
 -- the n words from word a on
 unfoldable pub part : ℕ → ℕ → List ℕ → List ℕ

@@ -1,5 +1,5 @@
 -- Numbered pieces, one after the other: the bodies of a page, the pairs of its contents, the records of a table.
-use Rattle.words.specs.Kit.{ℕ, zero, suc, List, [], ◌++◌}
+use Rattle.std.specs.Prelude.{ℕ, zero, suc, List, [], ◌++◌}
 
 -- the pieces of numbers 0 to n - 1
 unfoldable pub pieces : ℕ → (ℕ → List ℕ) → List ℕ

@@ -1,5 +1,5 @@
 -- Document 01, 'Numbers given back': "The first that applies is given, in these orders."
-use Rattle.words.specs.Kit.{ℕ, Bool, List, [], ◌∷◌}
+use Rattle.std.specs.Prelude.{ℕ, Bool, List, [], ◌∷◌}
 use Rattle.words.specs.Tests.{pick, both}
 use Rattle.words.specs.Outcome.{Reply, refused}
 

@@ -1,6 +1,5 @@
 -- Two's complement: numbers of w bits whose first bit is a sign.
-use Rattle.words.specs.Kit.{ℕ, ◌-◌, ◌^◌, ltb}
-use Rattle.std.specs.Prelude.{ℤ, pos}
+use Rattle.std.specs.Prelude.{ℕ, ◌-◌, ◌^◌, ltb, ℤ, pos}
 use Rattle.std.proofs.Math.IntN.{sub_ℕ}
 use Rattle.words.specs.Tests.{pick}
 

@@ -1,5 +1,5 @@
 -- Tests, and the value that a test picks.
-use Rattle.words.specs.Kit.{ℕ, Bool, true, false, List, [], ◌∷◌, eqb}
+use Rattle.std.specs.Prelude.{ℕ, Bool, true, false, List, [], ◌∷◌, eqb}
 
 -- the first where the test holds, and else the second
 abbrev pub pick : {A : Type 0} → Bool → A → A → A

@@ -1,6 +1,6 @@
 -- Document 02, C-15: "Every reading refusal is to carry the word place from the packet's start, and FIELD also the field bit." Where that is follows from the
 -- number and the words.
-use Rattle.words.specs.Kit.{ℕ, ◌+◌, [], ◌∷◌}
+use Rattle.std.specs.Prelude.{ℕ, ◌+◌, [], ◌∷◌}
 use Rattle.words.specs.Outcome.{Outcome, Reply, refused, accepted}
 use Rattle.words.specs.Refusals.{Refusals, RefusalsOf}
 use Rattle.words.specs.declared.Where.{Where}

@@ -1,5 +1,5 @@
 -- A word of 32 bits, in the two ways that document 01 speaks of one: by the numbers of its bits, and as fields beside each other.
-use Rattle.words.specs.Kit.{ℕ, zero, suc, ◌+◌, ◌-◌, ◌*◌, ◌/◌, ◌%◌, ◌^◌, ◌<◌, Bool, List, [], ◌∷◌, eqb}
+use Rattle.std.specs.Prelude.{ℕ, zero, suc, ◌+◌, ◌-◌, ◌*◌, ◌/◌, ◌%◌, ◌^◌, ◌<◌, Bool, List, [], ◌∷◌, eqb}
 use Rattle.words.specs.Tests.{when}
 
 -- ---- by the numbers of its bits

@@ -1,7 +1,7 @@
 -- An accumulator of bits: its last `have` bits are held, and what stands above them is never looked at. Unpacking takes bits from the left of those
 -- that are held, and adds a word's bits behind them when there are too few; packing adds a field's bits behind them, and writes a word when there are
 -- enough.
-use Rattle.words.specs.Kit.{◌≡◌, List, ℕ, ◌+◌, ◌-◌, ◌*◌, ◌/◌, ◌%◌, ◌^◌, ◌≤◌, ◌<◌, length, set}
+use Rattle.std.specs.Prelude.{◌≡◌, List, ℕ, ◌+◌, ◌-◌, ◌*◌, ◌/◌, ◌%◌, ◌^◌, ◌≤◌, ◌<◌, length, set}
 use Rattle.bitstream.specs.Stream.{span}
 use Rattle.bitstream.specs.Carried.{stream_bits, word_of}
 use Rattle.bitstream.specs.Filled.{filled}

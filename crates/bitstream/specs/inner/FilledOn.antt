@@ -1,5 +1,5 @@
 -- What a loop promises that fills the places from a on, where another has filled those before.
-use Rattle.words.specs.Kit.{◌≡◌, ℕ, ◌≤◌, List, length}
+use Rattle.std.specs.Prelude.{◌≡◌, ℕ, ◌≤◌, List, length}
 use Rattle.bitstream.specs.Filled.{filled}
 
 -- l has `h 0` to `h (a - 1)` in its first places, and l' then has `h 0` to `h (n - 1)`, both before what else stood in the buffer

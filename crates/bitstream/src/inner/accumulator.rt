@@ -1,5 +1,5 @@
 // An accumulator of bits: fields taken from words, and words made of fields.
-ghost use Rattle.words.specs.Kit.{◌≡◌, ◌+◌, ◌^◌, ◌≤◌, ◌<◌, length};
+ghost use Rattle.std.specs.Prelude.{◌≡◌, ◌+◌, ◌^◌, ◌≤◌, ◌<◌, length};
 ghost use Rattle.bitstream.specs.Carried.{stream_bits};
 ghost use Rattle.bitstream.specs.inner.Accumulator.{empty_but, Takeable, Refilled, Took, FieldTakeable, Pushable, Pushed, FieldPushable, Finished};
 

@@ -1,6 +1,6 @@
 -- Document 01, "Words for each bit": the rows of fixed size as groups of bits, each group a number that has the bits of its row. That they are the rows says
 -- the law `size_grouped` of `proofs/SizeLaws.antt`, by one test that computes.
-use Rattle.words.specs.Kit.{ℕ}
+use Rattle.std.specs.Prelude.{ℕ}
 
 -- "30, 24, 23, 22, 19, 18, 16, 10": 1 word
 abbrev pub one_word : ℕ

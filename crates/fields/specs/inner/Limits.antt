@@ -1,6 +1,6 @@
 -- The field rules as the program asks them: whether a field has a rule, a limit of its first word, and what else the rule says of its first two words.
 -- That these are document 01's rules say the laws `unruled_kept` and `rule_limit` of `proofs/RuleLaws.antt`.
-use Rattle.words.specs.Kit.{ℕ, ◌^◌, Bool, true, List, [], ◌∷◌, ◌++◌, eqb, ltb}
+use Rattle.std.specs.Prelude.{ℕ, ◌^◌, Bool, true, List, [], ◌∷◌, ◌++◌, eqb, ltb}
 use Rattle.words.specs.Tests.{pick, among}
 use Rattle.words.specs.Word.{bits}
 use Rattle.fields.specs.Format.{format_ok}

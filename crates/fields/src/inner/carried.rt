@@ -1,5 +1,5 @@
 // The fields that an indicator carries, one after the other.
-ghost use Rattle.words.specs.Kit.{◌≡◌, ◌∷◌, ◌<◌};
+ghost use Rattle.std.specs.Prelude.{◌≡◌, ◌∷◌, ◌<◌};
 ghost use Rattle.words.specs.SetBits.{bits_of};
 
 // A bit, and the bits after it.

@@ -1,6 +1,6 @@
 // The highest field of a body that breaks its rule. It is sought where a packet is refused, and not on the way of one that is accepted: a field that has a
 // rule is asked through `rules_kept`, which is a function of its own in any case, so that accepted packets pay for no other call.
-ghost use Rattle.words.specs.Kit.{◌≡◌, ◌^◌, ◌<◌, drop};
+ghost use Rattle.std.specs.Prelude.{◌≡◌, ◌^◌, ◌<◌, drop};
 ghost use Rattle.words.specs.Told.{place_word};
 ghost use Rattle.fields.specs.Rules.{rule_of};
 ghost use Rattle.fields.specs.Broken.{broken_of};

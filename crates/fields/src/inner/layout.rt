@@ -1,5 +1,5 @@
 // Where the fields of a body end, and whether they obey their rules.
-ghost use Rattle.words.specs.Kit.{◌≡◌, true, false, suc, ◌^◌, ◌+◌, ◌≤◌, ◌<◌, drop};
+ghost use Rattle.std.specs.Prelude.{◌≡◌, true, false, suc, ◌^◌, ◌+◌, ◌≤◌, ◌<◌, drop};
 ghost use Rattle.words.specs.Tests.{pick, when};
 ghost use Rattle.words.specs.Word.{has};
 ghost use Rattle.words.specs.SetBits.{bits_of, above};

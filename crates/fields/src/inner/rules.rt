@@ -1,5 +1,5 @@
 // The field rules. A rule looks at the first two words of its field at most, which are handed on as numbers: a slice that is lent in a loop is kept in memory.
-ghost use Rattle.words.specs.Kit.{◌≡◌, [], ◌∷◌, ◌^◌, ◌<◌, drop};
+ghost use Rattle.std.specs.Prelude.{◌≡◌, [], ◌∷◌, ◌^◌, ◌<◌, drop};
 ghost use Rattle.fields.specs.Rules.{state_rule, lists_rule, rule_of};
 ghost use Rattle.fields.specs.inner.Limits.{ruled, limit_of, first_ok, device_second, more_ok};
 

@@ -1,5 +1,5 @@
 // How many words the fields of indicator bits take: those of fixed size by the groups of document 01, and the two that say their own size.
-ghost use Rattle.words.specs.Kit.{◌≡◌, [], ◌∷◌, ◌+◌, ◌^◌, ◌≤◌, ◌<◌, length, drop};
+ghost use Rattle.std.specs.Prelude.{◌≡◌, [], ◌∷◌, ◌+◌, ◌^◌, ◌≤◌, ◌<◌, length, drop};
 ghost use Rattle.std.specs.Int.Bits.{bit_and};
 ghost use Rattle.words.specs.SetBits.{bits_of};
 ghost use Rattle.fields.specs.inner.Groups.{two_words, from_fifteen};

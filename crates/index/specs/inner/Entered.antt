@@ -1,5 +1,5 @@
 -- A table's page, saved into an index at an offset: TABLE, and ROOM where it does not fit.
-use Rattle.words.specs.Kit.{ℕ, ◌+◌, not, List, [], ◌∷◌, ltb, length}
+use Rattle.std.specs.Prelude.{ℕ, ◌+◌, not, List, [], ◌∷◌, ltb, length}
 use Rattle.words.specs.Numbers.{TABLE, ROOM}
 use Rattle.words.specs.Part.{put}
 use Rattle.words.specs.Outcome.{Outcome, accepted, Done}

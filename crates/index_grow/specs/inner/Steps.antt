@@ -1,5 +1,5 @@
 -- What the functions inside promise of a packet that is taken in, on a table and an index that are known to be well made.
-use Rattle.words.specs.Kit.{◌≡◌, ℕ, ◌+◌, ◌*◌, ◌^◌, Bool, true, false, not, List, ltb, leb, length, take}
+use Rattle.std.specs.Prelude.{◌≡◌, ℕ, ◌+◌, ◌*◌, ◌^◌, Bool, true, false, not, List, ltb, leb, length, take}
 use Rattle.words.specs.Tests.{pick, both}
 use Rattle.words.specs.Outcome.{refused, accepted, said_of, left_of}
 use Rattle.words.specs.Told.{Told}

@@ -1,5 +1,5 @@
 -- What the functions inside promise: of packets that are walked over, and of a landing in words of its own.
-use Rattle.words.specs.Kit.{◌≡◌, ℕ, ◌+◌, ◌≤◌, true, not, List, [], ◌∷◌, take}
+use Rattle.std.specs.Prelude.{◌≡◌, ℕ, ◌+◌, ◌≤◌, true, not, List, [], ◌∷◌, take}
 use Rattle.words.specs.Numbers.{PAGE}
 use Rattle.words.specs.declared.Length.{Length}
 use Rattle.words.specs.Outcome.{Outcome, accepted, measured}

@@ -1,5 +1,5 @@
 -- What each step of reading finds. That the steps, one after the other, find what reading answers says `proofs/FrontLaws.antt`.
-use Rattle.words.specs.Kit.{◌≡◌, ℕ, ◌^◌, ◌≤◌, ◌<◌, Bool, true, List, [], ◌∷◌, ◌++◌, length, get_or}
+use Rattle.std.specs.Prelude.{◌≡◌, ℕ, ◌^◌, ◌≤◌, ◌<◌, Bool, true, List, [], ◌∷◌, ◌++◌, length, get_or}
 use Rattle.words.specs.Numbers.{FIELD, PAD}
 use Rattle.words.specs.Outcome.{Outcome, accepted}
 use Rattle.words.specs.Refusals.{Refusals, first_given, only_where}

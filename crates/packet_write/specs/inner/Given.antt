@@ -1,5 +1,5 @@
 -- What the functions inside are given: the parts of a packet as fifteen words, and its header word.
-use Rattle.words.specs.Kit.{ℕ, ◌+◌, ◌≡◌, ◌≤◌, ◌<◌, true, List, length}
+use Rattle.std.specs.Prelude.{ℕ, ◌+◌, ◌≡◌, ◌≤◌, ◌<◌, true, List, length}
 use Rattle.packet.specs.Header.{classed, trailed}
 use Rattle.packet.specs.declared.Parts.{Parts}
 use Rattle.packet_write.specs.AsWords.{parts_in}

@@ -1,5 +1,5 @@
 -- What each step of writing finds, where 49A is chosen with a pad count, or is not.
-use Rattle.words.specs.Kit.{ℕ, Bool, not, List, [], ◌∷◌, ◌++◌, ltb, length}
+use Rattle.std.specs.Prelude.{ℕ, Bool, not, List, [], ◌∷◌, ◌++◌, ltb, length}
 use Rattle.words.specs.Numbers.{TYPE, VALUE}
 use Rattle.words.specs.Outcome.{Outcome, accepted}
 use Rattle.words.specs.Refusals.{Refusals, first_given, only_where}

@@ -1,6 +1,6 @@
 -- The held words of a part of the bits: those from `first` down to the one above `past`. The parts one after the other are all held words (`held_parts`,
 -- proofs/SqueezeLaws.antt).
-use Rattle.words.specs.Kit.{ℕ, suc, List}
+use Rattle.std.specs.Prelude.{ℕ, suc, List}
 use Rattle.words.specs.SetBits.{bits_of, above}
 use Rattle.record.specs.Held.{in_order}
 use Rattle.record.specs.Layout.{slot_in}

@@ -1,6 +1,6 @@
 -- The tests that a program makes of a page: its contents, its list, and each body's record. That they pass exactly the well-made pages is `page_tested`
 -- (proofs/Exact.antt); no promise of a public call speaks of them.
-use Rattle.words.specs.Kit.{◌≡◌, ℕ, ◌+◌, ◌≤◌, ◌<◌, Bool, true, List, eqb, leb, length, get_or}
+use Rattle.std.specs.Prelude.{◌≡◌, ℕ, ◌+◌, ◌≤◌, ◌<◌, Bool, true, List, eqb, leb, length, get_or}
 use Rattle.words.specs.Tests.{pick, both}
 use Rattle.words.specs.Word.{has}
 use Rattle.words.specs.SetBits.{bits_of, above}

@@ -1,5 +1,5 @@
 -- What is asked before a reading: TABLE, STREAM and VALUE; and VALUE alone.
-use Rattle.words.specs.Kit.{ℕ, List}
+use Rattle.std.specs.Prelude.{ℕ, List}
 use Rattle.words.specs.Outcome.{Outcome, accepted}
 use Rattle.words.specs.Refusals.{first_given}
 use Rattle.panel.specs.Readings.{bit_list, reading_list}

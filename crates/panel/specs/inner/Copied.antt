@@ -1,5 +1,5 @@
 -- Held words copied to a buffer: ROOM, or how many they are.
-use Rattle.words.specs.Kit.{ℕ, List, ◌++◌, length, drop}
+use Rattle.std.specs.Prelude.{ℕ, List, ◌++◌, length, drop}
 use Rattle.words.specs.Outcome.{Outcome, accepted, Done}
 use Rattle.words.specs.Refusals.{first_given}
 use Rattle.panel.specs.HeldWords.{copy_list}

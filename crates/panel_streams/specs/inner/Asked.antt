@@ -1,5 +1,5 @@
 -- What is asked of the record of a stream, its own refusals first; and what is asked before two records are held against each other.
-use Rattle.words.specs.Kit.{ℕ, List}
+use Rattle.std.specs.Prelude.{ℕ, List}
 use Rattle.words.specs.Outcome.{Outcome, accepted, Done}
 use Rattle.words.specs.Refusals.{first_given}
 use Rattle.panel_streams.specs.TypeCounts.{Count, type_list, type_count_in}

@@ -1,5 +1,5 @@
 -- What the checks inside answer.
-use Rattle.words.specs.Kit.{ℕ}
+use Rattle.std.specs.Prelude.{ℕ}
 use Rattle.words.specs.Outcome.{Outcome, accepted}
 use Rattle.words.specs.Refusals.{first_given}
 use Rattle.payload_format.specs.Count.{needed_list}

@@ -1,5 +1,5 @@
 -- The sizes of a packing that FORMAT does not refuse; the law `legal` of `proofs/FormatLaws.antt` says so.
-use Rattle.words.specs.Kit.{◌≡◌, ◌+◌, ◌≤◌, ◌<◌}
+use Rattle.std.specs.Prelude.{◌≡◌, ◌+◌, ◌≤◌, ◌<◌}
 use Rattle.payload_format.specs.declared.inner.Packing.{Packing}
 
 -- what is known of the sizes where FORMAT is not given

@@ -1,5 +1,5 @@
 -- The bits that any number of a list has, by which packing tests at once whether all fit; the law `fitting_joined` of `proofs/FitLaws.antt` says so.
-use Rattle.words.specs.Kit.{ℕ, zero, suc, List, get_or}
+use Rattle.std.specs.Prelude.{ℕ, zero, suc, List, get_or}
 use Rattle.std.specs.Int.Bits.{bit_or}
 
 -- of its first n numbers

@@ -1,5 +1,5 @@
 -- What the functions inside are given, and what their checks answer.
-use Rattle.words.specs.Kit.{◌≡◌, ℕ, ◌^◌, ◌≤◌, ◌<◌, List, length, get_or}
+use Rattle.std.specs.Prelude.{◌≡◌, ℕ, ◌^◌, ◌≤◌, ◌<◌, List, length, get_or}
 use Rattle.words.specs.Outcome.{Outcome, accepted}
 use Rattle.words.specs.Refusals.{first_given}
 use Rattle.bitstream.specs.Carried.{needed}

@@ -1,5 +1,5 @@
 -- What the functions inside are given, what their checks answer, and what a loop that goes on promises.
-use Rattle.words.specs.Kit.{◌≡◌, ℕ, ◌+◌, ◌*◌, ◌≤◌, ◌<◌, not, List, [], ◌∷◌, eqb, ltb, length}
+use Rattle.std.specs.Prelude.{◌≡◌, ℕ, ◌+◌, ◌*◌, ◌≤◌, ◌<◌, not, List, [], ◌∷◌, eqb, ltb, length}
 use Rattle.words.specs.Numbers.{COUNT, ROOM}
 use Rattle.words.specs.Tests.{either}
 use Rattle.words.specs.Outcome.{Outcome, accepted}

@@ -1,5 +1,5 @@
 -- What the functions inside promise of one packet: its header, its stream, what hearing it leaves, and its entry, which is what play says of it as numbers.
-use Rattle.words.specs.Kit.{◌≡◌, ℕ, Bool, List, [], ◌∷◌, eqb, leb, get_or}
+use Rattle.std.specs.Prelude.{◌≡◌, ℕ, Bool, List, [], ◌∷◌, eqb, leb, get_or}
 use Rattle.words.specs.declared.Where.TheVariants.{Word, Field}
 use Rattle.words.specs.Numbers.{FIELD, STREAM}
 use Rattle.words.specs.Tests.{pick, when}

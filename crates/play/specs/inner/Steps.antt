@@ -1,5 +1,5 @@
 -- What the steps of playing find: whether the table is well made, and the stream of a packet.
-use Rattle.words.specs.Kit.{ℕ, List}
+use Rattle.std.specs.Prelude.{ℕ, List}
 use Rattle.words.specs.Outcome.{Outcome, refused, accepted}
 use Rattle.words.specs.Refusals.{first_given}
 use Rattle.table.specs.Identifiers.{stream_of}

@@ -1,5 +1,5 @@
 -- The slots of some bits one after the other, which are tested together. All of them are what a good record is asked (`good_parts`, proofs/GoodLaws.antt).
-use Rattle.words.specs.Kit.{ℕ, suc, Bool, List, leb}
+use Rattle.std.specs.Prelude.{ℕ, suc, Bool, List, leb}
 use Rattle.words.specs.Tests.{either}
 use Rattle.words.specs.All.{all}
 use Rattle.record.specs.Good.{slot_good}

@@ -1,6 +1,6 @@
 -- Fields put into their slots by parts of the bits: those from `first` down to the one above `past`. A part and the next below it are one part together
 -- (`filled_then`, proofs/HoldLaws.antt), and the part of all bits that have a slot is `refilled` (`filled_all`).
-use Rattle.words.specs.Kit.{◌≡◌, ℕ, suc, ◌+◌, ◌≤◌, ◌<◌, true, List, length}
+use Rattle.std.specs.Prelude.{◌≡◌, ℕ, suc, ◌+◌, ◌≤◌, ◌<◌, true, List, length}
 use Rattle.words.specs.Tests.{pick}
 use Rattle.words.specs.Word.{has}
 use Rattle.words.specs.Part.{part}

@@ -1,6 +1,6 @@
 -- The words before the slots, which a record and its body in a page have alike. They and the slots are what a good record is asked (`head_slots`,
 -- proofs/GoodLaws.antt).
-use Rattle.words.specs.Kit.{Bool, List, ℕ}
+use Rattle.std.specs.Prelude.{Bool, List, ℕ}
 use Rattle.words.specs.Tests.{both}
 use Rattle.words.specs.All.{all}
 use Rattle.record.specs.Layout.{held_of, choice_of, count_words, last_of}

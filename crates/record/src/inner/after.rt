@@ -1,5 +1,5 @@
 // A record after an accepted packet.
-ghost use Rattle.words.specs.Kit.{◌≡◌, true, [], ◌∷◌, ◌<◌, length};
+ghost use Rattle.std.specs.Prelude.{◌≡◌, true, [], ◌∷◌, ◌<◌, length};
 ghost use Rattle.words.specs.Tests.{among};
 ghost use Rattle.words.specs.Outcome.{accepted};
 ghost use Rattle.fields.specs.Layout.{context_of};

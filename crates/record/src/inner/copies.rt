@@ -1,5 +1,5 @@
 // The words of a field, copied into its slot. A field has 1, 2, 11 or 13 words, so that no copy needs a loop.
-ghost use Rattle.words.specs.Kit.{◌≡◌, true, [], ◌∷◌, ◌+◌, ◌≤◌, length};
+ghost use Rattle.std.specs.Prelude.{◌≡◌, true, [], ◌∷◌, ◌+◌, ◌≤◌, length};
 ghost use Rattle.words.specs.Tests.{among};
 ghost use Rattle.words.specs.Part.{part, put};
 

@@ -1,5 +1,5 @@
 // The counts of a record, one for each of types 1, 3, 4 and 5.
-ghost use Rattle.words.specs.Kit.{◌≡◌, true, ◌+◌, ◌*◌, ◌≤◌, ◌<◌, length};
+ghost use Rattle.std.specs.Prelude.{◌≡◌, true, ◌+◌, ◌*◌, ◌≤◌, ◌<◌, length};
 ghost use Rattle.words.specs.Tests.{among};
 ghost use Rattle.record.specs.Layout.{record_words, counted_types, order_of, count_at, count_words, last_of};
 ghost use Rattle.record.specs.Counts.{added_of, counted_of, count_record, added_to};

@@ -1,5 +1,5 @@
 // Whether a record is good: a function for each rule, with one loop at most.
-ghost use Rattle.words.specs.Kit.{◌≡◌, true, [], ◌∷◌, ◌+◌, ◌≤◌, ◌<◌, length};
+ghost use Rattle.std.specs.Prelude.{◌≡◌, true, [], ◌∷◌, ◌+◌, ◌≤◌, ◌<◌, length};
 ghost use Rattle.words.specs.Tests.{among};
 ghost use Rattle.words.specs.Part.{part};
 ghost use Rattle.words.specs.All.{all};

@@ -1,6 +1,5 @@
 // The fields that a record holds, each in its slot.
-ghost use Rattle.std.specs.Prelude.{bit_and};
-ghost use Rattle.words.specs.Kit.{◌≡◌, suc, ◌+◌, ◌≤◌, ◌<◌, length};
+ghost use Rattle.std.specs.Prelude.{bit_and, ◌≡◌, suc, ◌+◌, ◌≤◌, ◌<◌, length};
 ghost use Rattle.words.specs.Outcome.{accepted};
 ghost use Rattle.words.specs.SetBits.{bits_of, above};
 ghost use Rattle.fields.specs.Sizes.{sizes_of};

@@ -1,5 +1,5 @@
 // What is held of a state word, field 16: the user bits, and of each of the six persistent indicators its enable and its value.
-ghost use Rattle.words.specs.Kit.{◌≡◌};
+ghost use Rattle.std.specs.Prelude.{◌≡◌};
 ghost use Rattle.words.specs.Word.{marked};
 ghost use Rattle.record.specs.State.{spoken, state_after, state_good};
 

@@ -1,5 +1,5 @@
 -- What is asked before a stream is looked at: TABLE and STREAM.
-use Rattle.words.specs.Kit.{ℕ, List}
+use Rattle.std.specs.Prelude.{ℕ, List}
 use Rattle.words.specs.Outcome.{Outcome, accepted}
 use Rattle.words.specs.Refusals.{first_given}
 use Rattle.table.specs.Stream.{stream_number_list}

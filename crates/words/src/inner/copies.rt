@@ -1,5 +1,5 @@
 // Copies of words: any number of them by a loop, and a few without one.
-ghost use Rattle.words.specs.Kit.{◌≡◌, ◌+◌, ◌≤◌, length, take};
+ghost use Rattle.std.specs.Prelude.{◌≡◌, ◌+◌, ◌≤◌, length, take};
 ghost use Rattle.words.specs.Part.{part, put};
 
 // All of dst, from the front of src.

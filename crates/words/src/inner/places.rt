@@ -1,5 +1,5 @@
 // Where a packet is refused, as numbers.
-ghost use Rattle.words.specs.Kit.{◌≡◌};
+ghost use Rattle.std.specs.Prelude.{◌≡◌};
 ghost use Rattle.words.specs.Told.{place_word, place_bit};
 
 // The word, and 0 where none is told.

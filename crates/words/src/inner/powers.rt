@@ -1,5 +1,5 @@
 // Powers of two, and the low bits of a number.
-ghost use Rattle.words.specs.Kit.{◌≡◌, ◌+◌, ◌%◌, ◌^◌, ◌≤◌, ◌<◌};
+ghost use Rattle.std.specs.Prelude.{◌≡◌, ◌+◌, ◌%◌, ◌^◌, ◌≤◌, ◌<◌};
 
 // A power of two.
 pub fn power(n: usize) -> u64

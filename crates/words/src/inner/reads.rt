@@ -1,5 +1,5 @@
 // Words read: the one at a place, and two as one number.
-ghost use Rattle.words.specs.Kit.{◌≡◌, ◌<◌, length, get_or};
+ghost use Rattle.std.specs.Prelude.{◌≡◌, ◌<◌, length, get_or};
 ghost use Rattle.words.specs.Word.{high_first};
 
 // The word at a place, and 0 past the end.

@@ -1,5 +1,5 @@
 // Tests: what holds where one does, and where two do.
-ghost use Rattle.words.specs.Kit.{◌≡◌, ◌≤◌};
+ghost use Rattle.std.specs.Prelude.{◌≡◌, ◌≤◌};
 ghost use Rattle.words.specs.Tests.{when, both};
 
 // The number where the test holds, and else 0.
