@@ -69,8 +69,8 @@ pub fn body_length(w: u32) -> usize
 
 // All parts beside the body; high and low are the class's words.
 pub fn parts_of(w: u32, high: u32, low: u32, ws: &[u32]) -> crate::Parts
-    requires w_bound { (required_of w ≤ size_of w) × (size_of w ≤ length ws.now) × (reserved_of w ≡ 0) }
-    requires high_value { (high ≡ class_high w ws.now) × (low ≡ class_low w ws.now) }
+    requires packet_whole { (required_of w ≤ size_of w) × (size_of w ≤ length ws.now) × (reserved_of w ≡ 0) }
+    requires class_words { (high ≡ class_high w ws.now) × (low ≡ class_low w ws.now) }
     ensures { result ≡ parts_of w ws.now }
 {
     crate::Parts {
@@ -101,8 +101,8 @@ pub fn parts_of(w: u32, high: u32, low: u32, ws: &[u32]) -> crate::Parts
 
 // The packet that was read; high and low are the class's words.
 pub fn packet_of(w: u32, high: u32, low: u32, ws: &[u32]) -> crate::Packet
-    requires w_bound { (required_of w ≤ size_of w) × (size_of w ≤ length ws.now) × (reserved_of w ≡ 0) }
-    requires high_value { (high ≡ class_high w ws.now) × (low ≡ class_low w ws.now) }
+    requires packet_whole { (required_of w ≤ size_of w) × (size_of w ≤ length ws.now) × (reserved_of w ≡ 0) }
+    requires class_words { (high ≡ class_high w ws.now) × (low ≡ class_low w ws.now) }
     ensures { result ≡ packet_of w ws.now }
 {
     let place = crate::header::body_at(w);

@@ -19,8 +19,8 @@ pub fn is_governed(ws: &[u32]) -> bool
 
 // A packet that 49A governs, with a payload of so many words, and what its class, of the words high and low, says of it: the packet is not PAD.
 fn survey_of(w: u32, high: u32, low: u32, payload: usize, ws: &[u32]) -> crate::Survey
-    requires w_bound { (required_of w ≤ size_of w) × (size_of w ≤ length ws.now) × (reserved_of w ≡ 0) × (type_of w ≡ 1) × (payload_checks w high low ≡ accepted tt) }
-    requires high_value { (high ≡ class_high w ws.now) × (low ≡ class_low w ws.now) × (payload ≡ body_length w) × (payload < 2 ^ 16) }
+    requires survey_packet { (required_of w ≤ size_of w) × (size_of w ≤ length ws.now) × (reserved_of w ≡ 0) × (type_of w ≡ 1) × (payload_checks w high low ≡ accepted tt) }
+    requires class_and_payload { (high ≡ class_high w ws.now) × (low ≡ class_low w ws.now) × (payload ≡ body_length w) × (payload < 2 ^ 16) }
     ensures { result ≡ survey_of w ws.now }
 {
     let packet = crate::Packet {

@@ -94,9 +94,9 @@ fn short_or_time(kind: u32, n: usize) -> u32
 // SHORT, SIZE, TIME, INDICATOR, LAYOUT and FIELD, of a packet of a size. SHORT is asked late, so that it costs nothing where the type is not 4: a packet that
 // is SHORT is not SIZE, and where TIME is found, SHORT comes first.
 pub fn check_content(q: &[u32], body: &[u32], size: usize) -> words::Check
-    requires q_len { length q.now ≡ 15 }
-    requires size_value { (size ≡ size_for (parts_in q.now) (length body.now)) × (size ≤ length body.now + 8) }
-    requires q_value { type_of (header_word (parts_in q.now) 0) ≡ (parts_in q.now).kind }
+    requires parts_given { length q.now ≡ 15 }
+    requires size_told { (size ≡ size_for (parts_in q.now) (length body.now)) × (size ≤ length body.now + 8) }
+    requires type_kept { type_of (header_word (parts_in q.now) 0) ≡ (parts_in q.now).kind }
     ensures { checked result ≡ content_checks (parts_in q.now) body.now }
 {
     if 65535 < size {

@@ -23,8 +23,8 @@ pub fn header_word(q: &[u32]) -> u32
 
 // The words of a packet whose body has n; w is its header word but for its size.
 pub fn size_for(w: u32, q: &[u32], n: usize) -> usize
-    requires q_len { (length q.now ≡ 15) × ((parts_in q.now).kind < 6) × (parts_fit (parts_in q.now) ≡ true) }
-    requires w_value { (w ≡ header_word (parts_in q.now) 0) × (n < 2 ^ 62) }
+    requires parts_given { (length q.now ≡ 15) × ((parts_in q.now).kind < 6) × (parts_fit (parts_in q.now) ≡ true) }
+    requires header_given { (w ≡ header_word (parts_in q.now) 0) × (n < 2 ^ 62) }
     ensures { (result ≡ size_for (parts_in q.now) n) × (1 ≤ result) × (result ≤ n + 8) }
 {
     packet::inner::body_at(w) + n + words::inner::when_so(q[parts::TRAILED] % 2 == 1, 1)
@@ -153,8 +153,8 @@ fn lay_trailer(w: u32, q: &[u32], out: &mut [u32]) -> usize
 
 // The three in turn, each lent the part of the buffer that is left, from a place on.
 fn lay_parts(w: u32, pad: u32, q: &[u32], body: &[u32], out: &mut [u32], at: usize) -> usize
-    requires header_for { HeaderFor w q.now × (classed w ≡ true → pad < 32) }
-    requires q_in_bounds { at + (length (prologue_words pad w (parts_in q.now)) + length body.now + length (trailer_words w (parts_in q.now))) ≤ length out.old }
+    requires header_given { HeaderFor w q.now × (classed w ≡ true → pad < 32) }
+    requires room_left { at + (length (prologue_words pad w (parts_in q.now)) + length body.now + length (trailer_words w (parts_in q.now))) ≤ length out.old }
     ensures { Laid out.old at (prologue_words pad w (parts_in q.now) ++ body.now ++ trailer_words w (parts_in q.now)) result out.new }
 {
     let a = at + lay_prologue(w, pad, q, &mut out[at..]);
@@ -164,8 +164,8 @@ fn lay_parts(w: u32, pad: u32, q: &[u32], body: &[u32], out: &mut [u32], at: usi
 
 // A packet that nothing refuses, at its place; w is its header word but for its size.
 pub fn lay(w: u32, size: usize, pad: u32, q: &[u32], body: &[u32], out: &mut [u32], at: usize)
-    requires q_len { (length q.now ≡ 15) × Layable pad (parts_in q.now) body.now (length out.old) at }
-    requires w_value { (w ≡ header_word (parts_in q.now) 0) × (size ≡ size_for (parts_in q.now) (length body.now)) }
+    requires parts_given { (length q.now ≡ 15) × Layable pad (parts_in q.now) body.now (length out.old) at }
+    requires header_given { (w ≡ header_word (parts_in q.now) 0) × (size ≡ size_for (parts_in q.now) (length body.now)) }
     ensures { out.new ≡ take at out.old ++ packet_words pad (parts_in q.now) body.now ++ drop (at + size) out.old }
 {
     lay_parts(w + size as u32, pad, q, body, out, at);

@@ -56,8 +56,8 @@ fn entry_heard(w: u32, s: usize, missing: u32) -> Entry
 
 // The entry of a packet of stream s, of a type other than 4, whose header and size are right, where 49A is chosen for the stream.
 fn enter_survey(table: &mut [u32], given: &[u32], w: u32, s: usize) -> Entry
-    requires table_value { (well_made table.old ≡ true) × Sized w given.now × (type_of w ≡ 4 → ⊥) }
-    requires table_value_2 { (sought_in w given.now table.old ≡ accepted s) × (chosen_at s table.old ≡ true) }
+    requires survey_packet { (well_made table.old ≡ true) × Sized w given.now × (type_of w ≡ 4 → ⊥) }
+    requires stream_found { (sought_in w given.now table.old ≡ accepted s) × (chosen_at s table.old ≡ true) }
     ensures { Noted table.old given.now result table.new }
 {
     let rest = packet::inner::check_survey(w, given);

@@ -75,8 +75,8 @@ fn limit_kept(carried: bool, bit: u32, body: &[u32], at: usize) -> bool
 // Walks the fields of the bits from `first` down to the one above `past`, which stand in a body from a place on.
 fn walk(bits: u32, body: &[u32], at: usize, first: u32, past: u32) -> Walked
     requires { (17 ≤ past) × (past ≤ first) × (first ≤ 30) × (at < 2 ^ 20) }
-    ensures kept_value { result.kept ≡ obeyed (above past (bits_of (suc first) bits)) (drop at body.now) }
-    ensures at_value { (result.kept ≡ true → result.at ≡ at + sizes_of (above past (bits_of (suc first) bits))) × (result.at ≤ at + 74) }
+    ensures kept { result.kept ≡ obeyed (above past (bits_of (suc first) bits)) (drop at body.now) }
+    ensures place { (result.kept ≡ true → result.at ≡ at + sizes_of (above past (bits_of (suc first) bits))) × (result.at ≤ at + 74) }
 {
     let mut bit = first;
     let mut place = at;
