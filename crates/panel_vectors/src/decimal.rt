@@ -25,7 +25,7 @@ fn parts_of(pattern: u32) -> Parts {
         return Parts::Inexact;
     }
     let significand = 0x80_0000 + pattern % 0x80_0000;
-    if u32::trailing_zeros(significand) < dropped {
+    if significand.trailing_zeros() < dropped {
         return Parts::Inexact;
     }
     Parts::Exact(significand >> dropped)
@@ -70,10 +70,10 @@ fn print_parts(output: &mut impl Write, minus: bool, n: u32, places: usize) -> i
 pub fn print(output: &mut impl Write, x: f32, places: usize) -> io::Result<()>
     requires { places ≤ 7 }
 {
-    if x != x {
+    if x.is_nan() {
         return lines::inner::text(output, b"nan");
     }
-    let pattern = f32::to_bits(x);
+    let pattern = x.to_bits();
     let parts = parts_of(pattern % 0x8000_0000);
     match parts {
         Parts::Exact(n) => print_parts(output, 0x8000_0000 <= pattern, n, places),
