@@ -21,8 +21,8 @@ pub fn read_words(input: &mut impl Read, n: usize) -> io::Result<[u32; 4096]>
     ensures { IfOk result (λ out. 4096 ≡ length out) }
 {
     let mut out = [0u32; 4096];
-    for k in 0..n {
-        out[k] = lines::inner::word(input)?;
+    for place in &mut out[..n] {
+        *place = lines::inner::word(input)?;
     }
     Ok(out)
 }
@@ -33,9 +33,10 @@ pub fn read_items(input: &mut impl Read, n: usize) -> io::Result<[u64; 4096]>
     ensures { IfOk result (λ out. 4096 ≡ length out) }
 {
     let mut out = [0u64; 4096];
-    for k in 0..n {
+    for place in &mut out[..n] {
         let high = lines::inner::word(input)?;
-        out[k] = words::inner::high_first(high, lines::inner::word(input)?);
+        let low = lines::inner::word(input)?;
+        *place = words::inner::high_first(high, low);
     }
     Ok(out)
 }
@@ -46,8 +47,8 @@ pub fn read_events(input: &mut impl Read, n: usize) -> io::Result<[u8; 4096]>
     ensures { IfOk result (λ out. 4096 ≡ length out) }
 {
     let mut out = [0u8; 4096];
-    for k in 0..n {
-        out[k] = (lines::inner::word(input)? % 0x100) as u8;
+    for place in &mut out[..n] {
+        *place = (lines::inner::word(input)? % 0x100) as u8;
     }
     Ok(out)
 }
@@ -58,8 +59,8 @@ pub fn read_channels(input: &mut impl Read, n: usize) -> io::Result<[u16; 4096]>
     ensures { IfOk result (λ out. 4096 ≡ length out) }
 {
     let mut out = [0u16; 4096];
-    for k in 0..n {
-        out[k] = (lines::inner::word(input)? % 0x1_0000) as u16;
+    for place in &mut out[..n] {
+        *place = (lines::inner::word(input)? % 0x1_0000) as u16;
     }
     Ok(out)
 }

@@ -120,10 +120,10 @@ fn item_case(input: &mut impl Read, output: &mut impl Write, k: u64) -> io::Resu
     let component = lines::inner::word(input)?;
     let repeat = lines::inner::word(input)?;
     let at = Coordinates {
-        time: time,
-        channel: channel,
-        component: component,
-        repeat: repeat,
+        time,
+        channel,
+        component,
+        repeat,
     };
     let r = payload_order::item_at(first, second, n, at);
     match r {

@@ -94,8 +94,8 @@ pub fn print_items(output: &mut impl Write, n: usize, items: &[u64; 4096]) -> io
     requires { n ≤ 4096 }
 {
     lines::inner::text(output, b"  items")?;
-    for k in 0..n {
-        print_number(output, items[k])?;
+    for item in &items[..n] {
+        print_number(output, *item)?;
     }
     lines::inner::text(output, b"\n")
 }
@@ -105,8 +105,8 @@ pub fn print_events(output: &mut impl Write, n: usize, events: &[u8; 4096]) -> i
     requires { n ≤ 4096 }
 {
     lines::inner::text(output, b"  events")?;
-    for k in 0..n {
-        print_number(output, of_event(events[k]))?;
+    for event in &events[..n] {
+        print_number(output, of_event(*event))?;
     }
     lines::inner::text(output, b"\n")
 }
@@ -116,8 +116,8 @@ pub fn print_channels(output: &mut impl Write, n: usize, channels: &[u16; 4096])
     requires { n ≤ 4096 }
 {
     lines::inner::text(output, b"  channels")?;
-    for k in 0..n {
-        print_number(output, of_channel(channels[k]))?;
+    for channel in &channels[..n] {
+        print_number(output, of_channel(*channel))?;
     }
     lines::inner::text(output, b"\n")
 }
@@ -127,8 +127,8 @@ pub fn print_words(output: &mut impl Write, n: usize, words: &[u32; 4096]) -> io
     requires { n ≤ 4096 }
 {
     lines::inner::text(output, b"  words")?;
-    for k in 0..n {
-        print_number(output, of_word(words[k]))?;
+    for word in &words[..n] {
+        print_number(output, of_word(*word))?;
     }
     lines::inner::text(output, b"\n")
 }
