@@ -1,5 +1,5 @@
 // Buffers as they are before a call, and lines on standard output.
-ghost use Rattle.words.specs.Kit.{◌≡◌, ◌≤◌, length};
+ghost use Rattle.std.specs.Prelude.{◌≡◌, ◌≤◌, length};
 
 use payload_order::Coordinates;
 use std::io;

@@ -2,7 +2,7 @@
 // survey packet, a word n, and then n words.
 #![tactic(auto)]
 
-ghost use Rattle.words.specs.Kit.{◌+◌, ◌≤◌, length};
+ghost use Rattle.std.specs.Prelude.{◌+◌, ◌≤◌, length};
 
 use packet::{Packet, Parsed, ParsedSurvey};
 use std::io;

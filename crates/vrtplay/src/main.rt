@@ -2,7 +2,7 @@
 // each by one write.
 #![tactic(auto)]
 
-ghost use Rattle.words.specs.Kit.{◌≡◌, true, ◌*◌, ◌≤◌, length};
+ghost use Rattle.std.specs.Prelude.{◌≡◌, true, ◌*◌, ◌≤◌, length};
 ghost use Rattle.table.specs.Well.{well_made};
 
 use lines::inner::Line;
