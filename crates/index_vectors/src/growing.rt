@@ -1,6 +1,8 @@
 // An index that is started, and grown packet by packet.
 use crate::State;
 use index_grow::{Grown, Taken};
+use std::io;
+use std::io::{Read, Write};
 use words::{Length, Refusal};
 
 // Where growing stands: the packets taken in, and how many of them were undeclared; the check number of their answers; the place in the recording; and whether
@@ -18,20 +20,25 @@ pub struct Growth {
 }
 
 // Starts the index with the table.
-pub fn start(s: State, table: &[u32], index: &mut [u32]) -> State {
+pub fn start(
+    output: &mut impl Write,
+    s: State,
+    table: &[u32],
+    index: &mut [u32],
+) -> io::Result<State> {
     let answer = index::start_index(table, index);
     let at = match answer {
         Length::Accepted(n) => {
-            lines::inner::named(b"start", n as u64);
+            lines::inner::named(output, b"start", n as u64)?;
             0
         }
         Length::Refused(number) => {
-            lines::inner::named(b"start refused", number as u64);
+            lines::inner::named(output, b"start refused", number as u64)?;
             s.at
         }
     };
-    lines::inner::named(b"fold", lines::inner::fold_of(index) as u64);
-    State { at, ..s }
+    lines::inner::named(output, b"fold", lines::inner::fold_of(index) as u64)?;
+    Ok(State { at, ..s })
 }
 
 // The check number after the five words of an answer.
@@ -53,7 +60,7 @@ fn behind(at: usize, size: usize, n: usize) -> usize {
 
 // Growth with a packet that was taken in.
 fn grown_by(g: Growth, packet: Taken, n: usize) -> Growth {
-    let taken = std::num::wrapping_add_u32(g.taken, 1);
+    let taken = g.taken.wrapping_add(1);
     match packet {
         Taken::Declared(h) => Growth {
             taken,
@@ -70,7 +77,7 @@ fn grown_by(g: Growth, packet: Taken, n: usize) -> Growth {
         },
         Taken::Undeclared(p) => Growth {
             taken,
-            undeclared: std::num::wrapping_add_u32(g.undeclared, 1),
+            undeclared: g.undeclared.wrapping_add(1),
             answers: fold_five(
                 g.answers,
                 words::STREAM as u64,
@@ -133,33 +140,39 @@ fn grow_all(
     alone: u32,
 ) -> Growth {
     let mut g = start;
-    let mut i = 0;
-    while i < most {
+    for _ in 0..most {
         if !g.goes_on {
             return g;
         }
         g = grow_once(g, table, given, index, alone);
-        i += 1;
     }
     g
 }
 
 // What growing answered.
-fn show(g: Growth) {
-    lines::inner::named(b"grow", g.taken as u64);
-    lines::inner::named(b"undeclared", g.undeclared as u64);
-    lines::inner::named(b"answers", g.answers as u64);
+fn show(output: &mut impl Write, g: Growth) -> io::Result<()> {
+    lines::inner::named(output, b"grow", g.taken as u64)?;
+    lines::inner::named(output, b"undeclared", g.undeclared as u64)?;
+    lines::inner::named(output, b"answers", g.answers as u64)?;
     if !g.goes_on {
-        lines::inner::named(b"refused", g.number as u64);
-        lines::inner::named(b"place", g.place as u64);
-        lines::inner::named(b"bit", g.bit as u64);
+        lines::inner::named(output, b"refused", g.number as u64)?;
+        lines::inner::named(output, b"place", g.place as u64)?;
+        lines::inner::named(output, b"bit", g.bit as u64)?;
     }
+    Ok(())
 }
 
 // Reads how often, and whether with each packet alone, and grows.
-pub fn grow(s: State, table: &mut [u32], given: &[u32], index: &mut [u32]) -> State {
-    let most = lines::inner::word();
-    let alone = lines::inner::word();
+pub fn grow(
+    input: &mut impl Read,
+    output: &mut impl Write,
+    s: State,
+    table: &mut [u32],
+    given: &[u32],
+    index: &mut [u32],
+) -> io::Result<State> {
+    let most = lines::inner::word(input)?;
+    let alone = lines::inner::word(input)?;
     let start = Growth {
         taken: 0,
         undeclared: 0,
@@ -171,8 +184,8 @@ pub fn grow(s: State, table: &mut [u32], given: &[u32], index: &mut [u32]) -> St
         bit: 0,
     };
     let g = grow_all(start, table, given, index, most, alone);
-    show(g);
-    lines::inner::named(b"table", lines::inner::fold_of(table) as u64);
-    lines::inner::named(b"index", lines::inner::fold_of(index) as u64);
-    State { at: g.at, ..s }
+    show(output, g)?;
+    lines::inner::named(output, b"table", lines::inner::fold_of(table) as u64)?;
+    lines::inner::named(output, b"index", lines::inner::fold_of(index) as u64)?;
+    Ok(State { at: g.at, ..s })
 }

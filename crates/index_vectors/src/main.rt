@@ -7,6 +7,9 @@ mod growing;
 mod jumping;
 mod setting;
 
+use std::io;
+use std::io::{Read, Write};
+
 // What is there at an operation: the words of the table, of the recording and of the index, and the place in the recording.
 #[derive(Clone, Copy)]
 pub struct State {
@@ -17,73 +20,99 @@ pub struct State {
 }
 
 // Ends a line.
-pub fn end_line() {
-    lines::inner::text(b"\n");
+pub fn end_line(output: &mut impl Write) -> io::Result<()> {
+    lines::inner::text(output, b"\n")
 }
 
 // An operation that sets or shows something.
-fn set(kind: u32, s: State, table: &mut [u32], given: &mut [u32], index: &mut [u32]) -> State {
+fn set(
+    input: &mut impl Read,
+    output: &mut impl Write,
+    kind: u32,
+    s: State,
+    table: &mut [u32],
+    given: &mut [u32],
+    index: &mut [u32],
+) -> io::Result<State> {
     if kind == 1 {
         let mut list = [0u32; 80];
-        return setting::start_table(s, &mut list, table);
+        return setting::start_table(input, output, s, &mut list, table);
     }
     if kind == 2 {
-        return setting::read_words(s, given);
+        return setting::read_words(input, output, s, given);
     }
     if kind == 3 {
-        return setting::make_room(s, index);
+        return setting::make_room(input, output, s, index);
     }
     if kind == 4 {
-        setting::poke(s.indexed, index);
-        return s;
+        setting::poke(input, output, s.indexed, index)?;
+        return Ok(s);
     }
     if kind == 5 {
-        setting::poke(s.table, table);
-        return s;
+        setting::poke(input, output, s.table, table)?;
+        return Ok(s);
     }
     if kind == 9 {
-        return setting::lengthen(s, index);
+        return setting::lengthen(input, output, s, index);
     }
     if kind == 10 {
-        return setting::move_place(s);
+        return setting::move_place(input, output, s);
     }
-    setting::show_entry(index);
-    s
+    setting::show_entry(input, output, index)?;
+    Ok(s)
 }
 
 // An operation on the words that are there.
-fn work(kind: u32, s: State, table: &mut [u32], given: &[u32], index: &mut [u32]) -> State {
+fn work(
+    input: &mut impl Read,
+    output: &mut impl Write,
+    kind: u32,
+    s: State,
+    table: &mut [u32],
+    given: &[u32],
+    index: &mut [u32],
+) -> io::Result<State> {
     if kind == 6 {
-        return growing::start(s, table, index);
+        return growing::start(output, s, table, index);
     }
     if kind == 7 {
-        return growing::grow(s, table, given, index);
+        return growing::grow(input, output, s, table, given, index);
     }
-    jumping::jump(given, index);
-    s
+    jumping::jump(input, output, given, index)?;
+    Ok(s)
 }
 
 // An operation: 6, 7 and 8 work on the words that are there, and the others set or show something.
-fn done(kind: u32, s: State, table: &mut [u32], given: &mut [u32], index: &mut [u32]) -> State {
+fn done(
+    input: &mut impl Read,
+    output: &mut impl Write,
+    kind: u32,
+    s: State,
+    table: &mut [u32],
+    given: &mut [u32],
+    index: &mut [u32],
+) -> io::Result<State> {
     let held = s.table;
     let recorded = s.recorded;
     let indexed = s.indexed;
     if kind < 6 {
-        return set(kind, s, table, given, index);
+        return set(input, output, kind, s, table, given, index);
     }
     if 8 < kind {
-        return set(kind, s, table, given, index);
+        return set(input, output, kind, s, table, given, index);
     }
     if table.len() < held {
-        return s;
+        return Ok(s);
     }
     if given.len() < recorded {
-        return s;
+        return Ok(s);
     }
     if index.len() < indexed {
-        return s;
+        return Ok(s);
     }
     work(
+        input,
+        output,
         kind,
         s,
         &mut table[0..held],
@@ -93,7 +122,9 @@ fn done(kind: u32, s: State, table: &mut [u32], given: &mut [u32], index: &mut [
 }
 
 // A table has at most 2,900 words, a recording at most 40,000, and an index at most 24,000.
-fn main() {
+fn main(rt: HostRuntime) -> io::Result<()> {
+    let mut input = rt.stdin();
+    let mut output = rt.stdout();
     let mut table_space = [0u32; 2900];
     let mut word_space = [0u32; 40000];
     let mut index_space = [0u32; 24000];
@@ -106,15 +137,14 @@ fn main() {
         indexed: 0,
         at: 0,
     };
-    let mut k: u64 = 0;
-    while k < 0xFFFF_FFFF {
-        let next = lines::inner::next_word();
+    for k in 0..0xFFFF_FFFF {
+        let next = lines::inner::next_word(&mut input)?;
         let lines::inner::Input::Word(kind) = next else {
-            return;
+            return Ok(());
         };
-        lines::inner::number(k);
-        s = done(kind, s, table, given, index);
-        end_line();
-        k += 1;
+        lines::inner::number(&mut output, k)?;
+        s = done(&mut input, &mut output, kind, s, table, given, index)?;
+        end_line(&mut output)?;
     }
+    Ok(())
 }

@@ -1,5 +1,8 @@
-// The words of standard input, and buffers that are filled.
-use libc::STDIN_FILENO;
+// The words of an input, and buffers that are filled.
+ghost use Rattle.std.specs.Prelude.{◌≤◌, IfOk, length};
+
+use std::io;
+use std::io::{ErrorKind, Read};
 
 // The next word of the input, or its end.
 #[derive(Clone, Copy)]
@@ -10,47 +13,61 @@ pub enum Input {
 
 // The word of four bytes, the first of them highest.
 pub fn big_endian(a: u8, b: u8, c: u8, d: u8) -> u32 {
-    ((a as u32 * 256 + b as u32) * 256 + c as u32) * 256 + d as u32
+    u32::from_be_bytes([a, b, c, d])
 }
 
-// The next word of standard input; its end where fewer than four bytes are left.
-pub fn next_word() -> Input {
-    let mut bytes = [0u8; 4];
-    let n = io::read_full(STDIN_FILENO, &mut bytes);
-    if n < 4 {
-        return Input::End;
+// Reads into a buffer until it is full or the input ends; how many bytes were read. A read that a signal interrupts is tried again.
+pub fn read_full(input: &mut impl Read, buffer: &mut [u8]) -> io::Result<usize>
+    ensures { IfOk result (λ n. n ≤ length buffer.new) }
+{
+    let mut done = 0;
+    for _ in 0..u64::MAX {
+        if done == buffer.len() {
+            break;
+        }
+        match input.read(&mut buffer[done..]) {
+            Ok(0) => break,
+            Ok(n) => done += n,
+            Err(e) => {
+                if e.kind() != ErrorKind::Interrupted {
+                    return Err(e);
+                }
+            }
+        }
     }
-    Input::Word(big_endian(bytes[0], bytes[1], bytes[2], bytes[3]))
+    Ok(done)
+}
+
+// The next word of the input; its end where fewer than four bytes are left.
+pub fn next_word(input: &mut impl Read) -> io::Result<Input> {
+    let mut bytes = [0u8; 4];
+    let n = read_full(input, &mut bytes)?;
+    if n < 4 {
+        return Ok(Input::End);
+    }
+    Ok(Input::Word(big_endian(bytes[0], bytes[1], bytes[2], bytes[3])))
 }
 
 // The next word of the input; 0 past its end.
-pub fn word() -> u32 {
-    let next = next_word();
-    match next {
-        Input::Word(w) => w,
-        Input::End => 0,
+pub fn word(input: &mut impl Read) -> io::Result<u32> {
+    match next_word(input)? {
+        Input::Word(w) => Ok(w),
+        Input::End => Ok(0),
     }
 }
 
-// Fills a buffer with the next words of standard input; whether all were there.
-pub fn fill(words: &mut [u32]) -> bool {
-    let mut i = 0;
-    while i < words.len() {
-        let next = next_word();
-        let Input::Word(w) = next else {
-            return false;
+// Fills a buffer with the next words of the input; whether all were there.
+pub fn fill(input: &mut impl Read, words: &mut [u32]) -> io::Result<bool> {
+    for place in words {
+        let Input::Word(w) = next_word(input)? else {
+            return Ok(false);
         };
-        words[i] = w;
-        i += 1;
+        *place = w;
     }
-    true
+    Ok(true)
 }
 
 // Fills a buffer with a pattern, so that words which stay can be told.
 pub fn pattern(buffer: &mut [u32]) {
-    let mut i = 0;
-    while i < buffer.len() {
-        buffer[i] = 0xA5A5_A5A5;
-        i += 1;
-    }
+    buffer.fill(0xA5A5_A5A5);
 }

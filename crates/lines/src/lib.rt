@@ -1,5 +1,6 @@
-// What the programs share: big-endian words from standard input, and lines of names and numbers to standard output, those of a packet among them.
-// No contract can say what a program reads or writes, so these functions promise only that they are safe and end.
+// What the programs share: big-endian words from an input, and lines of names and numbers to an output, those of a packet among them.
+// The input is any reader and the output any writer, and an error of theirs is handed on. No clause says which bytes are read or written: these functions
+// promise only that they are safe and end.
 #![tactic(auto)]
 
 pub mod inner;

@@ -1,38 +1,35 @@
-// Names and numbers to standard output.
+// Names and numbers to an output.
 use crate::line::Line;
-use libc::STDOUT_FILENO;
+use std::io;
+use std::io::Write;
 
 // Writes a text.
-pub fn text(bytes: &[u8]) {
-    io::write_all(STDOUT_FILENO, bytes);
+pub fn text(output: &mut impl Write, bytes: &[u8]) -> io::Result<()> {
+    output.write_all(bytes)
 }
 
 // Writes a number in decimal.
-pub fn number(n: u64) {
-    io::print_decimal(STDOUT_FILENO, n);
+pub fn number(output: &mut impl Write, n: u64) -> io::Result<()> {
+    Line::new(output).number(n)?.write()
 }
 
 // Writes a signed number in decimal.
-pub fn signed(v: i64) {
-    if v < 0 {
-        text(b"-");
-        number(!v as u64 + 1);
-    } else {
-        number(v as u64);
-    }
+pub fn signed(output: &mut impl Write, v: i64) -> io::Result<()> {
+    let mut digits = itoa::Buffer::new();
+    text(output, digits.format(v).as_bytes())
 }
 
 // Writes a name and a number, as ` size 5`.
-pub fn named(name: &[u8], n: u64) {
-    Line::new().named(name, n).write();
+pub fn named(output: &mut impl Write, name: &[u8], n: u64) -> io::Result<()> {
+    Line::new(output).named(name, n)?.write()
 }
 
 // Writes a name and 1 or 0.
-pub fn named_flag(name: &[u8], flag: bool) {
+pub fn named_flag(output: &mut impl Write, name: &[u8], flag: bool) -> io::Result<()> {
     if flag {
-        named(name, 1);
+        named(output, name, 1)
     } else {
-        named(name, 0);
+        named(output, name, 0)
     }
 }
 
@@ -42,12 +39,10 @@ pub fn wide(w: u32) -> u64 {
 }
 
 // Writes words in decimal, each after a space.
-pub fn list(words: &[u32]) {
-    let mut line = Line::new();
-    let mut i = 0;
-    while i < words.len() {
-        line = line.text(b" ").number(wide(words[i]));
-        i += 1;
+pub fn list(output: &mut impl Write, words: &[u32]) -> io::Result<()> {
+    let mut line = Line::new(output);
+    for w in words {
+        line = line.text(b" ")?.number(wide(*w))?;
     }
-    line.write();
+    line.write()
 }

@@ -4,10 +4,8 @@ use crate::output::wide;
 // The sum of the words, modulo 2^32.
 pub fn sum_of(words: &[u32]) -> u32 {
     let mut sum: u32 = 0;
-    let mut i = 0;
-    while i < words.len() {
-        sum = std::num::wrapping_add_u32(sum, words[i]);
-        i += 1;
+    for w in words {
+        sum = sum.wrapping_add(*w);
     }
     sum
 }
@@ -22,10 +20,8 @@ pub fn folded(y: u32, w: u64) -> u32 {
 // The check number of words.
 pub fn fold_of(words: &[u32]) -> u32 {
     let mut y: u32 = 0;
-    let mut i = 0;
-    while i < words.len() {
-        y = folded(y, wide(words[i]));
-        i += 1;
+    for w in words {
+        y = folded(y, wide(*w));
     }
     y
 }

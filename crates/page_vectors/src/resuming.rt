@@ -1,5 +1,7 @@
 // A recording that is stopped and resumed: played on one table up to a cut, saved, put back into a second table, and played on.
 use play::Played;
+use std::io;
+use std::io::{Read, Write};
 use words::Length;
 
 // Where a walk over the packets stands, and the check number of their answers so far.
@@ -49,144 +51,175 @@ fn play_next(table: &mut [u32], ws: &[u32], walk: Walk) -> Walk {
 // Plays some packets, from where the walk stands on.
 fn play_part(table: &mut [u32], ws: &[u32], from: Walk, packets: u32) -> Walk {
     let mut walk = from;
-    let mut j = 0;
-    while j < packets {
+    for _ in 0..packets {
         walk = play_next(table, ws, walk);
-        j += 1;
     }
     walk
 }
 
 // Puts the page back into the second table, and plays the packets that are left.
-fn resume(page: &[u32], table: &mut [u32], ws: &[u32], walk: Walk, packets: u32) {
+fn resume(
+    output: &mut impl Write,
+    page: &[u32],
+    table: &mut [u32],
+    ws: &[u32],
+    walk: Walk,
+    packets: u32,
+) -> io::Result<()> {
     match page::put_back(page, table) {
         Length::Accepted(length) => {
-            lines::inner::named(b"put", length as u64);
+            lines::inner::named(output, b"put", length as u64)?;
             let end = play_part(table, ws, walk, packets);
-            lines::inner::named(b"answers", end.answers as u64);
-            crate::showing::show_table(length, table);
+            lines::inner::named(output, b"answers", end.answers as u64)?;
+            crate::showing::show_table(output, length, table)
         }
-        Length::Refused(n) => lines::inner::named(b"put refused", n as u64),
+        Length::Refused(n) => lines::inner::named(output, b"put refused", n as u64),
     }
 }
 
 // Saves the first table, puts its page back into the second, and plays the packets that are left.
-fn stop(first: &[u32], page: &mut [u32], second: &mut [u32], ws: &[u32], walk: Walk, packets: u32) {
+fn stop(
+    output: &mut impl Write,
+    first: &[u32],
+    page: &mut [u32],
+    second: &mut [u32],
+    ws: &[u32],
+    walk: Walk,
+    packets: u32,
+) -> io::Result<()> {
     let answer = page::save(first, page);
-    crate::showing::show_saved(answer, page);
+    crate::showing::show_saved(output, answer, page)?;
     let Length::Accepted(length) = answer else {
-        return;
+        return Ok(());
     };
     if page.len() < length {
-        return;
+        return Ok(());
     }
-    resume(&page[0..length], second, ws, walk, packets);
+    resume(output, &page[0..length], second, ws, walk, packets)
 }
 
 // Plays the packets before a cut on the first table, and stops there.
 fn play_cut(
+    output: &mut impl Write,
     first: &mut [u32],
     page: &mut [u32],
     second: &mut [u32],
     ws: &[u32],
     cut: u32,
     packets: u32,
-) {
+) -> io::Result<()> {
     if packets < cut {
-        return;
+        return Ok(());
     }
     let start = Walk { at: 0, answers: 0 };
     let walk = play_part(first, ws, start, cut);
-    stop(first, page, second, ws, walk, packets - cut);
+    stop(output, first, page, second, ws, walk, packets - cut)
 }
 
 // The line of a cut. The list has the identifiers, and then as many choices.
 fn one_cut(
+    input: &mut impl Read,
+    output: &mut impl Write,
     list: &[u32],
     first: &mut [u32],
     page: &mut [u32],
     second: &mut [u32],
     ws: &[u32],
     packets: u32,
-) {
-    let cut = lines::inner::word();
-    lines::inner::text(b" ");
-    lines::inner::named(b"cut", cut as u64);
+) -> io::Result<()> {
+    let cut = lines::inner::word(input)?;
+    lines::inner::text(output, b" ")?;
+    lines::inner::named(output, b"cut", cut as u64)?;
     lines::inner::pattern(first);
     lines::inner::pattern(page);
     lines::inner::pattern(second);
     let n = list.len() / 2;
     table::start(&list[0..n], &list[n..], first);
-    play_cut(first, page, second, ws, cut, packets);
-    crate::showing::end_line();
+    play_cut(output, first, page, second, ws, cut, packets)?;
+    crate::showing::end_line(output)
 }
 
 // The cuts of a recording.
 fn all_cuts(
+    input: &mut impl Read,
+    output: &mut impl Write,
     list: &[u32],
     first: &mut [u32],
     page: &mut [u32],
     second: &mut [u32],
     ws: &[u32],
     packets: u32,
-) {
-    let cuts = lines::inner::word();
-    let mut c = 0;
-    while c < cuts {
-        one_cut(list, first, page, second, ws, packets);
-        c += 1;
+) -> io::Result<()> {
+    let cuts = lines::inner::word(input)?;
+    for _ in 0..cuts {
+        one_cut(input, output, list, first, page, second, ws, packets)?;
     }
+    Ok(())
 }
 
 // The packets of a recording, and its cuts.
 fn read_packets(
+    input: &mut impl Read,
+    output: &mut impl Write,
     list: &[u32],
     first: &mut [u32],
     page: &mut [u32],
     second: &mut [u32],
     ws: &mut [u32],
-) {
-    let packets = lines::inner::word();
-    let n = lines::inner::word() as usize;
+) -> io::Result<()> {
+    let packets = lines::inner::word(input)?;
+    let n = lines::inner::word(input)? as usize;
     if ws.len() < n {
-        return;
+        return Ok(());
     }
-    lines::inner::fill(&mut ws[0..n]);
-    all_cuts(list, first, page, second, &ws[0..n], packets);
+    lines::inner::fill(input, &mut ws[0..n])?;
+    all_cuts(input, output, list, first, page, second, &ws[0..n], packets)
 }
 
 // The identifiers and the choices of a recording, its packets, and its cuts.
 fn read_list(
+    input: &mut impl Read,
+    output: &mut impl Write,
     list: &mut [u32],
     first: &mut [u32],
     page: &mut [u32],
     second: &mut [u32],
     ws: &mut [u32],
-) {
-    let n = 2 * lines::inner::word() as usize;
+) -> io::Result<()> {
+    let n = 2 * lines::inner::word(input)? as usize;
     if list.len() < n {
-        return;
+        return Ok(());
     }
-    lines::inner::fill(&mut list[0..n]);
-    read_packets(&list[0..n], first, page, second, ws);
+    lines::inner::fill(input, &mut list[0..n])?;
+    read_packets(input, output, &list[0..n], first, page, second, ws)
 }
 
 // A recording: the rooms of the two tables, its list, its packets, and its cuts.
 pub fn recording(
+    input: &mut impl Read,
+    output: &mut impl Write,
     list: &mut [u32],
     first: &mut [u32],
     page: &mut [u32],
     second: &mut [u32],
     ws: &mut [u32],
-) {
-    lines::inner::text(b" recording\n");
-    let room = lines::inner::word() as usize;
-    let other = lines::inner::word() as usize;
+) -> io::Result<()> {
+    lines::inner::text(output, b" recording\n")?;
+    let room = lines::inner::word(input)? as usize;
+    let other = lines::inner::word(input)? as usize;
     if first.len() < room {
-        return;
+        return Ok(());
     }
     if second.len() < other {
-        return;
+        return Ok(());
     }
-    read_list(list, &mut first[0..room], page, &mut second[0..other], ws);
+    read_list(
+        input,
+        output,
+        list,
+        &mut first[0..room],
+        page,
+        &mut second[0..other],
+        ws,
+    )
 }

@@ -1,6 +1,9 @@
 // An f32 as an exact decimal, by its own sign, exponent and fraction fields.
 ghost use Rattle.std.specs.Prelude.{◌≤◌, ◌<◌};
 
+use std::io;
+use std::io::Write;
+
 // A magnitude in 128ths, where it is a whole number of them.
 #[derive(Clone, Copy)]
 enum Parts {
@@ -22,7 +25,7 @@ fn parts_of(pattern: u32) -> Parts {
         return Parts::Inexact;
     }
     let significand = 0x80_0000 + pattern % 0x80_0000;
-    if u32::trailing_zeros(significand) < dropped {
+    if significand.trailing_zeros() < dropped {
         return Parts::Inexact;
     }
     Parts::Exact(significand >> dropped)
@@ -36,7 +39,7 @@ fn digit(n: u32, p: u32) -> u8
 }
 
 // Writes a point and the first `places` digits of n parts of 10^7.
-fn print_places(n: u32, places: usize)
+fn print_places(output: &mut impl Write, n: u32, places: usize) -> io::Result<()>
     requires { places ≤ 7 }
 {
     let digits = [
@@ -49,32 +52,31 @@ fn print_places(n: u32, places: usize)
         digit(n, 10),
         digit(n, 1),
     ];
-    lines::inner::text(&digits[0..places + 1]);
+    lines::inner::text(output, &digits[0..places + 1])
 }
 
 // Writes a sign and some 128ths.
-fn print_parts(minus: bool, n: u32, places: usize)
+fn print_parts(output: &mut impl Write, minus: bool, n: u32, places: usize) -> io::Result<()>
     requires { places ≤ 7 }
 {
     if minus {
-        lines::inner::text(b"-");
+        lines::inner::text(output, b"-")?;
     }
-    lines::inner::number((n / 128) as u64);
-    print_places(n % 128 * 78125, places);
+    lines::inner::number(output, (n / 128) as u64)?;
+    print_places(output, n % 128 * 78125, places)
 }
 
 // Writes a float with so many places; `inexact` where it is no whole number of 128ths. The minus sign is the float's own, also before a zero.
-pub fn print(x: f32, places: usize)
+pub fn print(output: &mut impl Write, x: f32, places: usize) -> io::Result<()>
     requires { places ≤ 7 }
 {
-    if x != x {
-        lines::inner::text(b"nan");
-        return;
+    if x.is_nan() {
+        return lines::inner::text(output, b"nan");
     }
-    let pattern = f32::to_bits(x);
+    let pattern = x.to_bits();
     let parts = parts_of(pattern % 0x8000_0000);
     match parts {
-        Parts::Exact(n) => print_parts(0x8000_0000 <= pattern, n, places),
-        Parts::Inexact => lines::inner::text(b"inexact"),
+        Parts::Exact(n) => print_parts(output, 0x8000_0000 <= pattern, n, places),
+        Parts::Inexact => lines::inner::text(output, b"inexact"),
     }
 }

@@ -6,170 +6,203 @@
 mod decimal;
 
 use panel::FieldReading;
+use std::io;
+use std::io::{Read, Write};
 use words::Length;
 
 // A frequency: whole hertz and parts of 2^20.
-fn show_frequency(hertz: i64, parts: u32) {
-    lines::inner::text(b" frequency ");
-    lines::inner::signed(hertz);
-    lines::inner::named(b"parts", parts as u64);
+fn show_frequency(output: &mut impl Write, hertz: i64, parts: u32) -> io::Result<()> {
+    lines::inner::text(output, b" frequency ")?;
+    lines::inner::signed(output, hertz)?;
+    lines::inner::named(output, b"parts", parts as u64)
 }
 
 // A gain: both stages.
-fn show_gain(stage1: f32, stage2: f32) {
-    lines::inner::text(b" gain ");
-    decimal::print(stage1, 7);
-    lines::inner::text(b" ");
-    decimal::print(stage2, 7);
+fn show_gain(output: &mut impl Write, stage1: f32, stage2: f32) -> io::Result<()> {
+    lines::inner::text(output, b" gain ")?;
+    decimal::print(output, stage1, 7)?;
+    lines::inner::text(output, b" ")?;
+    decimal::print(output, stage2, 7)
 }
 
 // A level, a multiple of 1/128.
-fn show_level(x: f32) {
-    lines::inner::text(b" level ");
-    decimal::print(x, 7);
+fn show_level(output: &mut impl Write, x: f32) -> io::Result<()> {
+    lines::inner::text(output, b" level ")?;
+    decimal::print(output, x, 7)
 }
 
 // A temperature, a multiple of 1/64.
-fn show_temperature(x: f32) {
-    lines::inner::text(b" temperature ");
-    decimal::print(x, 6);
+fn show_temperature(output: &mut impl Write, x: f32) -> io::Result<()> {
+    lines::inner::text(output, b" temperature ")?;
+    decimal::print(output, x, 6)
 }
 
 // What a reading answers.
-fn show(answer: FieldReading) {
+fn show(output: &mut impl Write, answer: FieldReading) -> io::Result<()> {
     match answer {
-        FieldReading::Frequency { hertz, parts } => show_frequency(hertz, parts),
-        FieldReading::Level(x) => show_level(x),
-        FieldReading::Gain(g) => show_gain(g.stage1, g.stage2),
-        FieldReading::Temperature(x) => show_temperature(x),
-        FieldReading::Other => lines::inner::text(b" other"),
-        FieldReading::Absent => lines::inner::text(b" absent"),
-        FieldReading::Refused(n) => lines::inner::named(b"refused", n as u64),
+        FieldReading::Frequency { hertz, parts } => show_frequency(output, hertz, parts),
+        FieldReading::Level(x) => show_level(output, x),
+        FieldReading::Gain(g) => show_gain(output, g.stage1, g.stage2),
+        FieldReading::Temperature(x) => show_temperature(output, x),
+        FieldReading::Other => lines::inner::text(output, b" other"),
+        FieldReading::Absent => lines::inner::text(output, b" absent"),
+        FieldReading::Refused(n) => lines::inner::named(output, b"refused", n as u64),
     }
 }
 
 // The reading of a table that was read.
-fn ask_reading(k: u64, table: &[u32]) {
-    let stream = lines::inner::word() as usize;
-    let bit = lines::inner::word();
-    lines::inner::number(k);
-    show(panel::reading(table, stream, bit));
-    lines::inner::text(b"\n");
+fn ask_reading(
+    input: &mut impl Read,
+    output: &mut impl Write,
+    k: u64,
+    table: &[u32],
+) -> io::Result<()> {
+    let stream = lines::inner::word(input)? as usize;
+    let bit = lines::inner::word(input)?;
+    lines::inner::number(output, k)?;
+    show(output, panel::reading(table, stream, bit))?;
+    lines::inner::text(output, b"\n")
 }
 
 // What all readings answer, one after the other.
-fn show_all(answers: [FieldReading; 21]) {
-    let mut i = 0;
-    while i < 21 {
-        show(answers[i]);
-        i += 1;
+fn show_all(output: &mut impl Write, answers: [FieldReading; 21]) -> io::Result<()> {
+    for answer in answers {
+        show(output, answer)?;
     }
+    Ok(())
 }
 
 // All readings of a stream of a table that was read.
-fn ask_readings(k: u64, table: &[u32]) {
-    let stream = lines::inner::word() as usize;
-    lines::inner::number(k);
-    show_all(panel::readings(table, stream));
-    lines::inner::text(b"\n");
+fn ask_readings(
+    input: &mut impl Read,
+    output: &mut impl Write,
+    k: u64,
+    table: &[u32],
+) -> io::Result<()> {
+    let stream = lines::inner::word(input)? as usize;
+    lines::inner::number(output, k)?;
+    show_all(output, panel::readings(table, stream))?;
+    lines::inner::text(output, b"\n")
 }
 
 // The line of `held_words`: how many, or the refusal.
-fn show_copied(k: u64, answer: Length) {
-    lines::inner::number(k);
+fn show_copied(output: &mut impl Write, k: u64, answer: Length) -> io::Result<()> {
+    lines::inner::number(output, k)?;
     match answer {
-        Length::Accepted(n) => lines::inner::named(b"held", n as u64),
-        Length::Refused(n) => lines::inner::named(b"refused", n as u64),
+        Length::Accepted(n) => lines::inner::named(output, b"held", n as u64)?,
+        Length::Refused(n) => lines::inner::named(output, b"refused", n as u64)?,
     }
-    lines::inner::text(b"\n");
+    lines::inner::text(output, b"\n")
 }
 
 // The held words of a table that was read, in a buffer of the room that is asked for.
-fn ask_words(k: u64, table: &[u32], out: &mut [u32]) {
-    let stream = lines::inner::word() as usize;
-    let bit = lines::inner::word();
-    let room = lines::inner::word() as usize;
+fn ask_words(
+    input: &mut impl Read,
+    output: &mut impl Write,
+    k: u64,
+    table: &[u32],
+    out: &mut [u32],
+) -> io::Result<()> {
+    let stream = lines::inner::word(input)? as usize;
+    let bit = lines::inner::word(input)?;
+    let room = lines::inner::word(input)? as usize;
     if out.len() < room {
-        return;
+        return Ok(());
     }
     lines::inner::pattern(&mut out[0..room]);
-    show_copied(k, panel::held_words(table, stream, bit, &mut out[0..room]));
-    lines::inner::text(b"  words");
-    lines::inner::list(&out[0..room]);
-    lines::inner::text(b"\n");
+    show_copied(
+        output,
+        k,
+        panel::held_words(table, stream, bit, &mut out[0..room]),
+    )?;
+    lines::inner::text(output, b"  words")?;
+    lines::inner::list(output, &out[0..room])?;
+    lines::inner::text(output, b"\n")
 }
 
 // The line of a half in the sweep: the three readings of its table.
-fn show_half(h: u32, table: &[u32; 90]) {
-    lines::inner::number(h as u64);
-    show(panel::reading(table, 0, 24));
-    show(panel::reading(table, 0, 23));
-    show(panel::reading(table, 0, 18));
-    lines::inner::text(b"\n");
+fn show_half(output: &mut impl Write, h: u32, table: &[u32; 90]) -> io::Result<()> {
+    lines::inner::number(output, h as u64)?;
+    show(output, panel::reading(table, 0, 24))?;
+    show(output, panel::reading(table, 0, 23))?;
+    show(output, panel::reading(table, 0, 18))?;
+    lines::inner::text(output, b"\n")
 }
 
 // Every half as a level and a temperature, and as the first stage of a gain beside another half. The table has one stream, 7, which holds fields 24, 23 and 18.
-fn sweep(k: u64) {
-    lines::inner::number(k);
-    lines::inner::text(b" sweep\n");
+fn sweep(output: &mut impl Write, k: u64) -> io::Result<()> {
+    lines::inner::number(output, k)?;
+    lines::inner::text(output, b" sweep\n")?;
     let mut table = [0u32; 90];
     table[0] = 1;
     table[1] = 7;
     table[2] = 0x0184_0000;
     table[9] = 1;
     table[11] = 1;
-    let mut h: u32 = 0;
-    while h < 0x1_0000 {
+    for h in 0..0x1_0000 {
         table[27] = h;
         table[28] = h + h * 40503 % 0x1_0000 * 0x1_0000;
         table[35] = h;
-        show_half(h, &table);
-        h += 1;
+        show_half(output, h, &table)?;
     }
+    Ok(())
 }
 
 // A case that asks something of a table: reads the table first.
-fn ask(k: u64, asked: u32, table: &mut [u32], out: &mut [u32]) {
-    let n = lines::inner::word() as usize;
+fn ask(
+    input: &mut impl Read,
+    output: &mut impl Write,
+    k: u64,
+    asked: u32,
+    table: &mut [u32],
+    out: &mut [u32],
+) -> io::Result<()> {
+    let n = lines::inner::word(input)? as usize;
     if table.len() < n {
-        return;
+        return Ok(());
     }
-    lines::inner::fill(&mut table[0..n]);
+    lines::inner::fill(input, &mut table[0..n])?;
     if asked == 1 {
-        ask_reading(k, &table[0..n]);
+        ask_reading(input, output, k, &table[0..n])
     } else if asked == 4 {
-        ask_readings(k, &table[0..n]);
+        ask_readings(input, output, k, &table[0..n])
     } else {
-        ask_words(k, &table[0..n], out);
+        ask_words(input, output, k, &table[0..n], out)
     }
 }
 
 // Case k; whether there was one.
-fn one_case(k: u64, table: &mut [u32], out: &mut [u32]) -> bool {
-    let next = lines::inner::next_word();
+fn one_case(
+    input: &mut impl Read,
+    output: &mut impl Write,
+    k: u64,
+    table: &mut [u32],
+    out: &mut [u32],
+) -> io::Result<bool> {
+    let next = lines::inner::next_word(input)?;
     let lines::inner::Input::Word(asked) = next else {
-        return false;
+        return Ok(false);
     };
     if asked == 3 {
-        sweep(k);
+        sweep(output, k)?;
     } else {
-        ask(k, asked, table, out);
+        ask(input, output, k, asked, table, out)?;
     }
-    true
+    Ok(true)
 }
 
 // A table here has at most 2,900 words, a buffer for held words 20.
-fn main() {
+fn main(rt: HostRuntime) -> io::Result<()> {
+    let mut input = rt.stdin();
+    let mut output = rt.stdout();
     let mut table_space = [0u32; 2900];
     let mut out_space = [0u32; 20];
     let table: &mut [u32] = &mut table_space;
     let out: &mut [u32] = &mut out_space;
-    let mut k: u64 = 0;
-    while k < 0xFFFF_FFFF {
-        if one_case(k, table, out) {
-            k += 1;
-        } else {
-            return;
+    for k in 0..0xFFFF_FFFF {
+        if !one_case(&mut input, &mut output, k, table, out)? {
+            break;
         }
     }
+    Ok(())
 }

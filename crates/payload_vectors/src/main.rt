@@ -11,18 +11,20 @@ use output::{
 };
 use payload_format::Shown;
 use payload_order::{Coordinates, Located};
+use std::io;
+use std::io::{Read, Write};
 use words::Length;
 
 // Op 1: first, second, n, the room of each buffer, m, then m words.
-fn unpack_case(k: u64) {
-    let first = lines::inner::word();
-    let second = lines::inner::word();
-    let n = lines::inner::word() as usize;
-    let room_items = count();
-    let room_events = count();
-    let room_channels = count();
-    let m = count();
-    let ws = read_words(m);
+fn unpack_case(input: &mut impl Read, output: &mut impl Write, k: u64) -> io::Result<()> {
+    let first = lines::inner::word(input)?;
+    let second = lines::inner::word(input)?;
+    let n = lines::inner::word(input)? as usize;
+    let room_items = count(input)?;
+    let room_events = count(input)?;
+    let room_channels = count(input)?;
+    let m = count(input)?;
+    let ws = read_words(input, m)?;
     let mut items = blank_items();
     let mut events = blank_events();
     let mut channels = blank_channels();
@@ -36,25 +38,25 @@ fn unpack_case(k: u64) {
         &mut channels[..room_channels],
     );
     match r {
-        Length::Accepted(v) => print_accepted(k, b" unpacked ", v as u64),
-        Length::Refused(e) => print_refused(k, e),
+        Length::Accepted(v) => print_accepted(output, k, b" unpacked ", v as u64)?,
+        Length::Refused(e) => print_refused(output, k, e)?,
     }
-    print_items(room_items, &items);
-    print_events(room_events, &events);
-    print_channels(room_channels, &channels);
+    print_items(output, room_items, &items)?;
+    print_events(output, room_events, &events)?;
+    print_channels(output, room_channels, &channels)
 }
 
 // Op 2: first, second, how many items, event tags and channel tags, the room, then the three lists.
-fn pack_case(k: u64) {
-    let first = lines::inner::word();
-    let second = lines::inner::word();
-    let ni = count();
-    let ne = count();
-    let nc = count();
-    let room = count();
-    let items = read_items(ni);
-    let events = read_events(ne);
-    let channels = read_channels(nc);
+fn pack_case(input: &mut impl Read, output: &mut impl Write, k: u64) -> io::Result<()> {
+    let first = lines::inner::word(input)?;
+    let second = lines::inner::word(input)?;
+    let ni = count(input)?;
+    let ne = count(input)?;
+    let nc = count(input)?;
+    let room = count(input)?;
+    let items = read_items(input, ni)?;
+    let events = read_events(input, ne)?;
+    let channels = read_channels(input, nc)?;
     let mut out = blank_words();
     let r = payload_pack::pack(
         first,
@@ -65,97 +67,99 @@ fn pack_case(k: u64) {
         &mut out[..room],
     );
     match r {
-        Length::Accepted(w) => print_accepted(k, b" packed ", w as u64),
-        Length::Refused(e) => print_refused(k, e),
+        Length::Accepted(w) => print_accepted(output, k, b" packed ", w as u64)?,
+        Length::Refused(e) => print_refused(output, k, e)?,
     }
-    print_words(room, &out);
+    print_words(output, room, &out)
 }
 
 // Op 3: width, and the item as two words, high first.
-fn signed_case(k: u64) {
-    let width = lines::inner::word();
-    let high = lines::inner::word();
-    let low = lines::inner::word();
+fn signed_case(input: &mut impl Read, output: &mut impl Write, k: u64) -> io::Result<()> {
+    let width = lines::inner::word(input)?;
+    let high = lines::inner::word(input)?;
+    let low = lines::inner::word(input)?;
     let r = payload_format::signed(width, words::inner::high_first(high, low));
     match r {
-        Shown::Value(v) => print_signed(k, v),
-        Shown::Refused(e) => print_refused(k, e),
+        Shown::Value(v) => print_signed(output, k, v),
+        Shown::Refused(e) => print_refused(output, k, e),
     }
 }
 
 // Op 4: first, second, n.
-fn needed_case(k: u64) {
-    let first = lines::inner::word();
-    let second = lines::inner::word();
-    let n = lines::inner::word() as usize;
+fn needed_case(input: &mut impl Read, output: &mut impl Write, k: u64) -> io::Result<()> {
+    let first = lines::inner::word(input)?;
+    let second = lines::inner::word(input)?;
+    let n = lines::inner::word(input)? as usize;
     let r = payload_format::words_needed(first, second, n);
     match r {
-        Length::Accepted(w) => print_accepted(k, b" words ", w as u64),
-        Length::Refused(e) => print_refused(k, e),
+        Length::Accepted(w) => print_accepted(output, k, b" words ", w as u64),
+        Length::Refused(e) => print_refused(output, k, e),
     }
 }
 
 // Op 5: first, second, n, item.
-fn coordinates_case(k: u64) {
-    let first = lines::inner::word();
-    let second = lines::inner::word();
-    let n = lines::inner::word() as usize;
-    let item = lines::inner::word() as usize;
+fn coordinates_case(input: &mut impl Read, output: &mut impl Write, k: u64) -> io::Result<()> {
+    let first = lines::inner::word(input)?;
+    let second = lines::inner::word(input)?;
+    let n = lines::inner::word(input)? as usize;
+    let item = lines::inner::word(input)? as usize;
     let r = payload_order::coordinates_of(first, second, n, item);
     match r {
-        Located::At(at) => print_coordinates(k, at),
-        Located::Refused(e) => print_refused(k, e),
+        Located::At(at) => print_coordinates(output, k, at),
+        Located::Refused(e) => print_refused(output, k, e),
     }
 }
 
 // Op 6: first, second, n, time, channel, component, repeat.
-fn item_case(k: u64) {
-    let first = lines::inner::word();
-    let second = lines::inner::word();
-    let n = lines::inner::word() as usize;
-    let time = lines::inner::word();
-    let channel = lines::inner::word();
-    let component = lines::inner::word();
-    let repeat = lines::inner::word();
+fn item_case(input: &mut impl Read, output: &mut impl Write, k: u64) -> io::Result<()> {
+    let first = lines::inner::word(input)?;
+    let second = lines::inner::word(input)?;
+    let n = lines::inner::word(input)? as usize;
+    let time = lines::inner::word(input)?;
+    let channel = lines::inner::word(input)?;
+    let component = lines::inner::word(input)?;
+    let repeat = lines::inner::word(input)?;
     let at = Coordinates {
-        time: time,
-        channel: channel,
-        component: component,
-        repeat: repeat,
+        time,
+        channel,
+        component,
+        repeat,
     };
     let r = payload_order::item_at(first, second, n, at);
     match r {
-        Length::Accepted(i) => print_accepted(k, b" item ", i as u64),
-        Length::Refused(e) => print_refused(k, e),
+        Length::Accepted(i) => print_accepted(output, k, b" item ", i as u64),
+        Length::Refused(e) => print_refused(output, k, e),
     }
 }
 
 // One case by its op; an op that is none of these has no line.
-fn run_case(op: u32, k: u64) {
+fn run_case(input: &mut impl Read, output: &mut impl Write, op: u32, k: u64) -> io::Result<()> {
     if op == 1 {
-        unpack_case(k);
+        unpack_case(input, output, k)?;
     } else if op == 2 {
-        pack_case(k);
+        pack_case(input, output, k)?;
     } else if op == 3 {
-        signed_case(k);
+        signed_case(input, output, k)?;
     } else if op == 4 {
-        needed_case(k);
+        needed_case(input, output, k)?;
     } else if op == 5 {
-        coordinates_case(k);
+        coordinates_case(input, output, k)?;
     } else if op == 6 {
-        item_case(k);
+        item_case(input, output, k)?;
     }
+    Ok(())
 }
 
 // The cases, numbered from 0, to the end of the input; at most 2 ^ 32 of them.
-fn main() {
-    let mut k: u64 = 0;
-    while k < 0x1_0000_0000 {
-        let got = lines::inner::next_word();
+fn main(rt: HostRuntime) -> io::Result<()> {
+    let mut input = rt.stdin();
+    let mut output = rt.stdout();
+    for k in 0..0x1_0000_0000 {
+        let got = lines::inner::next_word(&mut input)?;
         let lines::inner::Input::Word(op) = got else {
-            return;
+            return Ok(());
         };
-        run_case(op, k);
-        k += 1;
+        run_case(&mut input, &mut output, op, k)?;
     }
+    Ok(())
 }

@@ -2,111 +2,118 @@
 // survey packet, a word n, and then n words.
 #![tactic(auto)]
 
-ghost use Rattle.words.specs.Kit.{◌+◌, ◌≤◌, length};
+ghost use Rattle.std.specs.Prelude.{◌+◌, ◌≤◌, length};
 
 use packet::{Packet, Parsed, ParsedSurvey};
+use std::io;
+use std::io::{Read, Write};
 
 // The line of a field of a type 4 body, where the body has it.
-fn show_field(body: &[u32], bit: u32) {
+fn show_field(output: &mut impl Write, body: &[u32], bit: u32) -> io::Result<()> {
     let found = fields::find(body, bit);
     let fields::Found::At(at, n) = found else {
-        return;
+        return Ok(());
     };
-    lines::inner::text(b"  field ");
-    lines::inner::number(bit as u64);
-    lines::inner::named(b"at", at as u64);
-    lines::inner::named(b"words", n as u64);
-    lines::inner::text(b"\n");
+    lines::inner::text(output, b"  field ")?;
+    lines::inner::number(output, bit as u64)?;
+    lines::inner::named(output, b"at", at as u64)?;
+    lines::inner::named(output, b"words", n as u64)?;
+    lines::inner::text(output, b"\n")
 }
 
 // The lines of a type 4 body's fields, highest bit first.
-fn show_fields(body: &[u32]) {
-    let mut bit = 31;
-    while 0 < bit {
-        bit -= 1;
-        show_field(body, bit);
+fn show_fields(output: &mut impl Write, body: &[u32]) -> io::Result<()> {
+    for bit in (0..31).rev() {
+        show_field(output, body, bit)?;
     }
+    Ok(())
 }
 
 // The lines of an accepted packet's fields, where it is of type 4.
-fn show_context(p: Packet, ws: &[u32])
+fn show_context(output: &mut impl Write, p: Packet, ws: &[u32]) -> io::Result<()>
     requires { p.place + p.length ≤ length ws.now }
 {
     let parts = p.parts;
     let body = p.place;
     let end = body + p.length;
     if parts.kind == 4 {
-        show_fields(&ws[body..end]);
+        show_fields(output, &ws[body..end])?;
     }
+    Ok(())
 }
 
 // The line of a refusal.
-fn show_refused(r: words::Refusal) {
-    lines::inner::show_refusal(r);
-    lines::inner::text(b"\n");
+fn show_refused(output: &mut impl Write, r: words::Refusal) -> io::Result<()> {
+    lines::inner::show_refusal(output, r)?;
+    lines::inner::text(output, b"\n")
 }
 
 // The lines of words that are read plainly.
-fn show_plain(ws: &[u32]) {
+fn show_plain(output: &mut impl Write, ws: &[u32]) -> io::Result<()> {
     let answer = packet::read(ws);
     match answer {
         Parsed::Accepted(p) => {
-            lines::inner::show_packet(p);
-            show_context(p, ws);
+            lines::inner::show_packet(output, p)?;
+            show_context(output, p, ws)
         }
-        Parsed::Refused(r) => show_refused(r),
+        Parsed::Refused(r) => show_refused(output, r),
     }
 }
 
 // The lines of words that are read as a survey packet.
-fn show_survey(ws: &[u32]) {
+fn show_survey(output: &mut impl Write, ws: &[u32]) -> io::Result<()> {
     let answer = packet::read_survey(ws);
     match answer {
         ParsedSurvey::Accepted(s) => {
-            lines::inner::show_survey(s);
-            show_context(s.packet, ws);
+            lines::inner::show_survey(output, s)?;
+            show_context(output, s.packet, ws)
         }
-        ParsedSurvey::Refused(r) => show_refused(r),
+        ParsedSurvey::Refused(r) => show_refused(output, r),
     }
 }
 
 // The lines of case k.
-fn show(k: u64, survey: bool, ws: &[u32]) {
-    lines::inner::number(k);
+fn show(output: &mut impl Write, k: u64, survey: bool, ws: &[u32]) -> io::Result<()> {
+    lines::inner::number(output, k)?;
     if survey {
-        show_survey(ws);
+        show_survey(output, ws)
     } else {
-        show_plain(ws);
+        show_plain(output, ws)
     }
 }
 
 // Reads case k into the buffer and writes its lines; whether there was one.
-fn one_case(k: u64, buffer: &mut [u32]) -> bool {
-    let next = lines::inner::next_word();
+fn one_case(
+    input: &mut impl Read,
+    output: &mut impl Write,
+    k: u64,
+    buffer: &mut [u32],
+) -> io::Result<bool> {
+    let next = lines::inner::next_word(input)?;
     let lines::inner::Input::Word(choice) = next else {
-        return false;
+        return Ok(false);
     };
-    let n = lines::inner::word() as usize;
+    let n = lines::inner::word(input)? as usize;
     if buffer.len() < n {
-        return false;
+        return Ok(false);
     }
-    let whole = lines::inner::fill(&mut buffer[0..n]);
+    let whole = lines::inner::fill(input, &mut buffer[0..n])?;
     if whole {
-        show(k, choice == 1, &buffer[0..n]);
+        show(output, k, choice == 1, &buffer[0..n])?;
     }
-    whole
+    Ok(whole)
 }
 
 // A packet has at most 65,535 words; one more may follow it.
-fn main() {
+fn main(rt: HostRuntime) -> io::Result<()> {
+    let mut input = rt.stdin();
+    let mut output = rt.stdout();
     let mut space = [0u32; 65536];
     let buffer: &mut [u32] = &mut space;
-    let mut k: u64 = 0;
-    while k < 0xFFFF_FFFF {
-        if one_case(k, buffer) {
-            k += 1;
-        } else {
-            return;
+    for k in 0..0xFFFF_FFFF {
+        if !one_case(&mut input, &mut output, k, buffer)? {
+            break;
         }
     }
+    Ok(())
 }

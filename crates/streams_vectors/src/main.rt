@@ -4,146 +4,191 @@
 #![tactic(auto)]
 
 use panel_streams::{Changed, Identity, TypeCounts};
+use std::io;
+use std::io::{Read, Write};
 use words::Length;
 
 // The refusal of a case.
-fn show_refusal(n: u32) {
-    lines::inner::named(b"refused", n as u64);
+fn show_refusal(output: &mut impl Write, n: u32) -> io::Result<()> {
+    lines::inner::named(output, b"refused", n as u64)
 }
 
 // An identifier, a choice and a held indicator.
-fn show_declared(identifier: u32, choice: u32, held: u32) {
-    lines::inner::named(b"identifier", identifier as u64);
-    lines::inner::named(b"choice", choice as u64);
-    lines::inner::named(b"held", held as u64);
+fn show_declared(
+    output: &mut impl Write,
+    identifier: u32,
+    choice: u32,
+    held: u32,
+) -> io::Result<()> {
+    lines::inner::named(output, b"identifier", identifier as u64)?;
+    lines::inner::named(output, b"choice", choice as u64)?;
+    lines::inner::named(output, b"held", held as u64)
 }
 
 // A count that has started.
-fn show_started(seen: u32, missing: u32, last: u32) {
-    lines::inner::text(b" started");
-    lines::inner::named(b"seen", seen as u64);
-    lines::inner::named(b"missing", missing as u64);
-    lines::inner::named(b"last", last as u64);
+fn show_started(output: &mut impl Write, seen: u32, missing: u32, last: u32) -> io::Result<()> {
+    lines::inner::text(output, b" started")?;
+    lines::inner::named(output, b"seen", seen as u64)?;
+    lines::inner::named(output, b"missing", missing as u64)?;
+    lines::inner::named(output, b"last", last as u64)
 }
 
 // The identity of a stream of a table that was read.
-fn ask_identity(k: u64, table: &[u32]) {
-    let stream = lines::inner::word() as usize;
-    lines::inner::number(k);
+fn ask_identity(
+    input: &mut impl Read,
+    output: &mut impl Write,
+    k: u64,
+    table: &[u32],
+) -> io::Result<()> {
+    let stream = lines::inner::word(input)? as usize;
+    lines::inner::number(output, k)?;
     match panel_streams::identity(table, stream) {
         Identity::Declared {
             identifier,
             choice,
             held,
-        } => show_declared(identifier, choice, held),
-        Identity::Refused(n) => show_refusal(n),
+        } => show_declared(output, identifier, choice, held)?,
+        Identity::Refused(n) => show_refusal(output, n)?,
     }
-    lines::inner::text(b"\n");
+    lines::inner::text(output, b"\n")
 }
 
 // What a stream of a table that was read counted of a type.
-fn ask_counts(k: u64, table: &[u32]) {
-    let stream = lines::inner::word() as usize;
-    let kind = lines::inner::word();
-    lines::inner::number(k);
+fn ask_counts(
+    input: &mut impl Read,
+    output: &mut impl Write,
+    k: u64,
+    table: &[u32],
+) -> io::Result<()> {
+    let stream = lines::inner::word(input)? as usize;
+    let kind = lines::inner::word(input)?;
+    lines::inner::number(output, k)?;
     match panel_streams::counts(table, stream, kind) {
         TypeCounts::Started {
             seen,
             missing,
             last,
-        } => show_started(seen, missing, last),
-        TypeCounts::NotStarted => lines::inner::text(b" not started"),
-        TypeCounts::Refused(n) => show_refusal(n),
+        } => show_started(output, seen, missing, last)?,
+        TypeCounts::NotStarted => lines::inner::text(output, b" not started")?,
+        TypeCounts::Refused(n) => show_refusal(output, n)?,
     }
-    lines::inner::text(b"\n");
+    lines::inner::text(output, b"\n")
 }
 
 // The line of `own_table`: the words of the layout, or the refusal.
-fn show_own(k: u64, answer: Length) {
-    lines::inner::number(k);
+fn show_own(output: &mut impl Write, k: u64, answer: Length) -> io::Result<()> {
+    lines::inner::number(output, k)?;
     match answer {
-        Length::Accepted(n) => lines::inner::named(b"table", n as u64),
-        Length::Refused(n) => show_refusal(n),
+        Length::Accepted(n) => lines::inner::named(output, b"table", n as u64)?,
+        Length::Refused(n) => show_refusal(output, n)?,
     }
-    lines::inner::text(b"\n");
+    lines::inner::text(output, b"\n")
 }
 
 // The own table of a stream of a table that was read, in a buffer of the room that is asked for.
-fn ask_own(k: u64, table: &[u32], out: &mut [u32]) {
-    let stream = lines::inner::word() as usize;
-    let room = lines::inner::word() as usize;
+fn ask_own(
+    input: &mut impl Read,
+    output: &mut impl Write,
+    k: u64,
+    table: &[u32],
+    out: &mut [u32],
+) -> io::Result<()> {
+    let stream = lines::inner::word(input)? as usize;
+    let room = lines::inner::word(input)? as usize;
     if out.len() < room {
-        return;
+        return Ok(());
     }
     lines::inner::pattern(&mut out[0..room]);
     show_own(
+        output,
         k,
         panel_streams::own_table(table, stream, &mut out[0..room]),
-    );
-    lines::inner::text(b"  words");
-    lines::inner::list(&out[0..room]);
-    lines::inner::text(b"\n");
+    )?;
+    lines::inner::text(output, b"  words")?;
+    lines::inner::list(output, &out[0..room])?;
+    lines::inner::text(output, b"\n")
 }
 
 // The changed fields of two tables, of which the first was read.
-fn ask_changed(k: u64, before: &[u32], after: &mut [u32]) {
-    let stream = lines::inner::word() as usize;
-    let n = lines::inner::word() as usize;
+fn ask_changed(
+    input: &mut impl Read,
+    output: &mut impl Write,
+    k: u64,
+    before: &[u32],
+    after: &mut [u32],
+) -> io::Result<()> {
+    let stream = lines::inner::word(input)? as usize;
+    let n = lines::inner::word(input)? as usize;
     if after.len() < n {
-        return;
+        return Ok(());
     }
-    lines::inner::fill(&mut after[0..n]);
-    let other = lines::inner::word() as usize;
-    lines::inner::number(k);
+    lines::inner::fill(input, &mut after[0..n])?;
+    let other = lines::inner::word(input)? as usize;
+    lines::inner::number(output, k)?;
     match panel_streams::changed(before, stream, &after[0..n], other) {
-        Changed::Fields(w) => lines::inner::named(b"changed", w as u64),
-        Changed::Refused(n) => show_refusal(n),
+        Changed::Fields(w) => lines::inner::named(output, b"changed", w as u64)?,
+        Changed::Refused(n) => show_refusal(output, n)?,
     }
-    lines::inner::text(b"\n");
+    lines::inner::text(output, b"\n")
 }
 
 // What is asked of a table that was read.
-fn ask(k: u64, asked: u32, table: &[u32], more: &mut [u32], out: &mut [u32]) {
+fn ask(
+    input: &mut impl Read,
+    output: &mut impl Write,
+    k: u64,
+    asked: u32,
+    table: &[u32],
+    more: &mut [u32],
+    out: &mut [u32],
+) -> io::Result<()> {
     if asked == 1 {
-        ask_identity(k, table);
+        ask_identity(input, output, k, table)
     } else if asked == 2 {
-        ask_counts(k, table);
+        ask_counts(input, output, k, table)
     } else if asked == 3 {
-        ask_own(k, table, out);
+        ask_own(input, output, k, table, out)
     } else {
-        ask_changed(k, table, more);
+        ask_changed(input, output, k, table, more)
     }
 }
 
 // Case k; whether there was one.
-fn one_case(k: u64, table: &mut [u32], more: &mut [u32], out: &mut [u32]) -> bool {
-    let next = lines::inner::next_word();
+fn one_case(
+    input: &mut impl Read,
+    output: &mut impl Write,
+    k: u64,
+    table: &mut [u32],
+    more: &mut [u32],
+    out: &mut [u32],
+) -> io::Result<bool> {
+    let next = lines::inner::next_word(input)?;
     let lines::inner::Input::Word(asked) = next else {
-        return false;
+        return Ok(false);
     };
-    let n = lines::inner::word() as usize;
+    let n = lines::inner::word(input)? as usize;
     if table.len() < n {
-        return false;
+        return Ok(false);
     }
-    lines::inner::fill(&mut table[0..n]);
-    ask(k, asked, &table[0..n], more, out);
-    true
+    lines::inner::fill(input, &mut table[0..n])?;
+    ask(input, output, k, asked, &table[0..n], more, out)?;
+    Ok(true)
 }
 
 // A table here has at most 2,900 words, a buffer for an own table 200.
-fn main() {
+fn main(rt: HostRuntime) -> io::Result<()> {
+    let mut input = rt.stdin();
+    let mut output = rt.stdout();
     let mut table_space = [0u32; 2900];
     let mut more_space = [0u32; 2900];
     let mut out_space = [0u32; 200];
     let table: &mut [u32] = &mut table_space;
     let more: &mut [u32] = &mut more_space;
     let out: &mut [u32] = &mut out_space;
-    let mut k: u64 = 0;
-    while k < 0xFFFF_FFFF {
-        if one_case(k, table, more, out) {
-            k += 1;
-        } else {
-            return;
+    for k in 0..0xFFFF_FFFF {
+        if !one_case(&mut input, &mut output, k, table, more, out)? {
+            break;
         }
     }
+    Ok(())
 }

@@ -5,59 +5,61 @@
 
 use packet::{Packet, Parsed, ParsedSurvey, Parts};
 use packet_trailer::TrailerWord;
+use std::io;
+use std::io::{Read, Write};
 use words::Length;
 
 // The line of a buffer: its words where they are few, and else their sum.
-fn show_buffer(ws: &[u32]) {
+fn show_buffer(output: &mut impl Write, ws: &[u32]) -> io::Result<()> {
     if ws.len() <= 300 {
-        lines::inner::text(b"  words");
-        lines::inner::list(ws);
+        lines::inner::text(output, b"  words")?;
+        lines::inner::list(output, ws)?;
     } else {
-        lines::inner::text(b"  sum ");
-        lines::inner::number(lines::inner::sum_of(ws) as u64);
+        lines::inner::text(output, b"  sum ")?;
+        lines::inner::number(output, lines::inner::sum_of(ws) as u64)?;
     }
-    lines::inner::text(b"\n");
+    lines::inner::text(output, b"\n")
 }
 
 // The line of a refusal.
-fn show_refused(n: u32) {
-    lines::inner::named(b"refused", n as u64);
-    lines::inner::text(b"\n");
+fn show_refused(output: &mut impl Write, n: u32) -> io::Result<()> {
+    lines::inner::named(output, b"refused", n as u64)?;
+    lines::inner::text(output, b"\n")
 }
 
 // The line of what was answered; whether it was accepted.
-fn show_written(answer: Length) -> bool {
+fn show_written(output: &mut impl Write, answer: Length) -> io::Result<bool> {
     match answer {
         Length::Accepted(n) => {
-            lines::inner::named(b"wrote", n as u64);
-            lines::inner::text(b"\n");
-            true
+            lines::inner::named(output, b"wrote", n as u64)?;
+            lines::inner::text(output, b"\n")?;
+            Ok(true)
         }
         Length::Refused(n) => {
-            show_refused(n);
-            false
+            show_refused(output, n)?;
+            Ok(false)
         }
     }
 }
 
 // The parts of the next case.
-fn next_parts() -> Parts {
-    let kind = lines::inner::word();
-    let classed = lines::inner::word() != 0;
-    let trailed = lines::inner::word() != 0;
-    let tsm = lines::inner::word() != 0;
-    let tsi = lines::inner::word();
-    let tsf = lines::inner::word();
-    let count = lines::inner::word();
-    let identifier = lines::inner::word();
-    let oui = lines::inner::word();
-    let information = lines::inner::word();
-    let code = lines::inner::word();
-    let seconds = lines::inner::word();
-    let high = lines::inner::word();
-    let low = lines::inner::word();
-    let trailer = lines::inner::word();
-    Parts {
+fn next_parts(input: &mut impl Read) -> io::Result<Parts> {
+    let kind = lines::inner::word(input)?;
+    let classed = lines::inner::word(input)? != 0;
+    let trailed = lines::inner::word(input)? != 0;
+    let tsm = lines::inner::word(input)? != 0;
+    let tsi = lines::inner::word(input)?;
+    let tsf = lines::inner::word(input)?;
+    let count = lines::inner::word(input)?;
+    let identifier = lines::inner::word(input)?;
+    let oui = lines::inner::word(input)?;
+    let information = lines::inner::word(input)?;
+    let code = lines::inner::word(input)?;
+    let seconds = lines::inner::word(input)?;
+    let high = lines::inner::word(input)?;
+    let low = lines::inner::word(input)?;
+    let trailer = lines::inner::word(input)?;
+    Ok(Parts {
         kind,
         classed,
         trailed,
@@ -72,12 +74,16 @@ fn next_parts() -> Parts {
         seconds,
         fraction: words::inner::high_first(high, low),
         trailer,
-    }
+    })
 }
 
 // The pad count of the next case, where it is a survey packet.
-fn next_pad(survey: bool) -> u32 {
-    if survey { lines::inner::word() } else { 0 }
+fn next_pad(input: &mut impl Read, survey: bool) -> io::Result<u32> {
+    if survey {
+        lines::inner::word(input)
+    } else {
+        Ok(0)
+    }
 }
 
 // Writes some parts and a body at a place of a buffer, plainly or as a survey packet.
@@ -96,166 +102,212 @@ fn write_by(
 }
 
 // The same, and shows the answer and the buffer; whether it was accepted.
-fn write(survey: bool, parts: Parts, pad: u32, body: &[u32], out: &mut [u32], at: usize) -> bool {
+fn write(
+    output: &mut impl Write,
+    survey: bool,
+    parts: Parts,
+    pad: u32,
+    body: &[u32],
+    out: &mut [u32],
+    at: usize,
+) -> io::Result<bool> {
     lines::inner::pattern(out);
-    let written = show_written(write_by(survey, parts, pad, body, out, at));
-    show_buffer(out);
-    written
+    let written = show_written(output, write_by(survey, parts, pad, body, out, at))?;
+    show_buffer(output, out)?;
+    Ok(written)
 }
 
 // Shows the packet at the front of the words, where it is accepted.
-fn show_plain(ws: &[u32]) {
+fn show_plain(output: &mut impl Write, ws: &[u32]) -> io::Result<()> {
     let answer = packet::read(ws);
     if let Parsed::Accepted(p) = answer {
-        lines::inner::text(b" ");
-        lines::inner::show_packet(p);
+        lines::inner::text(output, b" ")?;
+        lines::inner::show_packet(output, p)?;
     }
+    Ok(())
 }
 
 // The same of a survey packet.
-fn show_survey(ws: &[u32]) {
+fn show_survey(output: &mut impl Write, ws: &[u32]) -> io::Result<()> {
     let answer = packet::read_survey(ws);
     if let ParsedSurvey::Accepted(s) = answer {
-        lines::inner::text(b" ");
-        lines::inner::show_survey(s);
+        lines::inner::text(output, b" ")?;
+        lines::inner::show_survey(output, s)?;
     }
+    Ok(())
 }
 
 // Shows the packet at a place of a buffer.
-fn show_again(survey: bool, ws: &[u32], at: usize) {
+fn show_again(output: &mut impl Write, survey: bool, ws: &[u32], at: usize) -> io::Result<()> {
     if ws.len() < at {
-        return;
+        return Ok(());
     }
     if survey {
-        show_survey(&ws[at..]);
+        show_survey(output, &ws[at..])
     } else {
-        show_plain(&ws[at..]);
+        show_plain(output, &ws[at..])
     }
 }
 
 // A case that writes.
-fn write_case(survey: bool, body: &mut [u32], out: &mut [u32]) {
-    let parts = next_parts();
-    let pad = next_pad(survey);
-    let at = lines::inner::word() as usize;
-    let room = lines::inner::word() as usize;
-    let n = lines::inner::word() as usize;
+fn write_case(
+    input: &mut impl Read,
+    output: &mut impl Write,
+    survey: bool,
+    body: &mut [u32],
+    out: &mut [u32],
+) -> io::Result<()> {
+    let parts = next_parts(input)?;
+    let pad = next_pad(input, survey)?;
+    let at = lines::inner::word(input)? as usize;
+    let room = lines::inner::word(input)? as usize;
+    let n = lines::inner::word(input)? as usize;
     if body.len() < n {
-        return;
+        return Ok(());
     }
     if out.len() < room {
-        return;
+        return Ok(());
     }
-    lines::inner::fill(&mut body[0..n]);
-    write(survey, parts, pad, &body[0..n], &mut out[0..room], at);
+    lines::inner::fill(input, &mut body[0..n])?;
+    write(
+        output,
+        survey,
+        parts,
+        pad,
+        &body[0..n],
+        &mut out[0..room],
+        at,
+    )?;
+    Ok(())
 }
 
 // A packet that was read, written again at a place of a buffer and read again.
-fn write_again(survey: bool, p: Packet, pad: u32, ws: &[u32], out: &mut [u32], at: usize) {
+fn write_again(
+    output: &mut impl Write,
+    survey: bool,
+    p: Packet,
+    pad: u32,
+    ws: &[u32],
+    out: &mut [u32],
+    at: usize,
+) -> io::Result<()> {
     let body = p.place;
     let length = p.length;
     if ws.len() < body {
-        return;
+        return Ok(());
     }
     if ws.len() - body < length {
-        return;
+        return Ok(());
     }
     let end = body + length;
-    if write(survey, p.parts, pad, &ws[body..end], out, at) {
-        show_again(survey, out, at);
+    if write(output, survey, p.parts, pad, &ws[body..end], out, at)? {
+        show_again(output, survey, out, at)?;
     }
+    Ok(())
 }
 
 // The line of words that reading refuses.
-fn show_unread(r: words::Refusal) {
-    lines::inner::show_refusal(r);
-    lines::inner::text(b"\n");
+fn show_unread(output: &mut impl Write, r: words::Refusal) -> io::Result<()> {
+    lines::inner::show_refusal(output, r)?;
+    lines::inner::text(output, b"\n")
 }
 
 // Words that are read plainly, and written and read again.
-fn plain_again(ws: &[u32], out: &mut [u32], at: usize) {
+fn plain_again(output: &mut impl Write, ws: &[u32], out: &mut [u32], at: usize) -> io::Result<()> {
     let answer = packet::read(ws);
     match answer {
-        Parsed::Refused(r) => show_unread(r),
-        Parsed::Accepted(p) => write_again(false, p, 0, ws, out, at),
+        Parsed::Refused(r) => show_unread(output, r),
+        Parsed::Accepted(p) => write_again(output, false, p, 0, ws, out, at),
     }
 }
 
 // The same as a survey packet.
-fn survey_again(ws: &[u32], out: &mut [u32], at: usize) {
+fn survey_again(output: &mut impl Write, ws: &[u32], out: &mut [u32], at: usize) -> io::Result<()> {
     let answer = packet::read_survey(ws);
     match answer {
-        ParsedSurvey::Refused(r) => show_unread(r),
-        ParsedSurvey::Accepted(s) => write_again(true, s.packet, s.pad, ws, out, at),
+        ParsedSurvey::Refused(r) => show_unread(output, r),
+        ParsedSurvey::Accepted(s) => write_again(output, true, s.packet, s.pad, ws, out, at),
     }
 }
 
 // A case that reads, writes again and reads again.
-fn again_case(survey: bool, ws: &mut [u32], out: &mut [u32]) {
-    let at = lines::inner::word() as usize;
-    let room = lines::inner::word() as usize;
-    let n = lines::inner::word() as usize;
+fn again_case(
+    input: &mut impl Read,
+    output: &mut impl Write,
+    survey: bool,
+    ws: &mut [u32],
+    out: &mut [u32],
+) -> io::Result<()> {
+    let at = lines::inner::word(input)? as usize;
+    let room = lines::inner::word(input)? as usize;
+    let n = lines::inner::word(input)? as usize;
     if ws.len() < n {
-        return;
+        return Ok(());
     }
     if out.len() < room {
-        return;
+        return Ok(());
     }
-    lines::inner::fill(&mut ws[0..n]);
+    lines::inner::fill(input, &mut ws[0..n])?;
     if survey {
-        survey_again(&ws[0..n], &mut out[0..room], at);
+        survey_again(output, &ws[0..n], &mut out[0..room], at)
     } else {
-        plain_again(&ws[0..n], &mut out[0..room], at);
+        plain_again(output, &ws[0..n], &mut out[0..room], at)
     }
 }
 
 // A case that makes a trailer word.
-fn trailer_case() {
-    let enables = lines::inner::word();
-    let indicators = lines::inner::word();
-    let e = lines::inner::word();
-    let associated = lines::inner::word();
+fn trailer_case(input: &mut impl Read, output: &mut impl Write) -> io::Result<()> {
+    let enables = lines::inner::word(input)?;
+    let indicators = lines::inner::word(input)?;
+    let e = lines::inner::word(input)?;
+    let associated = lines::inner::word(input)?;
     let answer = packet_trailer::trailer_word(enables, indicators, e, associated);
     match answer {
-        TrailerWord::Accepted(w) => lines::inner::named(b"trailer", w as u64),
-        TrailerWord::Refused(n) => lines::inner::named(b"refused", n as u64),
+        TrailerWord::Accepted(w) => lines::inner::named(output, b"trailer", w as u64)?,
+        TrailerWord::Refused(n) => lines::inner::named(output, b"refused", n as u64)?,
     }
-    lines::inner::text(b"\n");
+    lines::inner::text(output, b"\n")
 }
 
 // Runs case k; whether there was one.
-fn one_case(k: u64, ws: &mut [u32], out: &mut [u32]) -> bool {
-    let next = lines::inner::next_word();
+fn one_case(
+    input: &mut impl Read,
+    output: &mut impl Write,
+    k: u64,
+    ws: &mut [u32],
+    out: &mut [u32],
+) -> io::Result<bool> {
+    let next = lines::inner::next_word(input)?;
     let lines::inner::Input::Word(op) = next else {
-        return false;
+        return Ok(false);
     };
-    lines::inner::number(k);
+    lines::inner::number(output, k)?;
     if op == 1 {
-        write_case(false, ws, out);
+        write_case(input, output, false, ws, out)?;
     } else if op == 2 {
-        again_case(false, ws, out);
+        again_case(input, output, false, ws, out)?;
     } else if op == 3 {
-        trailer_case();
+        trailer_case(input, output)?;
     } else if op == 4 {
-        write_case(true, ws, out);
+        write_case(input, output, true, ws, out)?;
     } else {
-        again_case(true, ws, out);
+        again_case(input, output, true, ws, out)?;
     }
-    true
+    Ok(true)
 }
 
 // A packet has at most 65,535 words; a body may be longer by a little, to be refused.
-fn main() {
+fn main(rt: HostRuntime) -> io::Result<()> {
+    let mut input = rt.stdin();
+    let mut output = rt.stdout();
     let mut body_space = [0u32; 65600];
     let mut out_space = [0u32; 65600];
     let ws: &mut [u32] = &mut body_space;
     let out: &mut [u32] = &mut out_space;
-    let mut k: u64 = 0;
-    while k < 0xFFFF_FFFF {
-        if one_case(k, ws, out) {
-            k += 1;
-        } else {
-            return;
+    for k in 0..0xFFFF_FFFF {
+        if !one_case(&mut input, &mut output, k, ws, out)? {
+            break;
         }
     }
+    Ok(())
 }

@@ -1,4 +1,0 @@
--- The crate's laws.
-
--- the digits of a signed number
-pub mod MagnitudeLaws
