@@ -8,8 +8,7 @@ ghost use Rattle.vrt49.specs.Answers.{Tells, in_number, plain, beside};
 ghost use Rattle.vrt49.specs.Indexes.{taken_values, landed_values, SmallTaken};
 
 // Starts an index for a table at boundary 0; answers TABLE or ROOM. `length` takes the words that the index has then.
-#[unsafe(no_mangle)]
-pub extern "C" fn vrt49_start_index(table: &[u32], index: &mut [u32], length: &mut usize) -> u32
+pub fn vrt49_start_index(table: &[u32], index: &mut [u32], length: &mut usize) -> u32
     ensures { Tells (beside plain) (start_index_of table.now index.old) (index.old, length.old) result (index.new, length.new) }
 {
     crate::answers::give_length(index::start_index(table, index), length)
@@ -43,13 +42,7 @@ fn taken_words(taken: index_grow::Taken) -> [u32; 5]
 
 // Takes the recording's next packet in, the first of the words; answers TABLE, PAGE, what reading refuses, with the field's bit and the word in the number, or
 // ROOM. Five values, as an entry of a run has them: 0, size, type, stream and missing, or STREAM's number, size, the word, 0 and 0.
-#[unsafe(no_mangle)]
-pub extern "C" fn vrt49_grow(
-    table: &mut [u32],
-    words: &[u32],
-    index: &mut [u32],
-    answer: &mut [u32; 5],
-) -> u32
+pub fn vrt49_grow(table: &mut [u32], words: &[u32], index: &mut [u32], answer: &mut [u32; 5]) -> u32
     ensures { Tells (beside taken_values) (in_number (grow_told table.old words.now index.old)) ((table.old, index.old), answer.old) result ((table.new, index.new), answer.new) }
 {
     match index_grow::grow(table, words, index) {
@@ -63,8 +56,7 @@ pub extern "C" fn vrt49_grow(
 
 // Jumps to packet n of a recording whose words are handed in from word `first` on; answers PAGE, PLACE, PAGE or ROOM. `length` takes the layout's words, and
 // `place` the packet's word place.
-#[unsafe(no_mangle)]
-pub extern "C" fn vrt49_jump(
+pub fn vrt49_jump(
     words: &[u32],
     first: u64,
     index: &[u32],

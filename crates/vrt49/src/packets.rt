@@ -37,8 +37,7 @@ fn packet_words(p: packet::Packet) -> [u32; 18]
 
 // Reads the packet at the front of the words; answers what reading refuses, 1 to 10, with the field's bit and the word in the number. Eighteen
 // values.
-#[unsafe(no_mangle)]
-pub extern "C" fn vrt49_read(words: &[u32], answer: &mut [u32; 18]) -> u32
+pub fn vrt49_read(words: &[u32], answer: &mut [u32; 18]) -> u32
     ensures { Tells packet_values (in_number (read_told words.now)) answer.old result answer.new }
 {
     match packet::read(words) {
@@ -66,8 +65,7 @@ fn survey_words(s: packet::Survey) -> [u32; 22]
 
 // Reads the packet at the front of the words as 49A; answers what reading refuses, 1 to 10, and PAD, with the bit and the word in the number. Twenty-two values:
 // those of `vrt49_read`, the pad count, the two words of the payload's format, and its items; these four are zero of a type other than 1.
-#[unsafe(no_mangle)]
-pub extern "C" fn vrt49_read_survey(words: &[u32], answer: &mut [u32; 22]) -> u32
+pub fn vrt49_read_survey(words: &[u32], answer: &mut [u32; 22]) -> u32
     ensures { Tells survey_values (in_number (survey_told words.now)) answer.old result answer.new }
 {
     match packet::read_survey(words) {
@@ -112,8 +110,7 @@ fn write_words(parts: &[u32], body: &[u32], out: &mut [u32], at: usize) -> words
 }
 
 // Writes a packet from a word of a buffer on; answers what writing refuses. `length` takes the words written.
-#[unsafe(no_mangle)]
-pub extern "C" fn vrt49_write(
+pub fn vrt49_write(
     parts: &[u32; 15],
     body: &[u32],
     out: &mut [u32],
@@ -138,8 +135,7 @@ fn write_survey_words(parts: &[u32], body: &[u32], out: &mut [u32], at: usize) -
 }
 
 // Writes a packet as 49A from a word of a buffer on; answers what writing refuses, PAD among it. `length` takes the words written.
-#[unsafe(no_mangle)]
-pub extern "C" fn vrt49_write_survey(
+pub fn vrt49_write_survey(
     parts: &[u32; 16],
     body: &[u32],
     out: &mut [u32],
@@ -152,8 +148,7 @@ pub extern "C" fn vrt49_write_survey(
 }
 
 // A trailer word's parts; nothing is refused. Four values.
-#[unsafe(no_mangle)]
-pub extern "C" fn vrt49_trailer_parts(word: u32, answer: &mut [u32; 4]) -> u32
+pub fn vrt49_trailer_parts(word: u32, answer: &mut [u32; 4]) -> u32
     ensures { Tells trailer_values (accepted (trailer_of word)) answer.old result answer.new }
 {
     let t = packet_trailer::trailer_parts(word);
@@ -167,8 +162,7 @@ pub extern "C" fn vrt49_trailer_parts(word: u32, answer: &mut [u32; 4]) -> u32
 }
 
 // The trailer word of its parts; answers VALUE.
-#[unsafe(no_mangle)]
-pub extern "C" fn vrt49_trailer_word(
+pub fn vrt49_trailer_word(
     enables: u32,
     indicators: u32,
     e: u32,
@@ -187,16 +181,14 @@ pub extern "C" fn vrt49_trailer_word(
 }
 
 // How many fields an indicator word carries: the answer itself.
-#[unsafe(no_mangle)]
-pub extern "C" fn vrt49_field_count(indicator: u32) -> u32
+pub fn vrt49_field_count(indicator: u32) -> u32
     ensures { result ≡ field_count indicator }
 {
     fields::field_count(indicator)
 }
 
 // Whether a type 4 body is as document 01 says; answers INDICATOR, LAYOUT or FIELD where it is not.
-#[unsafe(no_mangle)]
-pub extern "C" fn vrt49_check_body(body: &[u32]) -> u32
+pub fn vrt49_check_body(body: &[u32]) -> u32
     ensures { Tells plain (context_of body.now) tt result tt }
 {
     match fields::check_body(body) {
@@ -206,8 +198,7 @@ pub extern "C" fn vrt49_check_body(body: &[u32]) -> u32
 }
 
 // Where the field of a bit stands in a type 4 body; nothing is refused. Three values: 1, its place and its words, or zeros where it is absent.
-#[unsafe(no_mangle)]
-pub extern "C" fn vrt49_find(body: &[u32], bit: u32, answer: &mut [usize; 3]) -> u32
+pub fn vrt49_find(body: &[u32], bit: u32, answer: &mut [usize; 3]) -> u32
     ensures { Tells found_values (accepted (found_of bit body.now)) answer.old result answer.new }
 {
     match fields::find(body, bit) {

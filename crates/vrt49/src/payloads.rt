@@ -8,8 +8,7 @@ ghost use Rattle.vrt49.specs.Answers.{Tells, plain, left, beside};
 ghost use Rattle.vrt49.specs.Payloads.{coordinates_values, coordinates_in};
 
 // Unpacks n items with their event tags and channel tags; answers FORMAT, COUNT or ROOM.
-#[unsafe(no_mangle)]
-pub extern "C" fn vrt49_unpack(
+pub fn vrt49_unpack(
     first: u32,
     second: u32,
     n: usize,
@@ -27,8 +26,7 @@ pub extern "C" fn vrt49_unpack(
 }
 
 // Packs items with their event tags and channel tags; answers FORMAT, COUNT, VALUE or ROOM. `length` takes the words written.
-#[unsafe(no_mangle)]
-pub extern "C" fn vrt49_pack(
+pub fn vrt49_pack(
     first: u32,
     second: u32,
     items: &[u64],
@@ -46,16 +44,14 @@ pub extern "C" fn vrt49_pack(
 }
 
 // The words that n items need; answers FORMAT or COUNT.
-#[unsafe(no_mangle)]
-pub extern "C" fn vrt49_words_needed(first: u32, second: u32, n: usize, length: &mut usize) -> u32
+pub fn vrt49_words_needed(first: u32, second: u32, n: usize, length: &mut usize) -> u32
     ensures { Tells plain (needed_of first second n) length.old result length.new }
 {
     crate::answers::give_length(payload_format::words_needed(first, second, n), length)
 }
 
 // The time, channel, component and repeat of an item among n; answers FORMAT, COUNT or VALUE. Four values.
-#[unsafe(no_mangle)]
-pub extern "C" fn vrt49_coordinates_of(
+pub fn vrt49_coordinates_of(
     first: u32,
     second: u32,
     n: usize,
@@ -74,8 +70,7 @@ pub extern "C" fn vrt49_coordinates_of(
 }
 
 // The item among n that has these coordinates; answers FORMAT, COUNT or VALUE.
-#[unsafe(no_mangle)]
-pub extern "C" fn vrt49_item_at(
+pub fn vrt49_item_at(
     first: u32,
     second: u32,
     n: usize,
@@ -94,8 +89,7 @@ pub extern "C" fn vrt49_item_at(
 }
 
 // The two's complement value of an item; answers FORMAT or VALUE.
-#[unsafe(no_mangle)]
-pub extern "C" fn vrt49_signed(width: u32, item: u64, value: &mut i64) -> u32
+pub fn vrt49_signed(width: u32, item: u64, value: &mut i64) -> u32
     ensures { Tells plain (signed_of width item) value.old result value.new }
 {
     match payload_format::signed(width, item) {

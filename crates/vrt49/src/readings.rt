@@ -118,8 +118,7 @@ fn columns_of(
 }
 
 // What the panel shows of a stream's field; answers TABLE, STREAM or VALUE. The kind, the parts, the whole hertz, and two levels.
-#[unsafe(no_mangle)]
-pub extern "C" fn vrt49_reading(
+pub fn vrt49_reading(
     table: &[u32],
     stream: usize,
     bit: u32,
@@ -144,8 +143,7 @@ pub extern "C" fn vrt49_reading(
 }
 
 // What the panel shows of every field of a stream; answers TABLE or STREAM. Each number of a reading has a column, whose entry i is of bit 30 - i.
-#[unsafe(no_mangle)]
-pub extern "C" fn vrt49_readings(
+pub fn vrt49_readings(
     table: &[u32],
     stream: usize,
     kinds: &mut [u32; 21],
@@ -166,8 +164,7 @@ pub extern "C" fn vrt49_readings(
 }
 
 // The held words of a stream's field, at the front of a buffer; answers TABLE, STREAM, VALUE or ROOM. `length` takes how many.
-#[unsafe(no_mangle)]
-pub extern "C" fn vrt49_held_words(
+pub fn vrt49_held_words(
     table: &[u32],
     stream: usize,
     bit: u32,

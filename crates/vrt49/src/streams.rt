@@ -7,8 +7,7 @@ ghost use Rattle.vrt49.specs.Answers.{Tells, plain, beside};
 ghost use Rattle.vrt49.specs.Streams.{identity_values, count_values};
 
 // The identifier of a stream, its choice, and its held indicator; answers TABLE or STREAM.
-#[unsafe(no_mangle)]
-pub extern "C" fn vrt49_identity(
+pub fn vrt49_identity(
     table: &[u32],
     stream: usize,
     identifier: &mut u32,
@@ -33,13 +32,7 @@ pub extern "C" fn vrt49_identity(
 }
 
 // What a stream counted of a type; answers TABLE, STREAM or VALUE. Four values: started, seen, missing, last.
-#[unsafe(no_mangle)]
-pub extern "C" fn vrt49_counts(
-    table: &[u32],
-    stream: usize,
-    kind: u32,
-    answer: &mut [u32; 4],
-) -> u32
+pub fn vrt49_counts(table: &[u32], stream: usize, kind: u32, answer: &mut [u32; 4]) -> u32
     ensures { Tells count_values (type_counts_of table.now stream kind) answer.old result answer.new }
 {
     match panel_streams::counts(table, stream, kind) {
@@ -60,21 +53,14 @@ pub extern "C" fn vrt49_counts(
 }
 
 // The record of a stream as a table of its own, at the front of a buffer; answers TABLE, STREAM or ROOM. `length` takes the words of its layout.
-#[unsafe(no_mangle)]
-pub extern "C" fn vrt49_own_table(
-    table: &[u32],
-    stream: usize,
-    out: &mut [u32],
-    length: &mut usize,
-) -> u32
+pub fn vrt49_own_table(table: &[u32], stream: usize, out: &mut [u32], length: &mut usize) -> u32
     ensures { Tells (beside plain) (own_table_of table.now stream out.old) (out.old, length.old) result (out.new, length.new) }
 {
     crate::answers::give_length(panel_streams::own_table(table, stream, out), length)
 }
 
 // The bits of the fields for which two streams do not hold the same words; answers TABLE or STREAM, of either.
-#[unsafe(no_mangle)]
-pub extern "C" fn vrt49_changed(
+pub fn vrt49_changed(
     before: &[u32],
     before_stream: usize,
     after: &[u32],

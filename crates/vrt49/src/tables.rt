@@ -9,21 +9,14 @@ ghost use Rattle.vrt49.specs.Answers.{Tells, in_number, plain, beside};
 ghost use Rattle.vrt49.specs.Tables.{heard_values, reached_values};
 
 // Starts a table for identifiers and their choices; answers LIST or ROOM. `length` takes the layout's words.
-#[unsafe(no_mangle)]
-pub extern "C" fn vrt49_start(
-    ids: &[u32],
-    choices: &[u32],
-    table: &mut [u32],
-    length: &mut usize,
-) -> u32
+pub fn vrt49_start(ids: &[u32], choices: &[u32], table: &mut [u32], length: &mut usize) -> u32
     ensures { Tells (beside plain) (start_of ids.now choices.now table.old) (table.old, length.old) result (table.new, length.new) }
 {
     crate::answers::give_length(table::start(ids, choices, table), length)
 }
 
 // Whether a table is well made: 1 or 0.
-#[unsafe(no_mangle)]
-pub extern "C" fn vrt49_well_made(table: &[u32]) -> u32
+pub fn vrt49_well_made(table: &[u32]) -> u32
     ensures { result ≡ when (well_made table.now) 1 }
 {
     crate::answers::flag(table::well_made(table))
@@ -39,8 +32,7 @@ fn heard_words(h: play::Heard) -> [u32; 4]
 
 // Plays the packet at the front of the words; answers TABLE, what reading refuses, or STREAM, with the field's bit and the word in the number. Four values: size,
 // type, stream, missing.
-#[unsafe(no_mangle)]
-pub extern "C" fn vrt49_play(table: &mut [u32], words: &[u32], answer: &mut [u32; 4]) -> u32
+pub fn vrt49_play(table: &mut [u32], words: &[u32], answer: &mut [u32; 4]) -> u32
     ensures { Tells (beside heard_values) (in_number (play_told table.old words.now)) (table.old, answer.old) result (table.new, answer.new) }
 {
     match play::play(table, words) {
@@ -53,8 +45,7 @@ pub extern "C" fn vrt49_play(table: &mut [u32], words: &[u32], answer: &mut [u32
 }
 
 // Plays packets from a place on, five words of answers for each; answers TABLE. `packets` takes how many have an entry, and `next` the place after them.
-#[unsafe(no_mangle)]
-pub extern "C" fn vrt49_play_run(
+pub fn vrt49_play_run(
     table: &mut [u32],
     words: &[u32],
     from: usize,

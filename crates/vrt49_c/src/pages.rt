@@ -1,0 +1,25 @@
+// The page of a table: its length, saved, and put back.
+ghost use Rattle.page.specs.Save.{length_of, save_of};
+ghost use Rattle.page.specs.PutBack.{put_back_of};
+ghost use Rattle.vrt49.specs.Answers.{Tells, plain, beside};
+
+#[unsafe(no_mangle)]
+pub extern "C" fn vrt49_page_length(table: &[u32], length: &mut usize) -> u32
+    ensures { Tells plain (length_of table.now) length.old result length.new }
+{
+    vrt49::vrt49_page_length(table, length)
+}
+
+#[unsafe(no_mangle)]
+pub extern "C" fn vrt49_save(table: &[u32], page: &mut [u32], length: &mut usize) -> u32
+    ensures { Tells (beside plain) (save_of table.now page.old) (page.old, length.old) result (page.new, length.new) }
+{
+    vrt49::vrt49_save(table, page, length)
+}
+
+#[unsafe(no_mangle)]
+pub extern "C" fn vrt49_put_back(page: &[u32], table: &mut [u32], length: &mut usize) -> u32
+    ensures { Tells (beside plain) (put_back_of page.now table.old) (table.old, length.old) result (table.new, length.new) }
+{
+    vrt49::vrt49_put_back(page, table, length)
+}
