@@ -30,9 +30,8 @@ test:
 # proves the calls for C and builds the library
 lib: python
 	@tools/check_header
-	@mkdir -p target && rm -f target/lib.log
 	@echo 'proving the calls for C, some minutes the first time ..'
-	@rt staticlib vrt49 >target/lib.log 2>&1 || { tail -n 20 target/lib.log; exit 1; }
+	@tools/library
 	@echo 'proved and built: target/staticlib/libvrt49.a; its header: include/vrt49.h'
 
 # installs Python and the compiler of C from Debian where they are missing

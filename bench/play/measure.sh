@@ -15,13 +15,15 @@ trap 'exit 1' HUP INT TERM
 mkdir -p "$work"
 if [ -z "${LIBRARY:-}" ]; then
     mkdir -p "$work/crates/play_c/src"
-    for c in words fields packet_survey packet record table play; do rm -rf "$work/crates/$c"; cp -R "crates/$c" "$work/crates/"; rm -rf "$work/crates/$c/must-fail"; done
+    for c in words fields packet_survey packet record table play; do
+        rm -rf "$work/crates/$c"
+        cp -R "crates/$c" "$work/crates/" # with its out/: what is proved already is not proved again
+        rm -rf "$work/crates/$c/must-fail"
+    done
     cp "$here/calls.txt" "$work/crates/play_c/src/lib.rt"
-    { grep -E '^(words|fields|packet_survey|packet|record|table|play):' crates.txt; echo 'play_c: words fields packet_survey packet record table play'; } >"$work/crates.txt"
-    mkdir -p "$work/target" # what is proved already is not proved again
-    for part in rlib stamp; do [ ! -d "target/$part" ] || cp -R "target/$part" "$work/target/"; done
-    (cd "$work" && rt staticlib play_c >"$work/log" 2>&1) || { tail -5 "$work/log"; exit 1; }
-    set -- "$work/target/staticlib/libplay_c.a"
+    { grep -E '^(words|fields|packet_survey|packet|record|table|play):' crates.txt; echo 'play_c staticlib: words fields packet_survey packet record table play'; } >"$work/crates.txt"
+    (cd "$work/crates/play_c" && rt lib >"$work/log" 2>&1) || { tail -5 "$work/log"; exit 1; }
+    set -- "$work/crates/play_c/out/libplay_c.a"
 else
     set -- -Iinclude "$here/library.c" "$LIBRARY"
 fi

@@ -13,7 +13,7 @@ work=${WORK:-$(mktemp -d)}
 trap 'exit 1' HUP INT TERM
 mkdir -p "$work"
 library=${LIBRARY:-target/staticlib/libvrt49.a}
-[ -n "${LIBRARY:-}" ] || rt staticlib vrt49 >"$work/log" 2>&1 || { tail -5 "$work/log"; exit 1; }
+[ -n "${LIBRARY:-}" ] || tools/library "$work/log"
 link=-luhd load=
 if [ "$(uname -m)" != x86_64 ]; then
     root=${UHD_ROOT:-$work/uhd}

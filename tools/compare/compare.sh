@@ -54,7 +54,7 @@ step 'spoilt lists of calls' python3 -B $here/test_calls.py
 library=${LIBRARY:-target/staticlib/libvrt49.a}
 if [ -z "${LIBRARY:-}" ]; then
     echo 'library, proved ..'
-    rt staticlib vrt49 >"$work/said" 2>&1 || { tail -20 "$work/said"; exit 1; }
+    tools/library "$work/said"
 fi
 $cc -O2 -Wall -Wextra -static -Iinclude $here/drive.c "$library" -o "$work/drive"
 $cc -O2 -Wall -Wextra -static -Iinclude $here/index.c "$library" -o "$work/index"

@@ -1,17 +1,16 @@
 #!/bin/sh
 # Plays each recording of samples/recordings with vrtplay and holds what it prints against the reference's text: from the
 # file, through a pipe that gives 1 to 7 bytes at a time, and, for those of 65,536 bytes or more, with more bytes after it.
-# VRTPLAY is the command to run; without it the program is proved first, and run as tools/run does.
+# VRTPLAY is the command to run; without it the program is proved first, and run as tools/run leaves it.
 set -eu
 cd "$(dirname "$0")/../.."
 here=tools/compare
 work=$(mktemp -d)
 trap 'rm -rf "$work"' EXIT
 if [ -z "${VRTPLAY:-}" ]; then
-    tools/run vrtplay </dev/null >/dev/null 2>"$work/log" || { tail -20 "$work/log"; exit 1; }
-    kit=${RATTLE_HOME:-$(dirname "$(dirname "$(rt doc)")")}/on/$(uname -m)/toolchain
-    VRTPLAY="$kit/lib/ld-linux-x86-64.so.2 --library-path $kit/lib target/bin/vrtplay"
-    [ ! -x "$kit/bin/qemu-x86_64" ] || VRTPLAY="$kit/bin/qemu-x86_64 $VRTPLAY"
+    tools/run vrtplay </dev/null >/dev/null 2>"$work/log" || [ -e target/bin/vrtplay ] || { tail -20 "$work/log"; exit 1; }
+    VRTPLAY=target/bin/vrtplay
+    [ "$(uname -m)" = x86_64 ] || VRTPLAY="qemu-x86_64 -L /usr/x86_64-linux-gnu $VRTPLAY"
 fi
 held() { # HOW RECORDING EXPECTED: what was printed is as expected
     if ! cmp -s "$work/said" "$3"; then

@@ -14,13 +14,14 @@ READ = ['crates.txt', 'crates/demands/specs/Sources.antt', 'crates/demands/specs
 # a file, what stands in it, what is put in its place, and a part of the line that must be printed
 SPOILT = [
     ('crates/page/src/lib.rt', 'pub fn put_back(', 'pub fn put_over(', 'page::put_over has no line in crates/demands/specs/Sources.antt'),
-    ('crates/fields/src/lib.rt', 'pub use places::find;', 'pub use places::find_all;', 'fields::find_all has no line'),
-    ('crates/vrt49/src/lib.rt', 'pub use tables::vrt49_play;', 'pub use tables::vrt49_hear;', 'vrt49::vrt49_hear has no line in crates/demands/specs/SourcesForC.antt'),
+    ('crates/fields/src/lib.rt', 'pub use places::{Found, find};', 'pub use places::{Found, find_all};', 'fields::find_all has no line'),
+    ('crates/vrt49/src/lib.rt', 'pub use tables::{vrt49_play, ', 'pub use tables::{vrt49_hear, ', 'vrt49::vrt49_hear has no line in crates/demands/specs/SourcesForC.antt'),
+    ('crates/vrt49/src/lib.rt', 'vrt49_write_survey,\n};', 'vrt49_write_survey, vrt49_write_all,\n};', 'vrt49::vrt49_write_all has no line'),
     ('crates/demands/specs/Sources.antt', 'play.Asked play.Learnt', 'play.Asked read.Learnt', 'play::play has no line'),
-    ('crates/demands/specs/Calls.antt', '∷ saveCall ∷', '∷', 'page::save is saveCall, which is not in `calls`'),
-    ('crates/vrt49/specs/Calls.antt', ' ∷ forChanged\n', '\n', 'vrt49::vrt49_changed is forChanged, which is not in `callsForC`'),
-    ('crates/demands/proofs/Sources.antt', 'find-kept = find-met.met', 'find-kept = read-met.met', 'fields::find has no theorem'),
-    ('crates/demands/proofs/SourcesForC.antt', 'for-c-read-kept = read-met.met', '', 'vrt49::vrt49_read has no theorem'),
+    ('crates/demands/specs/Calls.antt', '∷ save_call ∷', '∷', 'page::save is save_call, which is not in `calls`'),
+    ('crates/vrt49/specs/Calls.antt', ' ∷ for_changed\n', '\n', 'vrt49::vrt49_changed is for_changed, which is not in `calls_for_c`'),
+    ('crates/demands/proofs/Sources.antt', 'find_kept = find_met.met', 'find_kept = read_met.met', 'fields::find has no theorem'),
+    ('crates/demands/proofs/SourcesForC.antt', 'for_c_read_kept = read_met.met', '', 'vrt49::vrt49_read has no theorem'),
 ]
 
 

@@ -1,5 +1,7 @@
-"""Spoils the header, or the manual, in one place at a time, to see that tools/check_header finds each."""
+"""Spoils the header, the manual, or an export of the library, in one place at a time, to see that tools/check_header finds each."""
+import glob
 import os
+import shutil
 import subprocess
 import sys
 import tempfile
@@ -196,9 +198,24 @@ MANUALS = [
     ('user-defined bits (7-0), which', 'user-defined bits (3-0), which', 'VRT49_STATE_USER is 0xFFu, in'),
 ]
 
+# the same of the exports, and of the functions that they are: a file of crates/ before it
+EXPORTS = [
+    ('vrt49_c/src/packets.rt', 'vrt49::vrt49_read(words, answer)', 'vrt49::vrt49_read_survey(words, answer)', 'vrt49_read does something else'),
+    ('vrt49_c/src/packets.rt', '    vrt49::vrt49_field_count(indicator)', '    vrt49::vrt49_field_count(indicator);\n    0', 'vrt49_field_count does something else'),
+    ('vrt49_c/src/payloads.rt', 'vrt49::vrt49_words_needed(first, second,', 'vrt49::vrt49_words_needed(second, first,', 'vrt49_words_needed does something else'),
+    ('vrt49_c/src/pages.rt', '{ Tells plain (length_of table.now) length.old result length.new }', '{ Tells plain (length_of table.now) length.old result length.old }',
+     'vrt49_page_length has other parameters, another result or other clauses'),
+    ('vrt49_c/src/tables.rt', '    ensures { result ≡ when (well_made table.now) 1 }\n', '', 'vrt49_well_made has other parameters, another result or other clauses'),
+    ('vrt49_c/src/tables.rt', 'table: &[u32]) -> u32\n', 'table: &[u32]) -> u32\n    requires { 0 < length table.now }\n', 'vrt49_well_made has other parameters'),
+    ('vrt49_c/src/tables.rt', 'Rattle.table.specs.Well.{well_made}', 'Rattle.page.specs.Well.{well_made}', 'the clauses name what those of'),
+    ('vrt49/src/streams.rt', '    fields: &mut u32,', '    bits: &mut u32,', 'vrt49_changed has other parameters'),
+    ('vrt49_c/src/readings.rt', '#[unsafe(no_mangle)]\npub extern "C" fn vrt49_reading(', 'pub fn vrt49_reading(', 'vrt49_reading of crates/vrt49/src/readings.rt is not exported'),
+    ('vrt49_c/src/readings.rt', 'pub extern "C" fn vrt49_reading(', 'pub fn vrt49_reading(', 'has an export that cannot be read'),
+]
 
-def said(*paths):
-    done = subprocess.run([os.path.join(ROOT, 'tools/check_header'), *paths], capture_output=True, text=True)
+
+def said(*paths, root=ROOT):
+    done = subprocess.run([os.path.join(root, 'tools/check_header'), *paths], capture_output=True, text=True)
     return done.returncode, done.stdout + done.stderr
 
 
@@ -218,8 +235,36 @@ def not_found(path, rows, before=()):
     return wrong
 
 
+def exports_not_found():
+    """How many of the spoilt exports are not found, each in a copy of what tools/check_header reads."""
+    wrong = 0
+    with tempfile.TemporaryDirectory() as copy:
+        for pattern in ('tools/check_header', 'include/*.h', 'docs/*.md', 'crates/*/src', 'crates/*/specs'):
+            for path in glob.glob(os.path.join(ROOT, pattern)):
+                to = os.path.join(copy, os.path.relpath(path, ROOT))
+                os.makedirs(os.path.dirname(to), exist_ok=True)
+                (shutil.copytree if os.path.isdir(path) else shutil.copy)(path, to)
+        if said(root=copy)[0] != 0:
+            sys.exit('test_header.py: the copy is not taken as it is')
+        for path, old, new, part in EXPORTS:
+            place = f'{copy}/crates/{path}'
+            with open(place, encoding='utf-8') as file:
+                whole = file.read()
+            with open(place, 'w', encoding='utf-8') as file:
+                file.write(whole.replace(old, new, 1))
+            status, lines = said(root=copy)
+            if old not in whole or status != 1 or part not in lines:
+                wrong += 1
+                print(f'not found: {old!r} as {new!r} in {path}; tools/check_header says, with status {status}:\n{lines}')
+            with open(place, 'w', encoding='utf-8') as file:
+                file.write(whole)
+    return wrong
+
+
 wrong = not_found('include/vrt49.h', HEADERS)
 print(f'{len(HEADERS)} spoilt headers, {len(HEADERS) - wrong} found')
 missed = not_found('docs/MANUAL.md', MANUALS, ['include/vrt49.h'])
 print(f'{len(MANUALS)} spoilt manuals, {len(MANUALS) - missed} found')
-sys.exit(1 if wrong or missed else 0)
+lost = exports_not_found()
+print(f'{len(EXPORTS)} spoilt exports, {len(EXPORTS) - lost} found')
+sys.exit(1 if wrong or missed or lost else 0)
