@@ -17,8 +17,10 @@ if [ -z "${LIBRARY:-}" ]; then
     mkdir -p "$work/crates/play_c/src"
     for c in words fields packet_survey packet record table play; do
         rm -rf "$work/crates/$c"
-        cp -R "crates/$c" "$work/crates/" # with its out/: what is proved already is not proved again
-        rm -rf "$work/crates/$c/must-fail"
+        mkdir -p "$work/crates/$c"
+        for part in src specs proofs; do # what is proved of them already rt takes itself
+            [ ! -d "crates/$c/$part" ] || cp -R "crates/$c/$part" "$work/crates/$c/"
+        done
     done
     cp "$here/calls.txt" "$work/crates/play_c/src/lib.rt"
     { grep -E '^(words|fields|packet_survey|packet|record|table|play):' crates.txt; echo 'play_c staticlib: words fields packet_survey packet record table play'; } >"$work/crates.txt"
