@@ -25,7 +25,8 @@ use Rattle.packet.specs.declared.Parts.{Parts}
 use Rattle.packet.specs.declared.Packet.{Packet}
 use Rattle.packet.specs.declared.Survey.{Survey}
 use Rattle.packet.specs.Header.{type_of, classed, trailed, tsm_of, reserved_of, tsi_of, tsf_of, count_of, size_of}
-use Rattle.packet.specs.Parts.{streamed, has_seconds, has_fraction, class_at, seconds_at, fraction_at, body_at, required_of, body_length, word_if, class_high, class_low}
+use Rattle.packet.specs.Parts.{streamed, has_seconds, has_fraction, class_at, seconds_at, fraction_at, body_at, required_of, body_length, word_if, class_high}
+use Rattle.packet.specs.Parts.{class_low}
 use Rattle.packet.specs.Parts.{fraction_of, parts_of, body_of, packet_of}
 use Rattle.packet.specs.Read.{header_list, prologue_list, time_over, class_bad, governed, pad_list, read_by}
 use Rattle.packet.specs.Survey.{survey_of}
@@ -229,7 +230,8 @@ module _ (survey : Bool) (ws : List ℕ) (small : (i : ℕ) → get_or ws i 0 < 
       let low = word_if (has_fraction w) (fraction_at w + 1) ws in
       let f = fraction_again high low (word_small (has_fraction w) (fraction_at w + 1) ws small) in
       rw (f.0, f.1)
-      (sym (append_assoc (take (seconds_at w) ws) (given (has_seconds w) (word_if (has_seconds w) (seconds_at w) ws ∷ [])) (given (has_fraction w) (high ∷ low ∷ [])))
+      (sym (append_assoc (take (seconds_at w) ws) (given (has_seconds w) (word_if (has_seconds w) (seconds_at w) ws ∷ []))
+      (given (has_fraction w) (high ∷ low ∷ [])))
       ∙ ap (λ (l : List ℕ). l ++ given (has_fraction w) (high ∷ low ∷ [])) (one_more ws (seconds_at w) (has_seconds w) lies.seconds)
       ∙ two_more ws (fraction_at w) (has_fraction w) lies.fraction)
 

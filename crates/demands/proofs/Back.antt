@@ -18,7 +18,8 @@ use Rattle.packet_survey.specs.Payload.{pad_bad}
 use Rattle.packet_survey.proofs.PayloadLaws.{pad_classed}
 use Rattle.packet.specs.declared.Parts.{Parts}
 use Rattle.packet.specs.Header.{classed, trailed, size_of}
-use Rattle.packet.specs.Parts.{streamed, has_seconds, has_fraction, class_at, seconds_at, fraction_at, body_at, required_of, body_length, word_if, class_high, class_low}
+use Rattle.packet.specs.Parts.{streamed, has_seconds, has_fraction, class_at, seconds_at, fraction_at, body_at, required_of, body_length, word_if, class_high}
+use Rattle.packet.specs.Parts.{class_low}
 use Rattle.packet.specs.Parts.{fraction_of, parts_of, body_of, packet_of}
 use Rattle.packet.specs.Read.{time_over, class_bad, governed, read_by}
 use Rattle.packet.specs.Survey.{survey_of}

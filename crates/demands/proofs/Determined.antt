@@ -10,7 +10,8 @@ use Rattle.words.proofs.Cases.{true_or_false}
 use Rattle.words.proofs.BitLaws.{word_same}
 use Rattle.words.proofs.PartLaws.{part_length, get_d_part, part_whole}
 use Rattle.record.specs.Held.{slot_mask, slotted, slot_bits, slot_at}
-use Rattle.record.specs.Layout.{head_words, slot_words, record_words, identifier_of, held_of, choice_of, counted_types, order_of, count_words, slot_in, slots_of, slot_of}
+use Rattle.record.specs.Layout.{head_words, slot_words, record_words, identifier_of, held_of, choice_of, counted_types, order_of, count_words, slot_in}
+use Rattle.record.specs.Layout.{slots_of, slot_of}
 use Rattle.record.specs.Good.{record_good, Good}
 use Rattle.record.proofs.SlotLaws.{in_order_same, in_order_parts, slots_whole}
 use Rattle.record.proofs.GoodLaws.{good_of}

@@ -31,9 +31,9 @@ use Rattle.panel_streams.specs.Changed.{changed_of}
 use Rattle.demands.specs.Refusals.{InOrder}
 
 pub in_order_lem : InOrder
-unfolding read_by read_survey_of read_told survey_told play_told where_of pad_fits write_by start_of play_of save_of put_back_of start_index_of grow_of grow_told jump_of
-    reading_of pack_of unpack_of signed_of coordinates_of item_of context_of needed_of trailer_word_of run_of length_of
-    readings_of held_words_of identity_of type_counts_of own_table_of changed_of
+unfolding read_by read_survey_of read_told survey_told play_told where_of pad_fits write_by start_of play_of save_of put_back_of start_index_of grow_of
+    grow_told jump_of reading_of pack_of unpack_of signed_of coordinates_of item_of context_of needed_of trailer_word_of run_of length_of readings_of
+    held_words_of identity_of type_counts_of own_table_of changed_of
 in_order_lem = record {
   read = λ ws. record { order = refl; first = told_first (where_of ws) (read_list (get_or ws 0 0) ws) _ };
   write = λ p body out at. record { order = refl; first = refl };

@@ -63,7 +63,8 @@ item_said first second n at i e =
     (in_box first second n at p.0.1.1.0, accepted_same p.1)
 
 -- ---- bit 23
-module _ (first other second n : ℕ) (at : Coordinates) (format : format_bad first ≡ format_bad other) (components : component_count first ≡ component_count other)
+module _ (first other second n : ℕ) (at : Coordinates) (format : format_bad first ≡ format_bad other)
+    (components : component_count first ≡ component_count other)
   where
     same_group : group_of first second ≡ group_of other second
     unfolding group_of

@@ -201,7 +201,8 @@ module _ (ws first : List ℕ) (taken : ℕ) (t ix : List ℕ) (g : GrownTo ws f
         ∙ take_at (behind_packets (packets_beyond n) ws at back).table past (layout_words (streams_of first)) from_entry_long
 
     entry_played : (behind_packets (packets_beyond n) ws at back).table
-        ≡ take (layout_words (streams_of first)) (play_all ours (table_of (page_before ix n)) (packets_behind (packets_beyond n) ws (entry_place ix (entry_before n))))
+        ≡ take (layout_words (streams_of first)) (play_all ours (table_of (page_before ix n))
+        (packets_behind (packets_beyond n) ws (entry_place ix (entry_before n))))
     entry_played =
         sym (take_whole (layout_words (streams_of first)) _ from_entry_long)
         ∙ ap (take (layout_words (streams_of first))) (sym (played_behind (packets_beyond n) ws at back from_entry_all).1)

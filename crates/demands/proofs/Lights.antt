@@ -115,7 +115,8 @@ module _ (list : Listing) (ws vs : List ℕ) (p : SameButLights list ws vs) wher
     own_with us a e s =
         ap (own s) (trace_append list packets (us ∷ [])) ∙ own_append s (trace_of list packets) (heard_by list us ∷ []) ∙ rw e
 
-    last_same : (s : ℕ) (x : Thing) → last_carried x (own s (trace_of list (packets ++ (ws ∷ [])))) ≡ last_carried x (own s (trace_of list (packets ++ (vs ∷ []))))
+    last_same : (s : ℕ) (x : Thing) → last_carried x (own s (trace_of list (packets ++ (ws ∷ []))))
+        ≡ last_carried x (own s (trace_of list (packets ++ (vs ∷ []))))
     last_same s x =
         ap (last_carried x) (own_with ws one p.hears_one s)
         ∙ last_alike (eqb one.stream s) x (own s (trace_of list packets))

@@ -85,7 +85,8 @@ module _ (first : ℕ) (processing-efficient : link_efficient first ≡ false) w
     -- "each word holds as many whole fields as fit, from the left": with m = 32 / f of them, field k is in word k / m, the (k % m)-th from the left
     processing : (k : ℕ) (ws : List ℕ)
         → field_in (packing_of first) ws k
-        ≡ get_or ws (k / (32 / packing_size first)) 0 / 2 ^ (32 - (k % (32 / packing_size first) * packing_size first + packing_size first)) % 2 ^ packing_size first
+        ≡ get_or ws (k / (32 / packing_size first)) 0 / 2 ^ (32 - (k % (32 / packing_size first) * packing_size first + packing_size first))
+        % 2 ^ packing_size first
     unfolding packing_of
     processing k ws =
         rw whole_carried (several (32 / packing_size first) (packing_size first) (field_some first) some_fit (div-mul-le_self 32 (packing_size first)) k ws)

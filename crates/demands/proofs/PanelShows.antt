@@ -165,7 +165,8 @@ module _ (list : Listing) (packets : List (List ℕ)) (t : List ℕ) (r : Right 
   counts_stand kind o =
       sym (part_part (count_at (order_of kind)) 3 (base s) record_words t (omega (arith, order_small kind))) ∙ r.counts s h kind o
 
-  pub counts_said : (kind : ℕ) → among kind counted_types ≡ true → type_counts_of t s kind ≡ accepted (count_by (counts_of kind (own s (trace_of list packets))))
+  pub counts_said : (kind : ℕ) → among kind counted_types ≡ true → type_counts_of t s kind
+      ≡ accepted (count_by (counts_of kind (own s (trace_of list packets))))
   unfolding type_counts_of type_count_in
   counts_said kind o =
       none_given (stream_number_list t s) _ numbered

@@ -103,7 +103,8 @@ run_alike : (t : Bool) (n : ℕ) (l x answers : List ℕ) (d c : Done Reached (L
     → d.leaves.1 ≡ c.leaves.1
     → let o = pick t (refused n) (accepted d) in
     let p = pick t (refused n) (accepted c) in
-    (said_of o ≡ said_of p) × ((left_of o (l ++ x, answers)).0 ≡ (left_of p (l, answers)).0 ++ x) × ((left_of o (l ++ x, answers)).1 ≡ (left_of p (l, answers)).1)
+    (said_of o ≡ said_of p) × ((left_of o (l ++ x, answers)).0 ≡ (left_of p (l, answers)).0 ++ x)
+    × ((left_of o (l ++ x, answers)).1 ≡ (left_of p (l, answers)).1)
 run_alike true n l x answers d c f g h = (refl, refl, refl)
 run_alike false n l x answers d c f g h = (ap accepted f, g, h)
 

@@ -82,7 +82,8 @@ state_holds = held_but 16 state_slotted (λ e. omega arith)
 -- ---- what fields tell of a thing
 
 -- no more is looked at than the bits and the words of fields that have a slot
-told_same : (x : Thing) (i j : ℕ) (f g : ℕ → List ℕ) → ((b : ℕ) → has i b ≡ has j b) → ((b : ℕ) → slotted b ≡ true → f b ≡ g b) → tells_of x i f ≡ tells_of x j g
+told_same : (x : Thing) (i j : ℕ) (f g : ℕ → List ℕ) → ((b : ℕ) → has i b ≡ has j b) → ((b : ℕ) → slotted b ≡ true → f b ≡ g b) → tells_of x i f
+    ≡ tells_of x j g
 told_same (whole_field b) i j f g e h =
     ⊎_elim (λ (w : replaced b ≡ true). rw (w, e b, h b (held_slotted b (whole_held b w)))) (λ (w : replaced b ≡ false). rw w) (true_or_false (replaced b))
 told_same (state_indicator k) i j f g e h = rw (e 16, h 16 state_slotted)

@@ -38,7 +38,8 @@ module _ (x : Thing) where
   pub last_more : (before : List Arrival) (a : Arrival) → last_carried x (before ++ (a ∷ [])) ≡ or_else (value_carried x a) (last_carried x before)
   last_more [] a = simp or_none
   last_more (b ∷ before) a =
-      ap (λ (o : Option (List ℕ)). or_else o (value_carried x b)) (last_more before a) ∙ or_assoc (value_carried x a) (last_carried x before) (value_carried x b)
+      ap (λ (o : Option (List ℕ)). or_else o (value_carried x b)) (last_more before a)
+      ∙ or_assoc (value_carried x a) (last_carried x before) (value_carried x b)
 
   -- by a cut of the packets
 

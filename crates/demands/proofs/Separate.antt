@@ -73,7 +73,8 @@ own_answers_lem list s before (ws ∷ packets) =
 -- ---- other streams' packets altered
 
 pub apart : (list : Listing) (t u : List ℕ) → Right list [] t → Right list [] u → (s : ℕ) → s < streams_in list → (ps qs : List (List ℕ)) → Altered list s ps qs
-    → (record_at s (play_all ours t ps) ≡ record_at s (play_all ours u qs)) × (own_answers list s ps (said_all ours t ps) ≡ own_answers list s qs (said_all ours u qs))
+    → (record_at s (play_all ours t ps) ≡ record_at s (play_all ours u qs))
+    × (own_answers list s ps (said_all ours t ps) ≡ own_answers list s qs (said_all ours u qs))
 apart list t u r q s h ps qs a =
     let o = own_altered list s a in
     let x : Right list ps (play_all ours t ps) = right_on list [] ps t r in

@@ -29,7 +29,8 @@ use Rattle.packet_survey.proofs.PayloadLaws.{pad_small, pad_classed, pad_trailed
 use Rattle.packet.specs.declared.Packet.{Packet}
 use Rattle.packet.specs.declared.Survey.{Survey}
 use Rattle.packet.specs.Header.{type_of, classed, trailed, tsm_of, reserved_of, size_of}
-use Rattle.packet.specs.Parts.{streamed, has_seconds, has_fraction, class_at, seconds_at, fraction_at, body_at, required_of, body_length, word_if, class_high, class_low}
+use Rattle.packet.specs.Parts.{streamed, has_seconds, has_fraction, class_at, seconds_at, fraction_at, body_at, required_of, body_length, word_if, class_high}
+use Rattle.packet.specs.Parts.{class_low}
 use Rattle.packet.specs.Parts.{fraction_of, parts_of, body_of, packet_of}
 use Rattle.packet.specs.Read.{time_over, class_bad, governed, pad_list, list_by, read_by, read_of}
 use Rattle.packet.specs.Survey.{survey_of, read_survey_of}
@@ -272,8 +273,8 @@ unlisted_plain list packets t r ws none = play_is list t (right_listed r) ws ∙
 -- ---- samples
 
 pub survey_samples_lem : Hold survey_samples
-unfolding survey_samples read_told survey_told where_of read_survey_of read_by survey_of pad_bad class_known high_known low_known payload_whole payload_bits vector_bits
-    items_in item_bits code_of format_first format_second join trailed tsm_of reserved_of streamed has_seconds has_fraction class_at seconds_at fraction_at body_at
-    required_of body_length word_if class_high class_low fraction_of parts_of body_of packet_of part time_over class_bad
+unfolding survey_samples read_told survey_told where_of read_survey_of read_by survey_of pad_bad class_known high_known low_known payload_whole payload_bits
+    vector_bits items_in item_bits code_of format_first format_second join trailed tsm_of reserved_of streamed has_seconds has_fraction class_at seconds_at
+    fraction_at body_at required_of body_length word_if class_high class_low fraction_of parts_of body_of packet_of part time_over class_bad
 survey_samples_lem =
     refl and refl and refl and refl and refl and refl and refl and refl and refl and refl and refl and refl and refl and refl and refl and refl and refl and tt

@@ -1,5 +1,5 @@
--- A field and its things. The idea: what a good record holds of a field is what its things make of it (`field_held_lem`): a whole field is its one thing, and the
--- state word is that of its user bits and indicators, bit by bit, since it has no other bit (`held_silent`).
+-- A field and its things. The idea: what a good record holds of a field is what its things make of it (`field_held_lem`): a whole field is its one thing, and
+-- the state word is that of its user bits and indicators, bit by bit, since it has no other bit (`held_silent`).
 use Rattle.words.proofs.Kit.{◌≡◌, refl, sym, ap, ◌∙◌, Bool, true, false, ⊎_elim, List, [], ◌∷◌, ℕ, ◌+◌, ◌-◌, ◌≤◌, ◌<◌, arith}
 use Rattle.words.proofs.Kit.{leb, ne_eqb, lt-ltb, le-ltb, le-leb, lt-leb, eqb, length, get_or}
 use mathlib.Core.Option.{Option, none, some}

@@ -16,7 +16,8 @@ use Rattle.fields.specs.Rules.{rule_of}
 use Rattle.fields.specs.Layout.{span_of, obeyed, body_words, place_of, field_of, low_bits_set, other_length, rule_broken}
 use Rattle.packet.specs.declared.Packet.{Packet}
 use Rattle.packet.specs.Header.{count_of, trailed, tsm_of, reserved_of}
-use Rattle.packet.specs.Parts.{streamed, has_seconds, has_fraction, class_at, seconds_at, fraction_at, body_at, required_of, body_length, word_if, class_high, class_low}
+use Rattle.packet.specs.Parts.{streamed, has_seconds, has_fraction, class_at, seconds_at, fraction_at, body_at, required_of, body_length, word_if, class_high}
+use Rattle.packet.specs.Parts.{class_low}
 use Rattle.packet.specs.Parts.{fraction_of, parts_of, body_of, packet_of}
 use Rattle.packet.specs.Read.{time_over, class_bad, read_by}
 use Rattle.packet.specs.Told.{read_told}
@@ -66,10 +67,9 @@ record Computed : Type 0 where
   field_second : field_of 30 (0x40000000 ∷ 2 ∷ []) ≡ 2 ∷ []
 
 computed : Computed
-unfolding heard_by arrival_by read_told arrival_of place_in chosen_in first_of trailed tsm_of reserved_of streamed has_seconds has_fraction class_at seconds_at fraction_at
-    body_at required_of body_length
-    word_if class_high class_low fraction_of parts_of body_of packet_of part time_over class_bad read_by low_bits_set other_length rule_broken body_words span_of obeyed rule_of
-    words_of field_size bits_of above place_of field_of
+unfolding heard_by arrival_by read_told arrival_of place_in chosen_in first_of trailed tsm_of reserved_of streamed has_seconds has_fraction class_at
+    seconds_at fraction_at body_at required_of body_length word_if class_high class_low fraction_of parts_of body_of packet_of part time_over class_bad
+    read_by low_bits_set other_length rule_broken body_words span_of obeyed rule_of words_of field_size bits_of above place_of field_of
 computed = record {
   read3 = (_, refl, refl);
   read4 = (_, refl, refl);

@@ -25,7 +25,8 @@ pub data Altered (list : Listing) (s : ℕ) : List (List ℕ) → List (List ℕ
 abbrev pub own_answers : Listing → ℕ → List (List ℕ) → List (Told Heard) → List (Told Heard)
 own_answers list s [] answers = []
 own_answers list s (ws ∷ packets) [] = []
-own_answers list s (ws ∷ packets) (x ∷ answers) = pick (is_own s (heard_by list ws)) (x ∷ own_answers list s packets answers) (own_answers list s packets answers)
+own_answers list s (ws ∷ packets) (x ∷ answers) = pick (is_own s (heard_by list ws)) (x ∷ own_answers list s packets answers)
+    (own_answers list s packets answers)
 
 -- ---- refused packets
 

@@ -103,7 +103,8 @@ pub record Demand3Made : Type 0 where
       → Ruled list [] packets answers last
   -- "Save a page after any packet, put it back where there is room": it is accepted there
   pub puts_back : (list : Listing) (packets : List (List ℕ)) (t page room back : List ℕ) (r : Length) → Right list packets t → SaveMade t page
-      → layout_words (streams_in list) ≤ length room → Meets measured (put_back_of page room) room r back → measured r ≡ accepted (layout_words (streams_in list))
+      → layout_words (streams_in list) ≤ length room → Meets measured (put_back_of page room) room r back → measured r
+      ≡ accepted (layout_words (streams_in list))
   -- "play the rest", with any number of stops
   pub days : (list : Listing) (lent t last : List ℕ) (packets : List (List ℕ)) (answers : List Played) (stops : List Stop) → StartMade list lent t
       → DayMade [] t packets answers stops last → Ruled list [] packets answers last × SamePagesMade t stops

@@ -78,7 +78,8 @@ pub record Demand2 (P : Program) : Type 0 where
   pub writes : (p : Parts) (body out : List ℕ) (at : ℕ) → P.write p body out at ≡ write_of p body out at
   pub writes_survey : (pad : ℕ) (p : Parts) (body out : List ℕ) (at : ℕ) → P.write_survey pad p body out at ≡ write_survey_of pad p body out at
   pub trailers : (w : ℕ) → P.trailer_parts w ≡ trailer_of w
-  pub trailer_words_lem : (enables indicators e associated : ℕ) → P.trailer_word enables indicators e associated ≡ trailer_word_of enables indicators e associated
+  pub trailer_words_lem : (enables indicators e associated : ℕ) → P.trailer_word enables indicators e associated
+      ≡ trailer_word_of enables indicators e associated
   pub packs : (first second : ℕ) (items events channels out : List ℕ)
       → P.pack first second items events channels out ≡ pack_of first second items events channels out
   pub words_needed_lem : (first second n : ℕ) → P.words_needed first second n ≡ needed_of first second n

@@ -87,7 +87,8 @@ pub record Lands (P : Program) (ws first ix : List ℕ) (n from : ℕ) (given le
   -- "A jump plays at most 1,023 packets": those from the entry before packet n on, on the table of the entry's page
   pub few : packets_beyond n ≤ 1023
   pub played : take (layout_words (streams_of first)) done.leaves
-      ≡ take (layout_words (streams_of first)) (play_all P (table_of (page_before ix n)) (packets_behind (packets_beyond n) ws (entry_place ix (entry_before n))))
+      ≡ take (layout_words (streams_of first)) (play_all P (table_of (page_before ix n))
+      (packets_behind (packets_beyond n) ws (entry_place ix (entry_before n))))
 
 -- a jump to any packet up to those that were taken in, before or behind what was played last, is accepted where there is room
 abbrev pub Jumps : Program → Type 0

@@ -78,7 +78,8 @@ pub record InOrder : Type 0 where
   pub play : (t ws : List ℕ) → let p = packet_of (get_or ws 0 0) ws in
       Ordered (play_told t ws) (play_given (get_or ws 0 0) ws) (told_list (where_of ws) (play_list t ws)) (heard_done p (stream_of p.parts.identifier t) t ws)
   pub save : (t page : List ℕ)
-      → Ordered (save_of t page) (TABLE ∷ SIZE ∷ ROOM ∷ []) (save_list t page) (record { says = page_length t; leaves = page_of t ++ drop (page_length t) page })
+      → Ordered (save_of t page) (TABLE ∷ SIZE ∷ ROOM ∷ []) (save_list t page)
+      (record { says = page_length t; leaves = page_of t ++ drop (page_length t) page })
   pub put_back : (p t : List ℕ) → let n = layout_words (bodies_in p) in
       Ordered (put_back_of p t) (PAGE ∷ ROOM ∷ []) (put_back_list p t) (record { says = n; leaves = table_of p ++ drop n t })
   -- document 02, C-16: "jumping PAGE for contents, PLACE, PAGE for the entry, ROOM; starting TABLE, ROOM; growing TABLE, PAGE for contents, reading refusals,

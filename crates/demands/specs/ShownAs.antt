@@ -28,7 +28,8 @@ frequencies = 29 ∷ 28 ∷ 27 ∷ 26 ∷ 25 ∷ 21 ∷ []
 
 pub record ShownAs (ws : List ℕ) : Type 0 where
   pub hertz : (b : ℕ) → b < 31 → among b frequencies ≡ true
-      → (whole : ℤ) × (parts : ℕ) × (shown_of b ws ≡ frequency whole parts) × Hertz (twos_complement 64 (high_first (get_or ws 0 0) (get_or ws 1 0))) whole parts
+      → (whole : ℤ) × (parts : ℕ) × (shown_of b ws ≡ frequency whole parts)
+      × Hertz (twos_complement 64 (high_first (get_or ws 0 0) (get_or ws 1 0))) whole parts
   -- "Level is the lower half, signed, over 128"
   pub levels : (x : Float) × (shown_of 24 ws ≡ level x) × Exactly x (lower_half (get_or ws 0 0)) 7
   -- "a gain reading shows both stages together (stage 1 the lower half, stage 2 the upper), each over 128"

@@ -75,7 +75,8 @@ use Rattle.panel_streams.proofs.changed.Reads as changed
 use Rattle.demands.specs.Calls.{Call, answers, lends}
 use Rattle.demands.specs.Calls.{field_count_call, check_body_call, find_call, read_call, read_survey_call, write_call, write_survey_call}
 use Rattle.demands.specs.Calls.{trailer_parts_call, trailer_word_call}
-use Rattle.demands.specs.Calls.{words_needed_call, unpack_call, pack_call, coordinates_of_call, item_at_call, signed_call, start_call, well_made_call, play_call}
+use Rattle.demands.specs.Calls.{words_needed_call, unpack_call, pack_call, coordinates_of_call, item_at_call, signed_call, start_call, well_made_call}
+use Rattle.demands.specs.Calls.{play_call}
 use Rattle.demands.specs.Calls.{play_run_call, page_length_call, save_call, put_back_call, start_index_call, grow_call, jump_call}
 use Rattle.demands.specs.Calls.{reading_call, readings_call, held_words_call}
 use Rattle.demands.specs.Calls.{identity_call, counts_call, own_table_call, changed_call}

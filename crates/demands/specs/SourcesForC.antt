@@ -6,9 +6,11 @@ use denote.Triple.Clauses.{Lasts, at_exit}
 use Rattle.payload_unpack.specs.Unpack.{buffers}
 use Rattle.vrt49.specs.Answers.{Tells, in_number}
 use Rattle.vrt49.specs.Calls.{CallForC, answers, tells, tells_where}
-use Rattle.vrt49.specs.Calls.{for_read, for_read_survey, for_write, for_write_survey, for_trailer_parts, for_trailer_word, for_field_count, for_check_body, for_find}
+use Rattle.vrt49.specs.Calls.{for_read, for_read_survey, for_write, for_write_survey, for_trailer_parts, for_trailer_word, for_field_count, for_check_body}
+use Rattle.vrt49.specs.Calls.{for_find}
 use Rattle.vrt49.specs.Calls.{for_unpack, for_pack, for_words_needed, for_coordinates_of, for_item_at, for_signed, for_start, for_well_made, for_play}
-use Rattle.vrt49.specs.Calls.{for_play_run, for_page_length, for_save, for_put_back, for_start_index, for_grow, for_jump, for_reading, for_readings, for_held_words}
+use Rattle.vrt49.specs.Calls.{for_play_run, for_page_length, for_save, for_put_back, for_start_index, for_grow, for_jump, for_reading, for_readings}
+use Rattle.vrt49.specs.Calls.{for_held_words}
 use Rattle.vrt49.specs.Calls.{for_identity, for_counts, for_own_table, for_changed}
 use Rattle.vrt49.proofs.vrt49_read.Kinds as read_kinds
 use Rattle.vrt49.proofs.vrt49_read.Reads as read

@@ -117,7 +117,8 @@ module _ (b : ℕ) (body : List ℕ) (h : b < 31) (carries : has (indicator_of b
     -- one of fixed size obeys its rule by its own words
     pub field_rule : 10 ≤ b → rule_of b (field_of b body) ≡ true
     unfolding field_of
-    field_rule g = ap (λ (n : ℕ). rule_of b (take n (from_field b body))) (words_fixed b (from_field b body) g) ∙ rule_own b (from_field b body) g h ∙ field_obeys
+    field_rule g = ap (λ (n : ℕ). rule_of b (take n (from_field b body))) (words_fixed b (from_field b body) g) ∙ rule_own b (from_field b body) g h
+        ∙ field_obeys
 
 -- ---- places that only the indicator decides: fields from bit 9 up stand after fields of fixed size alone
 

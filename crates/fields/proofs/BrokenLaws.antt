@@ -97,7 +97,8 @@ module _ (body : List ℕ) where
   unfolding first_broken
   first_kind [] = inl refl
   first_kind (b ∷ bs) =
-      ⊎_elim (λ (t : breaks b body ≡ true). inr (place_of b body, b, rw t)) (λ (f : breaks b body ≡ false). rw f (first_kind bs)) (true_or_false (breaks b body))
+      ⊎_elim (λ (t : breaks b body ≡ true). inr (place_of b body, b, rw t)) (λ (f : breaks b body ≡ false). rw f (first_kind bs))
+      (true_or_false (breaks b body))
 
   -- ---- the highest below bit k
 

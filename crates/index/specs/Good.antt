@@ -4,7 +4,8 @@
 use Rattle.std.specs.Prelude.{◌≡◌, ℕ, ◌*◌, ◌≤◌, ◌<◌, Bool, List, eqb, leb, length}
 use Rattle.words.specs.Tests.{both}
 use Rattle.words.specs.All.{all}
-use Rattle.index.specs.Layout.{most_entries, spacing, index_contents, entries_in, packets_taken, place_reached, entry_place, entry_offset, pages_from, pages_end}
+use Rattle.index.specs.Layout.{most_entries, spacing, index_contents, entries_in, packets_taken, place_reached, entry_place, entry_offset, pages_from}
+use Rattle.index.specs.Layout.{pages_end}
 use Rattle.index.specs.Layout.{boundaries_by}
 
 -- "no word place over 65,535 words for each packet before it": a packet has at most that many

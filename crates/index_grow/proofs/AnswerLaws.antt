@@ -83,7 +83,8 @@ module _ (t ws ix : List ℕ) (n : ℕ) where
   Placed = (read_by (chosen t ws) ws ≡ refused n) ⊎ ((where_of ws n ≡ Nowhere) × (among n (TABLE ∷ PAGE ∷ ROOM ∷ []) ≡ true))
 
   refused_by : (o : Outcome Packet) → read_by (chosen t ws) ws ≡ o
-      → onward o (λ p. first_given ((ROOM, both (reaches_entry ix) (entry_lacks (table_taken t ws) ix)) ∷ []) (accepted (grown_done t ws ix))) ≡ refused n → Placed
+      → onward o (λ p. first_given ((ROOM, both (reaches_entry ix) (entry_lacks (table_taken t ws) ix)) ∷ []) (accepted (grown_done t ws ix))) ≡ refused n
+      → Placed
   unfolding where_of
   refused_by (refused m) e f = let i : m ≡ n = cc in inl (rw (← i) e)
   refused_by (accepted p) e f =

@@ -173,7 +173,8 @@ module _ (t ws ix copy : List ℕ) (q : Ready t ix) (e : copy ≡ layout_in t) (
   abbrev left_table : Done Taken (List ℕ × List ℕ) → List ℕ
   left_table d = d.leaves.0
 
-  table_whole : (y : Taken) → said_of (grow_told copy ws ix) ≡ accepted y → (left_of (grow_told t ws ix) (t, ix)).0 ≡ left ++ drop (layout_words (streams_of t)) t
+  table_whole : (y : Taken) → said_of (grow_told copy ws ix) ≡ accepted y → (left_of (grow_told t ws ix) (t, ix)).0 ≡ left
+      ++ drop (layout_words (streams_of t)) t
   table_whole y f =
       let d = said_accepted (grow_told copy ws ix) y f in
       let taken : (left_of (grow_told copy ws ix) (copy, ix)).0 ≡ left = rw d.1 (ap left_table (grow_taken copy ws ix d.0 d.1).is ∙ sym k.table) in

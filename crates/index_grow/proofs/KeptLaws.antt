@@ -145,7 +145,8 @@ module _ (t ws ix : List ℕ) (g : index_good ix ≡ true) (w : well_made (table
       let long : index_contents ≤ length more = omega (arith, facts.whole, (kept_more e).long) in
       let behind : 4 ≤ entry_offset more j = omega (arith, o, entry_offset_lem j (place_then ws ix) (pages_end ix) (table_taken t ws) ix w b o h) in
       rw e (
-        (reached_entry (packets_then ix) (place_then ws ix) more long j).place ∙ entry_place_lem j (place_then ws ix) (pages_end ix) (table_taken t ws) ix w b o h,
+        (reached_entry (packets_then ix) (place_then ws ix) more long j).place
+            ∙ entry_place_lem j (place_then ws ix) (pages_end ix) (table_taken t ws) ix w b o h,
         reached_page (packets_then ix) (place_then ws ix) more long j behind ∙ entry_page j (place_then ws ix) (pages_end ix) (table_taken t ws) ix w b o h,
         boundary e,
       )

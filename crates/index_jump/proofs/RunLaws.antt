@@ -46,7 +46,8 @@ last_more n e rest l =
     let i : entry_words * suc (suc n) - 4 ≡ length e + (entry_words * suc n - 4) = omega (arith, l) in
     ap (λ (k : ℕ). get_or (e ++ rest) k 0) i ∙ get_or-append-add e rest (entry_words * suc n - 4) 0
 
-last_goes : (n : ℕ) (e rest : List ℕ) → length e ≡ entry_words → 0 < get_or (e ++ rest) 1 0 → (1 ≤ n → 0 < last_second n rest) → 0 < last_second (suc n) (e ++ rest)
+last_goes : (n : ℕ) (e rest : List ℕ) → length e ≡ entry_words → 0 < get_or (e ++ rest) 1 0 → (1 ≤ n → 0 < last_second n rest)
+    → 0 < last_second (suc n) (e ++ rest)
 last_goes zero e rest l h k = h
 last_goes (suc n) e rest l h k = rw (last_more n e rest l) (k (omega arith))
 

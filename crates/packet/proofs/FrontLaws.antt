@@ -108,7 +108,8 @@ module _ (ws : List ℕ) where
   pub survey_refused : (n : ℕ) → refused n ≡ read_by true ws → refused n ≡ read_survey_of ws
   survey_refused n e = rw (survey_same, ← e)
 
-  pub survey_given_lem : (s : Survey) → s ≡ survey_of (get_or ws 0 0) ws → read_by true ws ≡ accepted (packet_of (get_or ws 0 0) ws) → accepted s ≡ read_survey_of ws
+  pub survey_given_lem : (s : Survey) → s ≡ survey_of (get_or ws 0 0) ws → read_by true ws ≡ accepted (packet_of (get_or ws 0 0) ws) → accepted s
+      ≡ read_survey_of ws
   survey_given_lem s q e = rw (survey_same, e, q)
 
   pub survey_read : read_by true ws ≡ onward (read_survey_of ws) (λ (s : Survey). accepted s.packet)

@@ -122,7 +122,8 @@ module _ (survey : Bool) (pad : ℕ) (p : Parts) (body : List ℕ) (room at size
       first_fine (parts_list survey pad p) tt tt _ parts ∙ first_fine (measure_list p (length body)) tt tt _ measure
       ∙ first_fine (body_list p.kind body) tt tt _ context ∙ first_fine (only_where (governs survey p) (pad_list pad p body)) tt tt _ padding ∙ rw (← e) fits
 
-  pub nothing_found : plain_checks p ≡ accepted tt → pad_fits survey pad p ≡ true → content_checks p body ≡ accepted tt → pad_checks survey pad p body ≡ accepted tt
+  pub nothing_found : plain_checks p ≡ accepted tt → pad_fits survey pad p ≡ true → content_checks p body ≡ accepted tt → pad_checks survey pad p body
+      ≡ accepted tt
       → size ≡ size_for p (length body) → room_checks room at size ≡ accepted tt → write_checks survey pad p body room at ≡ accepted tt
   unfolding content_checks measure_checks body_checks
   nothing_found parts small content padding e fits =

@@ -59,7 +59,8 @@ module _ (q : List ℕ) (small : get_or q 13 0 < 2 ^ 32) where
 
 -- the header word of the parts, as the program makes it
 pub header_given : (q : List ℕ)
-    → ((((((get_or q 0 0 * 2 + get_or q 1 0 % 2) * 2 + get_or q 2 0 % 2) * 4 + get_or q 3 0 % 2) * 4 + get_or q 4 0) * 4 + get_or q 5 0) * 16 + get_or q 6 0) * 2 ^ 16
+    → ((((((get_or q 0 0 * 2 + get_or q 1 0 % 2) * 2 + get_or q 2 0 % 2) * 4 + get_or q 3 0 % 2) * 4 + get_or q 4 0) * 4 + get_or q 5 0) * 16 + get_or q 6 0)
+    * 2 ^ 16
     ≡ header_word (parts_in q) 0
 unfolding parts_in header_word join
 header_given q = omega (arith, low_bit (get_or q 1 0), low_bit (get_or q 2 0), low_bit (get_or q 3 0))
@@ -86,7 +87,8 @@ module _ (q : List ℕ) (kind : (parts_in q).kind < 6) (fit : parts_fit (parts_i
   trailed_given w e = rw e (trailed_is (parts_in q) 0 kind (parts_fit_lem (parts_in q) fit) (lit< tt))
 
   -- the size, as the program makes it
-  pub size_given : (w n at t : ℕ) → w ≡ header_word (parts_in q) 0 → at ≡ body_at w → t ≡ when (eqb (get_or q 2 0 % 2) 1) 1 → at + n + t ≡ size_for (parts_in q) n
+  pub size_given : (w n at t : ℕ) → w ≡ header_word (parts_in q) 0 → at ≡ body_at w → t ≡ when (eqb (get_or q 2 0 % 2) 1) 1 → at + n + t
+      ≡ size_for (parts_in q) n
   unfolding size_for
   size_given w n at t e a f =
       let there : t ≡ when (trailed w) 1 = f ∙ ap (λ (b : Bool). when b 1) (flag_given q ∙ sym (trailed_given w e)) in
@@ -130,6 +132,7 @@ module _ (pad : ℕ) (q body out : List ℕ) (at w size : ℕ) (may : Layable pa
         may.inside,
       ))
 
-  pub packet_laid : (left : List ℕ) (next : ℕ) → Laid out at (prologue_words pad (w + size) (parts_in q) ++ body ++ trailer_words (w + size) (parts_in q)) next left
+  pub packet_laid : (left : List ℕ) (next : ℕ) → Laid out at (prologue_words pad (w + size) (parts_in q) ++ body ++ trailer_words (w + size) (parts_in q)) next
+      left
       → left ≡ take at out ++ packet_words pad (parts_in q) body ++ drop (at + size) out
   packet_laid left next l = rw s (laid_packet pad (parts_in q) body out left at (w + size) next may with_size l)

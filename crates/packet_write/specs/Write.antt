@@ -147,7 +147,8 @@ room_list room at size = (ROOM, ltb room (at + size)) ∷ []
 abbrev pub write_list_by : (survey : Bool) → ℕ → Parts → List ℕ → ℕ → ℕ → Refusals
 write_list_by survey pad p body room at =
     let n = length body in
-    parts_list survey pad p ++ measure_list p n ++ body_list p.kind body ++ only_where (governs survey p) (pad_list pad p body) ++ room_list room at (size_for p n)
+    parts_list survey pad p ++ measure_list p n ++ body_list p.kind body ++ only_where (governs survey p) (pad_list pad p body)
+    ++ room_list room at (size_for p n)
 
 -- ---- what writing answers and leaves: the number of words written, and the buffer with the packet at its place
 

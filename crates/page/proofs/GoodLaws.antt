@@ -135,7 +135,8 @@ both_swap false t = sym (both_no t)
 
 module _ (b : List ℕ) (l : length b ≡ page_body_words (held_of b)) where
   -- the slot of a field that is held, and of one that is not
-  slot_held : (x : ℕ) → slotted x ≡ true → has (held_of b) x ≡ true → slot_ruled (record_of b) x ≡ rule_of x (drop (placed 31 (held_of b) x) (drop head_words b))
+  slot_held : (x : ℕ) → slotted x ≡ true → has (held_of b) x ≡ true → slot_ruled (record_of b) x
+      ≡ rule_of x (drop (placed 31 (held_of b) x) (drop head_words b))
   slot_held x o y =
       let h : held_of (record_of b) ≡ held_of b = record_word b 1 (omega arith) (body_some b l) in
       rw (o, h, y, record_slot b l x o, y, part_is (placed 31 (held_of b) x) (field_size x) (drop head_words b))
@@ -178,7 +179,8 @@ module _ (b : List ℕ) (l : length b ≡ page_body_words (held_of b)) where
       ⊎_elim
       (λ (y : has (held_of b) 16 ≡ true).
       rw (h, y, record_slot b l 16 (slotted_all 16 (omega arith) (omega arith)), y)
-      (ap state_good (sym (get_d_part (placed 31 (held_of b) 16) (field_size 16) 0 (drop head_words b) some ∙ get_or-drop head_words b (placed 31 (held_of b) 16 + 0) 0
+      (ap state_good (sym (get_d_part (placed 31 (held_of b) 16) (field_size 16) 0 (drop head_words b) some
+      ∙ get_or-drop head_words b (placed 31 (held_of b) 16 + 0) 0
       ∙ ap (λ (k : ℕ). get_or b (head_words + k) 0) (add-zero (placed 31 (held_of b) 16))))))
       (λ (y : has (held_of b) 16 ≡ false). rw (h, y)) (true_or_false (has (held_of b) 16))
 

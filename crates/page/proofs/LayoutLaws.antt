@@ -1,5 +1,6 @@
--- The page of some bodies, and the table of some records. The idea: pairs, bodies and records are numbered pieces, so each is found at its place (`pair_at_lem`,
--- `body_in`, `record_in`); and a page with right contents is the page of the bodies in it (`page_again`), a table that of its records (`table_again`).
+-- The page of some bodies, and the table of some records. The idea: pairs, bodies and records are numbered pieces, so each is found at its place
+-- (`pair_at_lem`, `body_in`, `record_in`); and a page with right contents is the page of the bodies in it (`page_again`), a table that of its records
+-- (`table_again`).
 use Rattle.words.proofs.Kit.{◌≡◌, refl, sym, ap, ap₂, ◌∙◌, List, [], ◌∷◌, ◌++◌, ℕ, zero, suc, ◌+◌, ◌-◌, ◌*◌, ◌≤◌, ◌<◌, arith, length, get_or, take}
 use native.Mathlib.Nat.{add-zero, le_of_lt}
 use lib.ListN.{length-append}
@@ -82,13 +83,15 @@ module _ (n : ℕ) (f : ℕ → List ℕ) where
   unfolding pair_of
   offset_at_lem s h =
       let i : pair_at s ≡ pair_at s + 0 = omega arith in
-      ap (λ (k : ℕ). get_or (page_from n f) k 0) i ∙ sym (get_d_part (pair_at s) 2 0 (page_from n f) (omega arith)) ∙ ap (λ (l : List ℕ). get_or l 0 0) (pair_at_lem s h)
+      ap (λ (k : ℕ). get_or (page_from n f) k 0) i ∙ sym (get_d_part (pair_at s) 2 0 (page_from n f) (omega arith))
+      ∙ ap (λ (l : List ℕ). get_or l 0 0) (pair_at_lem s h)
 
   pub length_at_lem : (s : ℕ) → s < n → length_at (page_from n f) s ≡ length (f s)
   unfolding pair_of
   length_at_lem s h =
       let i : pair_at s + 1 ≡ pair_at s + 1 = omega arith in
-      ap (λ (k : ℕ). get_or (page_from n f) k 0) i ∙ sym (get_d_part (pair_at s) 2 1 (page_from n f) (omega arith)) ∙ ap (λ (l : List ℕ). get_or l 1 0) (pair_at_lem s h)
+      ap (λ (k : ℕ). get_or (page_from n f) k 0) i ∙ sym (get_d_part (pair_at s) 2 1 (page_from n f) (omega arith))
+      ∙ ap (λ (l : List ℕ). get_or l 1 0) (pair_at_lem s h)
 
   pub begins_at_lem : (s : ℕ) → s ≤ n → begins_at (page_from n f) s ≡ offset_of n f s
   unfolding begins_at

@@ -85,7 +85,8 @@ module _ (n : ℕ) (b : List ℕ) (e : n ≡ held_of b) (l : length b ≡ page_b
 
     pub refill_slots : length (take (record_words - head_words) (drop head_words rec)) ≡ slot_words
     refill_slots =
-        ap length (seen head_words record_words slot_words rec refl ∙ ap (part head_words slot_words) first_put ∙ slots_blank) ∙ length-replicate {A = ℕ} slot_words 0
+        ap length (seen head_words record_words slot_words rec refl ∙ ap (part head_words slot_words) first_put ∙ slots_blank)
+        ∙ length-replicate {A = ℕ} slot_words 0
 
     pub filled_record : (last : List ℕ) → last ≡ refilled (bit_and n slot_mask) head_words b (take (record_words - head_words) (drop head_words rec))
         → take head_words rec ++ (last ++ drop (record_words - head_words) (drop head_words rec)) ≡ record_of b

@@ -29,7 +29,8 @@ use Rattle.table.proofs.RecordLaws as Records
 use Rattle.table.proofs.WellLaws.{layout_has, well_whole, well_few, well_record}
 use Rattle.words.specs.Pieces.{pieces}
 use Rattle.page.specs.Body.{page_body, page_body_words}
-use Rattle.page.specs.Layout.{contents_words, pair_at, offset_of, pair_of, page_from, saved_body, pairs_of, bodies_of, bodies_from, page_of, page_length, most_words}
+use Rattle.page.specs.Layout.{contents_words, pair_at, offset_of, pair_of, page_from, saved_body, pairs_of, bodies_of, bodies_from, page_of, page_length}
+use Rattle.page.specs.Layout.{most_words}
 use Rattle.page.specs.Save.{size_limit, length_list, length_of, save_of}
 use Rattle.record.proofs.HoldLaws.{held_within}
 use Rattle.page.proofs.BodyLaws.{good_within, body_length_lem}
@@ -115,7 +116,8 @@ module _ (r page : List ℕ) (at : ℕ) (l : length r ≡ record_words) (g : rec
   squeeze_room page' e = omega (arith, body_room, laid_length (head_laid page' e))
 
   pub body_laid : (page' page'' : List ℕ) (to : ℕ) → page' ≡ put at head_words (part 0 head_words r) page
-      → Laid page' (at + head_words) (held_words (held_of r) (take (record_words - head_words) (drop head_words r))) to page'' → Laid page at (page_body r) to page''
+      → Laid page' (at + head_words) (held_words (held_of r) (take (record_words - head_words) (drop head_words r))) to page''
+      → Laid page at (page_body r) to page''
   unfolding page_body
   body_laid page' page'' to e p = then (head_laid page' e) (rw slots_seen at p)
 

@@ -13,4 +13,5 @@ put_back_list p t = (PAGE, not (page_good p)) ∷ (ROOM, ltb (length t) (layout_
 
 -- what putting back answers, the layout's length, and what it leaves in the table: the layout, and then the words past it as they were
 unfoldable pub put_back_of : List ℕ → List ℕ → Outcome (Done ℕ (List ℕ))
-put_back_of p t = first_given (put_back_list p t) (accepted (record { says = layout_words (bodies_in p); leaves = table_of p ++ drop (layout_words (bodies_in p)) t }))
+put_back_of p t = first_given (put_back_list p t)
+    (accepted (record { says = layout_words (bodies_in p); leaves = table_of p ++ drop (layout_words (bodies_in p)) t }))

@@ -133,7 +133,8 @@ module _ (t : List ℕ) (s : ℕ) where
     pub all_refused : (n : ℕ) → k ≡ checks.Refused n → map reading_paper (replicate 21 (dial.Refused n)) ≡ in_each (readings_of t s)
     all_refused n f =
         rw (readings_refused n f)
-        (map_both reading_paper (λ b. refused n) (replicate 21 (dial.Refused n)) slot_bits dial.Absent 0 (length-replicate 21 (dial.Refused n) ∙ sym fields_many)
+        (map_both reading_paper (λ b. refused n) (replicate 21 (dial.Refused n)) slot_bits dial.Absent 0
+        (length-replicate 21 (dial.Refused n) ∙ sym fields_many)
         (λ i h. ap reading_paper (get_or-replicate 21 i (dial.Refused n) dial.Absent (omega (arith, length-replicate 21 (dial.Refused n), h)))))
 
     pub all_shown : (ds : List FieldReading) → k ≡ checks.Fine → map reading_paper ds ≡ map accepted (record_readings (record_at s t))

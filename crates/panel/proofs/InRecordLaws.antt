@@ -1,6 +1,7 @@
 -- What a field shows, read where it stands in its record. The idea: a word of the record from the slot's place on is a word of the slot, so that each return of
 -- `show_in` is one of `show`; first and low are the words as the program read them, h is whether the field is held, and q whether it is a frequency.
-use Rattle.words.proofs.Kit.{◌≡◌, refl, sym, ◌∙◌, Bool, true, false, not, List, ℕ, ◌+◌, ◌%◌, ◌/◌, ◌^◌, ◌≤◌, ◌<◌, arith, eqb, eqb-true, not-false, length, get_or}
+use Rattle.words.proofs.Kit.{◌≡◌, refl, sym, ◌∙◌, Bool, true, false, not, List, ℕ, ◌+◌, ◌%◌, ◌/◌, ◌^◌, ◌≤◌, ◌<◌, arith, eqb, eqb-true, not-false, length}
+use Rattle.words.proofs.Kit.{get_or}
 use native.Mathlib.Nat.{add-zero}
 use lib.IntN.{ℤ}
 use lib.Ieee.{Float}
@@ -42,29 +43,30 @@ module _ (r : List ℕ) (b at : ℕ) (l : length r ≡ record_words) (lo : 10 �
   slot_word_first : get_or r (head_words + at) 0 ≡ get_or (slot_of b r) 0 0
   slot_word_first = rw (add-zero (head_words + at)) at (slot_word 0 (size_some b lo (omega arith)))
 
-  module _ (h : Bool) (eh : h ≡ is_held b r) (n : not h ≡ false) (q : Bool) (e : q ≡ is_frequency b) (first : ℕ) (f : first ≡ get_or r (head_words + at) 0) where
-    shows_here : (s : Reading) → answered s ≡ answered (shown_of b (slot_of b r)) → answered s ≡ answered (record_shows b r)
-    unfolding record_shows
-    shows_here s p = rw (← eh, not-false h n) p
+  module _ (h : Bool) (eh : h ≡ is_held b r) (n : not h ≡ false) (q : Bool) (e : q ≡ is_frequency b) (first : ℕ) (f : first ≡ get_or r (head_words + at) 0)
+    where
+      shows_here : (s : Reading) → answered s ≡ answered (shown_of b (slot_of b r)) → answered s ≡ answered (record_shows b r)
+      unfolding record_shows
+      shows_here s p = rw (← eh, not-false h n) p
 
-    pub here_frequency : (low : ℕ) (z hertz : ℤ) → q ≡ true → low ≡ get_or r (head_words + at + 1) 0 → first < 2 ^ 32 → low < 2 ^ 32 → z ≡ units_of first low
-        → mag z < 2 ^ 63 → hertz ≡ floor_div (to_z w64 (of_z w64 z)) 1048576 → mag hertz < 2 ^ 63
-        → answered (frequency (to_z w64 (of_z w64 hertz)) (low % 1048576)) ≡ answered (record_shows b r)
-    here_frequency low z hertz t g hf hl ez hz eh' hh =
-        let two = frequency_words b hi (sym e ∙ t) in
-        shows_here _ (shown_frequency b (slot_of b r) q e first low z hertz t (f ∙ slot_word_first) (g ∙ slot_word 1 (omega (arith, two))) hf hl ez hz eh' hh)
+      pub here_frequency : (low : ℕ) (z hertz : ℤ) → q ≡ true → low ≡ get_or r (head_words + at + 1) 0 → first < 2 ^ 32 → low < 2 ^ 32 → z ≡ units_of first low
+          → mag z < 2 ^ 63 → hertz ≡ floor_div (to_z w64 (of_z w64 z)) 1048576 → mag hertz < 2 ^ 63
+          → answered (frequency (to_z w64 (of_z w64 hertz)) (low % 1048576)) ≡ answered (record_shows b r)
+      here_frequency low z hertz t g hf hl ez hz eh' hh =
+          let two = frequency_words b hi (sym e ∙ t) in
+          shows_here _ (shown_frequency b (slot_of b r) q e first low z hertz t (f ∙ slot_word_first) (g ∙ slot_word 1 (omega (arith, two))) hf hl ez hz eh' hh)
 
-    module _ (m : q ≡ false) where
-      pub here_level : (x : Float) → b ≡ 24 → x ≡ over 7 (twos_complement 16 (first % 65536)) → answered (level x) ≡ answered (record_shows b r)
-      here_level x i d = shows_here _ (shown_level b (slot_of b r) q e m first x (f ∙ slot_word_first) i d)
+      module _ (m : q ≡ false) where
+        pub here_level : (x : Float) → b ≡ 24 → x ≡ over 7 (twos_complement 16 (first % 65536)) → answered (level x) ≡ answered (record_shows b r)
+        here_level x i d = shows_here _ (shown_level b (slot_of b r) q e m first x (f ∙ slot_word_first) i d)
 
-      pub here_gain : (x y : Float) → (b ≡ 24 → ⊥) → b ≡ 23 → x ≡ over 7 (twos_complement 16 (first % 65536))
-          → y ≡ over 7 (twos_complement 16 (first / 65536 % 65536)) → answered (gain x y) ≡ answered (record_shows b r)
-      here_gain x y i j d u = shows_here _ (shown_gain b (slot_of b r) q e m first x y (f ∙ slot_word_first) i j d u)
+        pub here_gain : (x y : Float) → (b ≡ 24 → ⊥) → b ≡ 23 → x ≡ over 7 (twos_complement 16 (first % 65536))
+            → y ≡ over 7 (twos_complement 16 (first / 65536 % 65536)) → answered (gain x y) ≡ answered (record_shows b r)
+        here_gain x y i j d u = shows_here _ (shown_gain b (slot_of b r) q e m first x y (f ∙ slot_word_first) i j d u)
 
-      pub here_temperature : (x : Float) → (b ≡ 24 → ⊥) → (b ≡ 23 → ⊥) → b ≡ 18 → x ≡ over 6 (twos_complement 16 (first % 65536))
-          → answered (temperature x) ≡ answered (record_shows b r)
-      here_temperature x i j k d = shows_here _ (shown_temperature b (slot_of b r) q e m first x (f ∙ slot_word_first) i j k d)
+        pub here_temperature : (x : Float) → (b ≡ 24 → ⊥) → (b ≡ 23 → ⊥) → b ≡ 18 → x ≡ over 6 (twos_complement 16 (first % 65536))
+            → answered (temperature x) ≡ answered (record_shows b r)
+        here_temperature x i j k d = shows_here _ (shown_temperature b (slot_of b r) q e m first x (f ∙ slot_word_first) i j k d)
 
-      pub here_other : (b ≡ 24 → ⊥) → (b ≡ 23 → ⊥) → (b ≡ 18 → ⊥) → answered other ≡ answered (record_shows b r)
-      here_other i j k = shows_here _ (shown_other b (slot_of b r) q e m i j k)
+        pub here_other : (b ≡ 24 → ⊥) → (b ≡ 23 → ⊥) → (b ≡ 18 → ⊥) → answered other ≡ answered (record_shows b r)
+        here_other i j k = shows_here _ (shown_other b (slot_of b r) q e m i j k)

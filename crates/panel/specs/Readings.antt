@@ -29,7 +29,8 @@ is_frequency bit = pick (eqb bit 21) true (both (leb 25 bit) (leb bit 29))
 -- over 128; a gain reading shows both stages together (stage 1 the lower half, stage 2 the upper), each over 128; temperature over 64"
 unfoldable pub shown_of : ℕ → List ℕ → Reading
 shown_of bit ws =
-    pick (is_frequency bit) (frequency (floor_div (units_of (get_or ws 0 0) (get_or ws 1 0)) 1048576) (floor_rem (units_of (get_or ws 0 0) (get_or ws 1 0)) 1048576))
+    pick (is_frequency bit) (frequency (floor_div (units_of (get_or ws 0 0) (get_or ws 1 0)) 1048576)
+    (floor_rem (units_of (get_or ws 0 0) (get_or ws 1 0)) 1048576))
     (pick (eqb bit 24) (level (over 7 (lower_half (get_or ws 0 0))))
     (pick (eqb bit 23) (gain (over 7 (lower_half (get_or ws 0 0))) (over 7 (upper_half (get_or ws 0 0))))
     (pick (eqb bit 18) (temperature (over 6 (lower_half (get_or ws 0 0))))

@@ -43,7 +43,8 @@ module _ (t : List ℕ) (s : ℕ) (k : Check) (e : checked k ≡ stream_checks t
     unfolding type_counts_of
     counts_refused n f = sym (then_refused _ n f)
 
-    pub counts_said : (r : TypeCounts) → k ≡ checks.Fine → type_counts_paper r ≡ count_asked kind (record_at s t) → type_counts_paper r ≡ type_counts_of t s kind
+    pub counts_said : (r : TypeCounts) → k ≡ checks.Fine → type_counts_paper r ≡ count_asked kind (record_at s t) → type_counts_paper r
+        ≡ type_counts_of t s kind
     unfolding type_counts_of count_asked
     counts_said r f h = h ∙ sym (then_fine _ f)
 

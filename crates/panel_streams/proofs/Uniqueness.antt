@@ -47,5 +47,6 @@ pub counts_once : (t : List ℕ) (stream kind : ℕ) (r s : TypeCounts) → type
     → type_counts_paper s ≡ type_counts_of t stream kind → r ≡ s
 counts_once t stream kind r s p q = once type_counts_paper type_counts_back type_counts_left p q
 
-pub changed_once : (t : List ℕ) (s : ℕ) (u : List ℕ) (v : ℕ) (r q : Changed) → changed_paper r ≡ changed_of t s u v → changed_paper q ≡ changed_of t s u v → r ≡ q
+pub changed_once : (t : List ℕ) (s : ℕ) (u : List ℕ) (v : ℕ) (r q : Changed) → changed_paper r ≡ changed_of t s u v → changed_paper q ≡ changed_of t s u v → r
+    ≡ q
 changed_once t s u v r q p m = once changed_paper changed_back changed_left p m

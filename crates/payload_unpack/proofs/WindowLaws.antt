@@ -83,7 +83,8 @@ module _ (ws : List ℕ) (small : (j : ℕ) → get_or ws j 0 < 2 ^ 32) where
       window (stream_bits 32 ws) (b / 32) m n (b % 32) x y size some (omega arith) front (next ∙ word_is (b / 32 + m)) (rw next (small (b / 32 + m)))
       ∙ ap (λ (z : ℕ). span 32 (stream_bits 32 ws) z n) (div-add-mod' b 32)
 
-  pub bits_are : (b r : ℕ) → r ≡ get_or ws (b / 32) 0 * 2 ^ (b % 32) % 2 ^ 32 + get_or ws (b / 32 + 1) 0 / 2 ^ (32 - b % 32) → r ≡ span 32 (stream_bits 32 ws) b 32
+  pub bits_are : (b r : ℕ) → r ≡ get_or ws (b / 32) 0 * 2 ^ (b % 32) % 2 ^ 32 + get_or ws (b / 32 + 1) 0 / 2 ^ (32 - b % 32) → r
+      ≡ span 32 (stream_bits 32 ws) b 32
   bits_are b r e = e ∙ bits_from b 1 32 (get_or ws (b / 32) 0) (get_or ws (b / 32 + 1) 0) (omega arith) (omega arith) (one_word (b / 32)) refl
 
   pub bits_wide_are : (b x y r : ℕ) → x ≡ high_first (get_or ws (b / 32) 0) (get_or ws (b / 32 + 1) 0) → y ≡ get_or ws (b / 32 + 2) 0
@@ -91,7 +92,8 @@ module _ (ws : List ℕ) (small : (j : ℕ) → get_or ws j 0 < 2 ^ 32) where
   bits_wide_are b x y r front next e = e ∙ bits_from b 2 64 x y (omega arith) (omega arith) (front ∙ two_words_lem (b / 32)) next
 
   -- b lies in the last word
-  bits_last_are : (b : ℕ) → b < length ws * 32 → length ws * 32 ≤ b + 32 → get_or ws (length ws - 1) 0 * 2 ^ (b % 32) % 2 ^ 32 ≡ span 32 (stream_bits 32 ws) b 32
+  bits_last_are : (b : ℕ) → b < length ws * 32 → length ws * 32 ≤ b + 32 → get_or ws (length ws - 1) 0 * 2 ^ (b % 32) % 2 ^ 32
+      ≡ span 32 (stream_bits 32 ws) b 32
   bits_last_are b inside last =
       let e : length ws - 1 ≡ b / 32 = omega arith in
       let x : ℕ = get_or ws (b / 32) 0 * 2 ^ (b % 32) % 2 ^ 32 in

@@ -268,6 +268,7 @@ module _ (t ws : List ℕ) (made : Check) (e : checked made ≡ made_of t) where
   unfolding said_at left_at
   play_made x r left f y i = record { answer = i ∙ said_by_lem (made_well t (cc)) y; buffer = y.table }
 
-pub entered_stepped : (t ws left : List ℕ) (at : ℕ) (x : Entry) (answer : Played) → well_made t ≡ true → Entered t ws at x left → played_paper answer ≡ said_by x
+pub entered_stepped : (t ws left : List ℕ) (at : ℕ) (x : Entry) (answer : Played) → well_made t ≡ true → Entered t ws at x left → played_paper answer
+    ≡ said_by x
     → Stepped t ws at (record { answer = answer; continues = not (eqb x.size 0); next = at + x.size }) left
 entered_stepped t ws left at x answer w y i = record { answer = i ∙ said_by_lem w y; on = size_on w y; next = size_next w y; table = y.table }

@@ -49,7 +49,8 @@ module _ (at s : ℕ) (t : List ℕ) (e : at ≡ base s) where
 
   -- what hearing a packet of header w leaves of it is its record in the table afterwards
   module _ (w kind count : ℕ) (k : kind ≡ type_of w) (c : count ≡ count_of w) where
-    pub lent_adds : (more : ℕ) → more ≡ added_by kind count (take (at + record_words - at) (drop at t)) → more ≡ added_by (type_of w) (count_of w) (record_at s t)
+    pub lent_adds : (more : ℕ) → more ≡ added_by kind count (take (at + record_words - at) (drop at t)) → more
+        ≡ added_by (type_of w) (count_of w) (record_at s t)
     lent_adds more m = rw (record_seen, k, c) at m
 
     pub lent_leaves : (body last : List ℕ) → last ≡ record_after kind count body (take (at + record_words - at) (drop at t))

@@ -72,7 +72,8 @@ walk_over (suc n) ws at t h = rw (le-leb (length ws) at h)
 
 pub walk_more : (k n : ℕ) (ws : List ℕ) (at : ℕ) (t : List ℕ) → k ≡ suc n → at < length ws
     → walk_of k ws at t
-    ≡ before (entry_at t ws at) (pick (goes_on (said_at t ws at)) (walk_of n ws (next_of t ws at) (left_at t ws at)) (ended (next_of t ws at) (left_at t ws at)))
+    ≡ before (entry_at t ws at) (pick (goes_on (said_at t ws at)) (walk_of n ws (next_of t ws at) (left_at t ws at))
+    (ended (next_of t ws at) (left_at t ws at)))
 unfolding walk_of
 walk_more k n ws at t e h = rw (e, lt-leb (length ws) at h)
 
@@ -165,7 +166,8 @@ module _ (most from at n : ℕ) (ws t₀ buffer₀ t buffer : List ℕ) (p : Run
           wrote =
               w ∙ ap (put (entry_words * n) entry_words (words_of_entry x)) p.wrote
               ∙ put_at (entry_words * n) entry_words p.entries (drop (entry_words * n) buffer₀) (words_of_entry x) p.size
-              ∙ ap (λ (l : List ℕ). p.entries ++ (words_of_entry x ++ l)) (drop-drop entry_words (entry_words * n) buffer₀ ∙ ap (λ (m : ℕ). drop m buffer₀) many)
+              ∙ ap (λ (l : List ℕ). p.entries ++ (words_of_entry x ++ l))
+              (drop-drop entry_words (entry_words * n) buffer₀ ∙ ap (λ (m : ℕ). drop m buffer₀) many)
               ∙ sym (append_assoc p.entries (words_of_entry x) (drop (entry_words * (n + 1)) buffer₀));
           is =
               p.is ∙ ap (onto n p.entries) (walk_more (most - n) (most - (n + 1)) ws at t k there)

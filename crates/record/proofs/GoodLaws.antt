@@ -536,8 +536,10 @@ rule_after b carried field slot f s g =
     (λ (y : both carried (holds b) ≡ true).
     ⊎_elim
     (λ (e : eqb b 16 ≡ true).
-    let new : state_good (state_after (get_or field 0 0) (get_or slot 0 0)) ≡ true = state_stays_good (get_or field 0 0) (get_or slot 0 0) (s (eqb-true b 16 e)) in
-    rw (y, e) (both_true _ _ (ap (λ (n : ℕ). rule_of n (state_after (get_or field 0 0) (get_or slot 0 0) ∷ [])) (eqb-true b 16 e) ∙ state_ruled _ new _ refl) new))
+    let new : state_good (state_after (get_or field 0 0) (get_or slot 0 0))
+    ≡ true = state_stays_good (get_or field 0 0) (get_or slot 0 0) (s (eqb-true b 16 e)) in
+    rw (y, e) (both_true _ _ (ap (λ (n : ℕ). rule_of n (state_after (get_or field 0 0) (get_or slot 0 0) ∷ [])) (eqb-true b 16 e) ∙ state_ruled _ new _ refl)
+    new))
     (λ (e : eqb b 16 ≡ false). rw (y, e) (both_true _ _ (f (both_left carried (holds b) y)) refl)) (true_or_false (eqb b 16)))
     (λ (n : both carried (holds b) ≡ false). rw n (g n)) (true_or_false (both carried (holds b)))
 

@@ -104,7 +104,8 @@ module _ (kind count : ℕ) (body r : List ℕ) (l : length r ≡ record_words) 
       by_kind (count_words k) _ (λ e. hold_count body counted whole (ok e) k h ∙ i) i
 
   -- a slot is as `slot_after` has it after a Context packet, and else as it was
-  pub after_slot : (b : ℕ) → slotted b ≡ true → slot_of b (record_after kind count body r) ≡ pick (eqb kind 4) (slot_after_body b body (slot_of b r)) (slot_of b r)
+  pub after_slot : (b : ℕ) → slotted b ≡ true → slot_of b (record_after kind count body r)
+      ≡ pick (eqb kind 4) (slot_after_body b body (slot_of b r)) (slot_of b r)
   after_slot b o =
       let i = count_slot (order_of kind) count r l (order_small kind) b in
       ⊎_elim (λ e. rw (eq-eqb kind 4 e) (ap (slot_of b) (after_context e) ∙ hold_slot body counted whole (ok e) b o ∙ ap (slot_after_body b body) i))

@@ -109,7 +109,8 @@ in_order_at (suc k) n b f h l e =
     (λ (g : k ≤ b).
     let i : b ≡ k = omega arith in
     let e' : has n k ≡ true = rw i at e in
-    rw (i, placed_first k n, bits_yes k n e', in_order_more k (bits_of k n) f) (part_front (field_size k) (f k) (in_order (bits_of k n) f) (h k (omega arith) e')))
+    rw (i, placed_first k n, bits_yes k n e', in_order_more k (bits_of k n) f)
+    (part_front (field_size k) (f k) (in_order (bits_of k n) f) (h k (omega arith) e')))
     (λ (g : b < k).
     let rest = in_order_at k n b f (λ x m. h x (omega arith)) g e in
     ⊎_elim

@@ -57,7 +57,8 @@ beside_where values want before old d a e s = rw (e, ← s) (record { number = r
 
 module _ {A L W R : Type 0} (values : A → W) (paper : R → Told A) (want : Told (Done A L)) (before after : L) (old : W) (r : R)
     (m : Meets paper want before r after) where
-  pub beside_where_refused : (s : Refusal) (k : ℕ) → paper r ≡ refused s → k ≡ number_for s → Tells (beside values) (in_number want) (before, old) k (after, old)
+  pub beside_where_refused : (s : Refusal) (k : ℕ) → paper r ≡ refused s → k ≡ number_for s
+      → Tells (beside values) (in_number want) (before, old) k (after, old)
   beside_where_refused s k e f = rw (m.buffer, said_refused want s (sym m.answer ∙ e), f) (record { number = refl; places = refl })
 
   pub beside_where_values : (a : A) (new : W) → paper r ≡ accepted a → new ≡ values a → Tells (beside values) (in_number want) (before, old) 0 (after, new)

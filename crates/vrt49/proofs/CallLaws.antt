@@ -85,9 +85,9 @@ abbrev pub ◌and◌ : {A B : Type 0} → A → B → A × B
 a and b = (a, b)
 
 listed : EachForC Listed calls_for_c
-unfolding read_by read_survey_of read_told survey_told play_told where_of write_words_by pad_fits trailer_word_of context_of unpack_of pack_of needed_of coordinates_of
-    item_of signed_of start_of play_of run_of length_of save_of put_back_of start_index_of grow_of grow_told jump_of
-    reading_of readings_of held_words_of identity_of type_counts_of own_table_of changed_of
+unfolding read_by read_survey_of read_told survey_told play_told where_of write_words_by pad_fits trailer_word_of context_of unpack_of pack_of needed_of
+    coordinates_of item_of signed_of start_of play_of run_of length_of save_of put_back_of start_index_of grow_of grow_told jump_of reading_of readings_of
+    held_words_of identity_of type_counts_of own_table_of changed_of
 listed =
     (λ h. ((_, told_first (where_of h.0) (read_list (get_or h.0 0 0) h.0) _), refl, read_fitting h.0))
     and (λ h. ((_, told_first (where_of h.0) (list_by true (get_or h.0 0 0) h.0) _), refl, survey_fitting h.0))

@@ -77,7 +77,8 @@ module _ (rs : List Reading) (kinds parts : List ℕ) (hertz : List ℤ) (first 
       )
 
 -- before the first row
-pub columns_none : (replicate 21 6, replicate 21 0, replicate 21 (pos 0), replicate 21 plus_zero, replicate 21 plus_zero) ≡ readings_values (replicate 21 absent)
+pub columns_none : (replicate 21 6, replicate 21 0, replicate 21 (pos 0), replicate 21 plus_zero, replicate 21 plus_zero)
+    ≡ readings_values (replicate 21 absent)
 unfolding columns
 columns_none = refl
 

@@ -71,5 +71,6 @@ module _ (survey : Bool) (pad : ℕ) (ws : List ℕ) (found : Check) (f : checke
       rw (words_fine survey pad ws body out at (flags_passed ws (sym f ∙ ap checked fine))) m
 
   pub survey_written : found ≡ Check.Fine → (body out left : List ℕ) (at : ℕ) (r : Length)
-      → Meets measured (write_by survey pad (parts_in (take 15 ws)) body out at) out r left → Meets measured (write_words_by survey pad ws body out at) out r left
+      → Meets measured (write_by survey pad (parts_in (take 15 ws)) body out at) out r left
+      → Meets measured (write_words_by survey pad ws body out at) out r left
   survey_written fine body out left at r m = words_written fine body out left at r (rw (parts_taken ws) at m)

@@ -10,7 +10,8 @@ grow_spec =
     (tie.spec
     (λ c κs. search rules) (λ c κs. search rules) (λ c. search rules) (λ c. search grow_ill) (λ c κs. search rules) (λ c κs. search rules)
     (λ c. search rules) (λ c. search rules) (λ c. search grow_contents)
-    (λ c κs. let tested : tie.After-index_good = search in let passed : tie.Else-not-index_good = search in grow_tested _ _ tested.index_good.ensures (ap not passed.if-not-index_good.false))
+    (λ c κs. let tested : tie.After-index_good = search in let passed : tie.Else-not-index_good = search in grow_tested _ _ tested.index_good.ensures
+    (ap not passed.if-not-index_good.false))
     (λ c κs. (search grow_ready, search reaches_yes))
     (λ c. search rules) (λ c. search rules) (λ c. search rules) (λ c κs. (search grow_ready, search reaches_no)) (λ c. search rules) (λ c. search rules)
     (λ c. search rules))

@@ -42,5 +42,6 @@ pub trailer_word_spec : {M : Type 1} → statement M
 trailer_word_spec =
     tie.close
     (tie.spec
-    returns-then-enables-ge4096 returns-then-indicators-ge4096 returns-then-e-ge2 returns-then-associated-ge128 (λ c. search rules) (λ c. search rules) (λ c. search rules) (λ c. search rules) (λ c. search rules)
+    returns-then-enables-ge4096 returns-then-indicators-ge4096 returns-then-e-ge2 returns-then-associated-ge128 (λ c. search rules) (λ c. search rules)
+    (λ c. search rules) (λ c. search rules) (λ c. search rules)
     (λ c. search rules) returns)

@@ -32,5 +32,6 @@ pub find_spec : {M : Type 1} → statement M
 find_spec =
     tie.close
     (tie.spec
-    returns-then-bit-gt30 returns-then-bit-lt8 (λ c κs. search rules) (λ c. search rules) returns-then-indicator-bit-ne1 (λ c. search rules) (λ c. search rules) (λ c. search rules)
+    returns-then-bit-gt30 returns-then-bit-lt8 (λ c κs. search rules) (λ c. search rules) returns-then-indicator-bit-ne1 (λ c. search rules) (λ c. search rules)
+    (λ c. search rules)
     (λ c. search rules) (λ c κs. search cleared_bit) (λ c κs. search rules) returns)

@@ -14,6 +14,7 @@ pub walk_on_spec : {M : Type 1} → statement M
 walk_on_spec =
     tie.close
     (tie.spec
-    invariant-loop-i decreases-loop-i (λ c. search onto_start) (λ c. search rules) (λ c κs. search rules) (λ c κs. search (rules, onto_some, onto_room)) (λ c. search rules)
+    invariant-loop-i decreases-loop-i (λ c. search onto_start) (λ c. search rules) (λ c κs. search rules) (λ c κs. search (rules, onto_some, onto_room))
+    (λ c. search rules)
     (λ c. search rules) (λ c. search rules) (λ c. search rules) (λ c. search onto_short) (λ c. search rules) (λ c. search onto_less) (λ c. search onto_turn)
     (λ c. search rules) (λ c. search rules) (λ c. search onto_end))

@@ -17,7 +17,8 @@ module _ (w : ℕ) (ws : List ℕ) where
     unfolding body_checks
     other_type d = rw (← k, ne_eqb kind 4 d)
 
-    body_asked : kind ≡ 4 → (at end : ℕ) → at ≡ body_at w → end ≡ body_at w + body_length w → (r : Check) → checked r ≡ context_of (take (end - at) (drop at ws))
+    body_asked : kind ≡ 4 → (at end : ℕ) → at ≡ body_at w → end ≡ body_at w + body_length w → (r : Check) → checked r
+        ≡ context_of (take (end - at) (drop at ws))
         → checked r ≡ body_checks (type_of w) (body_of w ws)
     unfolding body_checks body_of context_of
     body_asked f at end a e r c = rw (← k, eq-eqb kind 4 f, ← a, ← seen at end (body_length w) ws (omega arith)) c

@@ -21,14 +21,15 @@ module _ (free : Bool) (w high : ℕ) (ws : List ℕ) (h : high ≡ class_high w
     unfolding prologue_checks time_over
     no_fraction other = rw (← h, ← b, clear, ← t, ne_eqb tsf 2 other)
 
-    module _ (two : tsf ≡ 2) (at : ℕ) (a : at ≡ fraction_at w) (over : Bool) (o : over ≡ leb (10 ^ 12) (high_first (get_or ws at 0) (get_or ws (at + 1) 0))) where
-      time_refused : over ≡ true → refused TIME ≡ prologue_checks free w ws
-      unfolding prologue_checks time_over
-      time_refused e = rw (← h, ← b, clear, ← t, two, fraction_words w tsf at t two a ws, ← o, e)
+    module _ (two : tsf ≡ 2) (at : ℕ) (a : at ≡ fraction_at w) (over : Bool) (o : over ≡ leb (10 ^ 12) (high_first (get_or ws at 0) (get_or ws (at + 1) 0)))
+      where
+        time_refused : over ≡ true → refused TIME ≡ prologue_checks free w ws
+        unfolding prologue_checks time_over
+        time_refused e = rw (← h, ← b, clear, ← t, two, fraction_words w tsf at t two a ws, ← o, e)
 
-      time_fits : over ≡ false → accepted tt ≡ prologue_checks free w ws
-      unfolding prologue_checks time_over
-      time_fits e = rw (← h, ← b, clear, ← t, two, fraction_words w tsf at t two a ws, ← o, e)
+        time_fits : over ≡ false → accepted tt ≡ prologue_checks free w ws
+        unfolding prologue_checks time_over
+        time_fits e = rw (← h, ← b, clear, ← t, two, fraction_words w tsf at t two a ws, ← o, e)
 
 pub check_prologue_spec : {M : Type 1} → statement M
 check_prologue_spec =

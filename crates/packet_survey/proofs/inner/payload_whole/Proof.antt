@@ -10,7 +10,8 @@ module _ (high low l pad : ℕ) (p : pad ≡ pad_of high) where
   unfolding payload_whole
   pad_beyond h = rw (← p, lt-leb pad (32 * l) h)
 
-  remainder_decides : pad ≤ 32 * l → (bits vector : ℕ) → bits ≡ payload_bits high l → vector ≡ vector_bits low → eqb (bits % vector) 0 ≡ payload_whole high low l
+  remainder_decides : pad ≤ 32 * l → (bits vector : ℕ) → bits ≡ payload_bits high l → vector ≡ vector_bits low → eqb (bits % vector) 0
+      ≡ payload_whole high low l
   unfolding payload_whole
   remainder_decides h bits vector b v = rw (← p, le-leb pad (32 * l) h, b, v)
 

@@ -19,7 +19,8 @@ returns c =
     let k : tie.After-lay_body = search in
     let p : tie.After-lay_prologue = search in
     then
-    (then (lend _ (slice_bounds-lay_prologue-count p.before.before) p.lay_prologue.ensures) (lend _ (slice_bounds-lay_body-count k.before.before) k.lay_body.ensures))
+    (then (lend _ (slice_bounds-lay_prologue-count p.before.before) p.lay_prologue.ensures)
+    (lend _ (slice_bounds-lay_body-count k.before.before) k.lay_body.ensures))
     (lend _ (slice_bounds-lay_trailer-count t.before.before) t.lay_trailer.ensures)
 
 pub lay_parts_spec : {M : Type 1} → statement M
@@ -27,5 +28,6 @@ lay_parts_spec =
     tie.close
     (tie.spec
     (λ c. search rules) slice_bounds-lay_prologue-count (λ c. search rules) (λ c. search rules) (λ c κs. search rules) (λ c. search rules) (λ c. search rules)
-    slice_bounds-lay_body-count (λ c. search rules) (λ c. search rules) (λ c κs. search rules) (λ c. search rules) (λ c. search rules) slice_bounds-lay_trailer-count
+    slice_bounds-lay_body-count (λ c. search rules) (λ c. search rules) (λ c κs. search rules) (λ c. search rules) (λ c. search rules)
+    slice_bounds-lay_trailer-count
     (λ c. search rules) (λ c. search rules) (λ c κs. search rules) (λ c. search rules) (λ c. search rules) returns)

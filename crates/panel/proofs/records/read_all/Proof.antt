@@ -16,6 +16,7 @@ pub read_all_spec : {M : Type 1} → statement M
 read_all_spec =
     tie.close
     (tie.spec
-    invariant-loop-i decreases-loop-i (λ c. (showing_none _ _ refl, sym slot_first)) (λ c. search rules) (λ c. search rules) (λ c κs. search rules) (λ c. search rules)
+    invariant-loop-i decreases-loop-i (λ c. (showing_none _ _ refl, sym slot_first)) (λ c. search rules) (λ c. search rules)
+    (λ c κs. search rules) (λ c. search rules)
     (λ c. search rules) (λ c κs. search rules) (λ c. search slot_along_fits) (λ c. search rules) (λ c. search rules)
     (λ c. (search showing_more, search slot_along_next)) (λ c. search showing_all))

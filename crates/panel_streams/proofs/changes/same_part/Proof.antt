@@ -15,5 +15,6 @@ pub same_part_spec : {M : Type 1} → statement M
 same_part_spec =
     tie.close
     (tie.spec
-    invariant-loop-i decreases-loop-i (λ c. search passing_start) (λ c. search rules) (λ c. search rules) (λ c. search rules) (λ c. search rules) (λ c. search rules)
+    invariant-loop-i decreases-loop-i (λ c. search passing_start) (λ c. search rules) (λ c. search rules) (λ c. search rules) (λ c. search rules)
+    (λ c. search rules)
     (λ c. search rules) (λ c. search agree_fails) (λ c. search rules) (λ c. search rules) (λ c. search agree_turn) (λ c. search agree_end))

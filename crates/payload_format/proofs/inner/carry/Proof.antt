@@ -28,5 +28,6 @@ pub carry_spec : {M : Type 1} → statement M
 carry_spec =
     tie.close
     (tie.spec
-    (λ c κs. search rules) returns-then-link_efficient (λ c κs. search rules) (λ c. search rules) (λ c. search rules) (λ c. omega (arith, fields_within (search)))
+    (λ c κs. search rules) returns-then-link_efficient (λ c κs. search rules) (λ c. search rules) (λ c. search rules)
+    (λ c. omega (arith, fields_within (search)))
     (λ c. rw (lines (search)) (search (cases, fields_within))) (λ c. rw (lines (search)) (search cases)))

@@ -24,6 +24,7 @@ pub count_bad_spec : {M : Type 1} → statement M
 count_bad_spec =
     tie.close
     (tie.spec
-    returns-then-n-gt2097120 (λ c κs. search rules) (λ c. search rules) (λ c κs. search rules) (λ c. search rules) (λ c. search (two_fit, factors)) (λ c κs. search rules)
+    returns-then-n-gt2097120 (λ c κs. search rules) (λ c. search rules) (λ c κs. search rules) (λ c. search rules) (λ c. search (two_fit, factors))
+    (λ c κs. search rules)
     (λ c. search rules) (λ c. search (two_some, factors)) (λ c. search count_once) (λ c. search (three_fit, factors))
     (λ c. search (three_some, factors)) (λ c. search count_items))

@@ -23,4 +23,5 @@ pub wide_processing_spec : {M : Type 1} → statement M
 wide_processing_spec =
     tie.close
     (tie.spec
-    (λ c κs. search rules) returns-then-link_efficient (λ c κs. search rules) (λ c. rw (lines (search)) (search cases)) (λ c. rw (lines (search)) (search cases)))
+    (λ c κs. search rules) returns-then-link_efficient (λ c κs. search rules) (λ c. rw (lines (search)) (search cases))
+    (λ c. rw (lines (search)) (search cases)))

@@ -22,4 +22,5 @@ returns c = let e : c.before.loop-k.k ≡ length c.before.before.args.items.now 
 
 pub join_items_spec : {M : Type 1} → statement M
 join_items_spec =
-    tie.close (tie.spec invariant-loop-k decreases-loop-k loop-holds (λ c. search rules) (λ c. search rules) (λ c. search rules) (λ c. search rules) loop-again returns)
+    tie.close (tie.spec invariant-loop-k decreases-loop-k loop-holds (λ c. search rules) (λ c. search rules) (λ c. search rules) (λ c. search rules) loop-again
+    returns)

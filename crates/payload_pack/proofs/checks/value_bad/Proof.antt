@@ -47,5 +47,6 @@ pub value_bad_spec : {M : Type 1} → statement M
 value_bad_spec =
     tie.close
     (tie.spec
-    (λ c κs. search rules) (λ c. search rules) (λ c κs. search rules) returns-then-not-items_fit (λ c κs. search rules) (λ c. search rules) (λ c κs. search rules) returns-then-not-events_fit
+    (λ c κs. search rules) (λ c. search rules) (λ c κs. search rules) returns-then-not-items_fit (λ c κs. search rules) (λ c. search rules)
+    (λ c κs. search rules) returns-then-not-events_fit
     (λ c κs. search rules) (λ c. search rules) (λ c κs. search rules) returns)

@@ -66,5 +66,6 @@ pub pack_items_spec : {M : Type 1} → statement M
 pack_items_spec =
     tie.close
     (tie.spec
-    invariant-loop-k decreases-loop-k (λ c. search rules) (λ c κs. search rules) loop-holds (λ c. search rules) (λ c. search rules) (λ c. search rules) push_field-s-requires
+    invariant-loop-k decreases-loop-k (λ c. search rules) (λ c κs. search rules) loop-holds (λ c. search rules) (λ c. search rules) (λ c. search rules)
+    push_field-s-requires
     (λ c. search rules) (λ c. search rules) loop-again finish-requires shape_of-out returns)

@@ -72,5 +72,6 @@ pub pack_tagged_spec : {M : Type 1} → statement M
 pack_tagged_spec =
     tie.close
     (tie.spec
-    invariant-loop-k decreases-loop-k (λ c κs. search rules) loop-holds (λ c. search rules) (λ c. search rules) (λ c. search rules) (λ c. search rules) (λ c. search rules)
+    invariant-loop-k decreases-loop-k (λ c κs. search rules) loop-holds (λ c. search rules) (λ c. search rules) (λ c. search rules) (λ c. search rules)
+    (λ c. search rules)
     make-v-requires push_field-s-requires (λ c. search rules) (λ c. search rules) loop-again finish-requires shape_of-out returns)

@@ -14,5 +14,6 @@ pub clear_channels_spec : {M : Type 1} → statement M
 clear_channels_spec =
     tie.close
     (tie.spec
-    invariant-loop-k decreases-loop-k (λ c. search fills_none) (λ c. search rules) (λ c. search rules) (λ c. search rules) (λ c. search rules) (λ c. search fills_turn)
+    invariant-loop-k decreases-loop-k (λ c. search fills_none) (λ c. search rules) (λ c. search rules) (λ c. search rules) (λ c. search rules)
+    (λ c. search fills_turn)
     (λ c. search) (λ c. search fills_all))

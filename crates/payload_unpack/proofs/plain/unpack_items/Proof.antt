@@ -16,6 +16,7 @@ pub unpack_items_spec : {M : Type 1} → statement M
 unpack_items_spec =
     tie.close
     (tie.spec
-    invariant-loop-k decreases-loop-k (λ c. search rules) (λ c κs. search rules) (λ c. search (fills_none, reading_start)) (λ c κs. search (reading_can, item_some))
+    invariant-loop-k decreases-loop-k (λ c. search rules) (λ c κs. search rules) (λ c. search (fills_none, reading_start))
+    (λ c κs. search (reading_can, item_some))
     (λ c. search rules) (λ c. search rules) (λ c. search rules) (λ c. search rules) (λ c. search (fills_turn, reading_item, reading_next)) (λ c. search)
     (λ c. search fills_all))

@@ -15,6 +15,7 @@ pub unpack_pairs_spec : {M : Type 1} → statement M
 unpack_pairs_spec =
     tie.close
     (tie.spec
-    invariant-loop-k decreases-loop-k (λ c. search fills_none) (λ c. search rules) (λ c. search rules) (λ c. search rules) (λ c. search rules) (λ c. search rules)
+    invariant-loop-k decreases-loop-k (λ c. search fills_none) (λ c. search rules) (λ c. search rules) (λ c. search rules) (λ c. search rules)
+    (λ c. search rules)
     (λ c. search rules) (λ c. search rules) (λ c κs. search rules) (λ c. search rules) (λ c. search rules) (λ c. search rules) (λ c. search rules)
     (λ c. search fills_turn) (λ c. search) (λ c. search fills_all))

@@ -17,5 +17,6 @@ pub unpack_words_spec : {M : Type 1} → statement M
 unpack_words_spec =
     tie.close
     (tie.spec
-    invariant-loop-k decreases-loop-k (λ c. search fills_none) (λ c. search rules) (λ c. search rules) overflow_cast-items (λ c. search rules) (λ c. search rules)
+    invariant-loop-k decreases-loop-k (λ c. search fills_none) (λ c. search rules) (λ c. search rules) overflow_cast-items (λ c. search rules)
+    (λ c. search rules)
     (λ c. search rules) (λ c. search rules) (λ c. search fills_turn) (λ c. search) (λ c. search fills_all))

@@ -16,7 +16,8 @@ pub unpack_parts_spec : {M : Type 1} → statement M
 unpack_parts_spec =
     tie.close
     (tie.spec
-    invariant-loop-k decreases-loop-k (λ c. search rules) (λ c κs. search rules) (λ c. search (parts_none, reading_start)) (λ c κs. search field_can) (λ c. search rules)
+    invariant-loop-k decreases-loop-k (λ c. search rules) (λ c κs. search rules) (λ c. search (parts_none, reading_start)) (λ c κs. search field_can)
+    (λ c. search rules)
     (λ c. search rules) (λ c. search rules) (λ c κs. search rules) (λ c. search rules) (λ c. search rules) (λ c κs. search rules) (λ c. search rules)
     (λ c. search rules) (λ c. search rules) (λ c. search (parts_turn, reading_field, reading_next)) (λ c. search rules) (λ c. search rules)
     (λ c. search rules) (λ c. search parts_all))

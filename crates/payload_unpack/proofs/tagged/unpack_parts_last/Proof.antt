@@ -24,7 +24,8 @@ pub unpack_parts_last_spec : {M : Type 1} → statement M
 unpack_parts_last_spec =
     tie.close
     (tie.spec
-    invariant-loop-k decreases-loop-k (λ c. search rules) (λ c. search rules) (λ c. omega (arith, words_some)) (λ c. omega (arith, words_few)) (λ c. omega (arith, words_some))
+    invariant-loop-k decreases-loop-k (λ c. search rules) (λ c. search rules) (λ c. omega (arith, words_some)) (λ c. omega (arith, words_few))
+    (λ c. omega (arith, words_some))
     (λ c. search parts_start) (λ c. omega (arith, place (search))) (λ c κs. search rules) (λ c. search rules) (λ c. search rules) (λ c. search shifted_small)
     (λ c. search rules) (λ c. search rules) (λ c. search rules) (λ c κs. search rules) (λ c. search rules) (λ c. search rules) (λ c κs. search rules)
     (λ c. search rules) (λ c. search rules) (λ c. search rules) (λ c. search (parts_turn, field_last, words_small)) (λ c. search rules) (λ c. search rules)

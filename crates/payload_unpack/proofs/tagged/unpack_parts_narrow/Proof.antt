@@ -26,7 +26,8 @@ pub unpack_parts_narrow_spec : {M : Type 1} → statement M
 unpack_parts_narrow_spec =
     tie.close
     (tie.spec
-    invariant-loop-k decreases-loop-k (λ c. search rules) (λ c. search rules) (λ c. omega (arith, words_some)) (λ c. omega (arith, words_few)) (λ c. search parts_none)
+    invariant-loop-k decreases-loop-k (λ c. search rules) (λ c. search rules) (λ c. omega (arith, words_some)) (λ c. omega (arith, words_few))
+    (λ c. search parts_none)
     (λ c. omega (arith, place (search))) (λ c. omega (arith, place (search))) (λ c κs. search (place, word_behind)) (λ c. search rules) (λ c. search rules)
     (λ c. search shifted_small) (λ c. search rules) (λ c. omega (arith, turn (search))) (λ c. omega (arith, turn (search))) (λ c κs. search rules)
     (λ c. omega (arith, turn (search))) (λ c. omega (arith, turn (search))) (λ c κs. search rules) (λ c. omega (arith, turn (search)))

@@ -14,5 +14,6 @@ pub unpack_fields_spec : {M : Type 1} → statement M
 unpack_fields_spec =
     tie.close
     (tie.spec
-    returns-then-n-eq0 (λ c. search rules) (λ c κs. search rules) (λ c κs. search rules) (λ c. search rules) (λ c. search rules) (λ c. search rules) returns-then-p-eq0
+    returns-then-n-eq0 (λ c. search rules) (λ c κs. search rules) (λ c κs. search rules) (λ c. search rules) (λ c. search rules) (λ c. search rules)
+    returns-then-p-eq0
     (λ c κs. search rules) (λ c. search rules) (λ c. search rules) (λ c. search rules) (λ c. search rules))

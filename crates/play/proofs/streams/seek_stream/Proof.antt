@@ -15,5 +15,6 @@ pub seek_stream_spec : {M : Type 1} → statement M
 seek_stream_spec =
     tie.close
     (tie.spec
-    invariant-loop-identifier decreases-loop-identifier (λ c. search table_there) (λ c. search table_few) (λ c. search seeking_start) (λ c κs. search seeking_small) (λ c. search rules)
+    invariant-loop-identifier decreases-loop-identifier (λ c. search table_there) (λ c. search table_few) (λ c. search seeking_start)
+    (λ c κs. search seeking_small) (λ c. search rules)
     (λ c. search seeking_inside) (λ c. search seeking_found) (λ c. search rules) (λ c. search seeking_none) (λ c. search rules) (λ c. search seeking_turn))

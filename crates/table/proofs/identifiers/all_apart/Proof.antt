@@ -17,5 +17,6 @@ pub all_apart_spec : {M : Type 1} → statement M
 all_apart_spec =
     tie.close
     (tie.spec
-    invariant-loop-s decreases-loop-s (λ c. search (rules, first_apart)) (λ c κs. search spaced_inside) (λ c. search test_failed) (λ c. search rules) (λ c. search rules)
+    invariant-loop-s decreases-loop-s (λ c. search (rules, first_apart)) (λ c κs. search spaced_inside) (λ c. search test_failed) (λ c. search rules)
+    (λ c. search rules)
     (λ c. search (rules, test_passed)) (λ c. search test_ended))

@@ -13,11 +13,13 @@ abbrev decreases-loop-s : tie.decreases-loop-s
 decreases-loop-s choices n s₀ s = n - s
 
 returns-then-choices-s-gt1 : tie.Need-returns-then-choices-s-gt1 invariant-loop-s decreases-loop-s
-returns-then-choices-s-gt1 c = let turn : tie.In-loop-s invariant-loop-s decreases-loop-s = search in choices_fail _ _ turn.before.loop-s.s (search) (search) (omega arith)
+returns-then-choices-s-gt1 c = let turn : tie.In-loop-s invariant-loop-s decreases-loop-s = search in choices_fail _ _ turn.before.loop-s.s (search) (search)
+    (omega arith)
 
 pub choices_good_spec : {M : Type 1} → statement M
 choices_good_spec =
     tie.close
     (tie.spec
-    invariant-loop-s decreases-loop-s (λ c. choices_unlike _ _ (λ e. omega (arith, e))) (λ c. search (rules, all_none)) (λ c. search rules) (λ c. search rules) returns-then-choices-s-gt1
+    invariant-loop-s decreases-loop-s (λ c. choices_unlike _ _ (λ e. omega (arith, e))) (λ c. search (rules, all_none)) (λ c. search rules) (λ c. search rules)
+    returns-then-choices-s-gt1
     (λ c. search rules) (λ c. search rules) (λ c. search (rules, choices_turn)) (λ c. search choices_end))

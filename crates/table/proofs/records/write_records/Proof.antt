@@ -14,5 +14,6 @@ pub write_records_spec : {M : Type 1} → statement M
 write_records_spec =
     tie.close
     (tie.spec
-    invariant-loop-s decreases-loop-s (λ c. search writing_start) (λ c. search rules) (λ c. search rules) (λ c. search rules) (λ c. search rules) (λ c κs. search rules)
+    invariant-loop-s decreases-loop-s (λ c. search writing_start) (λ c. search rules) (λ c. search rules) (λ c. search rules) (λ c. search rules)
+    (λ c κs. search rules)
     (λ c. search rules) (λ c. search rules) (λ c. search writing_turn) (λ c. search) (λ c. search writing_end))

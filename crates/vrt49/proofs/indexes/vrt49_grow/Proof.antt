@@ -37,5 +37,6 @@ pub vrt49_grow_spec : {M : Type 1} → statement M
 vrt49_grow_spec =
     tie.close
     (tie.spec
-    (λ c κs. search rules) (λ c. search rules) number_for-requires (λ c. search rules) taken_words-requires (λ c. search rules) (λ c. search rules) returns-in-Refused
+    (λ c κs. search rules) (λ c. search rules) number_for-requires (λ c. search rules) taken_words-requires (λ c. search rules) (λ c. search rules)
+    returns-in-Refused
     (λ c. search rules) (λ c. search rules) returns-in-Accepted)

@@ -36,4 +36,5 @@ returns-in-Accepted c =
 
 pub vrt49_read_spec : {M : Type 1} → statement M
 vrt49_read_spec =
-    tie.close (tie.spec (λ c κs. search rules) (λ c. search rules) number_for-requires (λ c. search rules) packet_words-requires returns-in-Refused returns-in-Accepted)
+    tie.close (tie.spec (λ c κs. search rules) (λ c. search rules) number_for-requires (λ c. search rules) packet_words-requires returns-in-Refused
+    returns-in-Accepted)

@@ -55,7 +55,8 @@ pub rows_of_spec : {M : Type 1} → statement M
 rows_of_spec =
     tie.close
     (tie.spec
-    invariant-loop-i decreases-loop-i (λ c. search rules) (λ c. search rules) (λ c. search rules) loop-holds (λ c. search rules) (λ c. search rules) (λ c κs. search rules)
+    invariant-loop-i decreases-loop-i (λ c. search rules) (λ c. search rules) (λ c. search rules) loop-holds (λ c. search rules) (λ c. search rules)
+    (λ c κs. search rules)
     (λ c κs. search rules) (λ c κs. search rules) overflow_add-next (λ c. search rules) (λ c. search rules) (λ c. search rules)
     (λ c. search rules) (λ c. search rules) (λ c. search rules) (λ c. search rules) (λ c. search rules) (λ c. search rules) (λ c. search rules)
     (λ c. search rules) (λ c. search rules) loop-again returns)

@@ -25,4 +25,5 @@ returns-in-NotStarted c =
 
 pub vrt49_counts_spec : {M : Type 1} → statement M
 vrt49_counts_spec =
-    tie.close (tie.spec (λ c κs. search rules) (λ c. search rules) (λ c. search rules) (λ c. search rules) returns-in-Refused returns-in-Started returns-in-NotStarted)
+    tie.close (tie.spec (λ c κs. search rules) (λ c. search rules) (λ c. search rules) (λ c. search rules) returns-in-Refused returns-in-Started
+    returns-in-NotStarted)

@@ -23,4 +23,5 @@ returns-else-have-gt0 c = record { none = λ e. refl; some = λ l. absurd (omega
 
 pub finish_spec : {M : Type 1} → statement M
 finish_spec =
-    tie.close (tie.spec (λ c. search rules) (λ c. search rules) (λ c. search rules) offset_bounds-out-at bounds-out-at (λ c. search rules) returns-then-have-gt0 returns-else-have-gt0)
+    tie.close (tie.spec (λ c. search rules) (λ c. search rules) (λ c. search rules) offset_bounds-out-at bounds-out-at (λ c. search rules) returns-then-have-gt0
+    returns-else-have-gt0)

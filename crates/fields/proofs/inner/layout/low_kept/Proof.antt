@@ -15,6 +15,7 @@ pub low_kept_spec : {M : Type 1} → statement M
 low_kept_spec =
     tie.close
     (tie.spec
-    invariant-loop-rest decreases-loop-rest (λ c. search walking_start) (λ c κs. search walking_some) (λ c κs. (search rules, search walking_near)) (λ c. search walking_broken)
+    invariant-loop-rest decreases-loop-rest (λ c. search walking_start) (λ c κs. search walking_some) (λ c κs. (search rules, search walking_near))
+    (λ c. search walking_broken)
     (λ c κs. (search walking_bit, search walking_near)) (λ c. search (rules, walking_near)) (λ c. search rules) (λ c. search walking_turn)
     (λ c. search walking_end))

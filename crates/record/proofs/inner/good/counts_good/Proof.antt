@@ -15,6 +15,7 @@ pub counts_good_spec : {M : Type 1} → statement M
 counts_good_spec =
     tie.close
     (tie.spec
-    invariant-loop-k decreases-loop-k (λ c. search passing_start) (λ c κs. search rules) (λ c. search rules) (λ c. search rules) (λ c. search rules) (λ c. search rules)
+    invariant-loop-k decreases-loop-k (λ c. search passing_start) (λ c κs. search rules) (λ c. search rules) (λ c. search rules) (λ c. search rules)
+    (λ c. search rules)
     (λ c. search rules) (λ c. search rules) (λ c. search rules) (λ c. search rules) (λ c κs. search rules) (λ c. search counts_fail) (λ c. search rules)
     (λ c. search rules) (λ c. search counts_turn) (λ c. search passing_end))

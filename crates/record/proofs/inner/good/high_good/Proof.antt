@@ -15,6 +15,7 @@ pub high_good_spec : {M : Type 1} → statement M
 high_good_spec =
     tie.close
     (tie.spec
-    invariant-loop-bit decreases-loop-bit (λ c κs. search rules) (λ c. testing_start _ _ _ _ (omega arith) (omega arith) (omega arith) (search)) (λ c κs. search rules)
+    invariant-loop-bit decreases-loop-bit (λ c κs. search rules) (λ c. testing_start _ _ _ _ (omega arith) (omega arith) (omega arith) (search))
+    (λ c κs. search rules)
     (λ c. search testing_head) (λ c κs. (search, search rules, search testing_slotted, search testing_here, search)) (λ c. search testing_fails)
     (λ c. search testing_fits) (λ c. search rules) (λ c. search rules) (λ c. search testing_turn) (λ c. search testing_end))

@@ -53,7 +53,8 @@ returns c =
     let low : tie.After-fill = search in
     let lower =
     filled_then mid.fill-low.ensures.0 mid.fill-low.ensures.1 low.fill.ensures.0 (omega arith) (omega arith) (omega arith) (omega arith) in
-    filled_all (filled_then high.fill-middle.ensures.0 high.fill-middle.ensures.1 lower (omega arith) (omega arith) (omega arith) (omega arith)) start.requires.0
+    filled_all (filled_then high.fill-middle.ensures.0 high.fill-middle.ensures.1 lower (omega arith) (omega arith) (omega arith) (omega arith))
+    start.requires.0
 
 pub refill_spec : {M : Type 1} → statement M
 refill_spec = tie.close (tie.spec fill-middle-requires fill-low-requires fill-requires (λ c. search rules) returns)
