@@ -1,6 +1,6 @@
 -- Why a walk ends. The idea: reading does not refuse with STREAM, so a step that goes on behind a refusal goes on behind STREAM, of a packet that was read;
 -- and a packet that was read has at least its header.
-use Rattle.words.proofs.Kit.{◌≡◌, refl, sym, ap, ◌∙◌, Bool, true, List, ℕ, ◌≤◌, ◌<◌, arith, eqb-true, drop, get_or}
+use Rattle.words.proofs.Kit.{◌≡◌, refl, sym, ap, ◌∙◌, Bool, true, List, ℕ, ◌≤◌, ◌<◌, arith, eqb-true, length, drop, get_or}
 use native.Mathlib.Nat.{add-zero}
 use lib.Seq.{get_or-drop}
 use Rattle.words.specs.Numbers.{STREAM}
@@ -50,9 +50,9 @@ next_on t ws at w g =
 -- ---- a turn of the walk
 
 module _ (t ws left : List ℕ) (at : ℕ) (r : Happened) (w : well_made t ≡ true) (m : Stepped t ws at r left) where
-  pub turn_kept : well_made left ≡ true
+  pub turn_kept : (length left ≡ length t) × (well_made left ≡ true)
   unfolding left_at
-  turn_kept = let k = play_keeps t (drop at ws) in ap well_made m.table ∙ k.well w
+  turn_kept = let k = play_keeps t (drop at ws) in (ap length m.table ∙ k.whole, ap well_made m.table ∙ k.well w)
 
   pub turn_on : r.continues ≡ true → at < r.next
   turn_on e = rw m.next (next_on t ws at w (sym m.on ∙ e))

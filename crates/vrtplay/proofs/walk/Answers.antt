@@ -9,4 +9,4 @@ loop-at-smaller g c =
     omega (arith, c.loop-at-test.true)
 
 pub loop-at-preserved : goal.loop-at-preserved
-loop-at-preserved g c = turn_kept _ _ _ _ _ c.loop-at.invariant c.step-s.ensures
+loop-at-preserved g c = (turn_kept _ _ _ _ _ c.loop-at.invariant c.step-s.ensures).1
