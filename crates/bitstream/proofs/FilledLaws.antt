@@ -5,6 +5,9 @@ use mathlib.Core.List.{append_assoc}
 use native.Mathlib.Nat.{eq-or-lt_of_le, le_of_suc-le-suc, not-suc-le-zero}
 use native.Mathlib.Numerals.{add-one}
 use lib.ListN.{length-set, length-append, length-drop, get_or-append}
+use Rattle.std.specs.Prelude.{replicate}
+use Rattle.std.proofs.lemmas.List.{length-take, drop_all}
+use Rattle.std.proofs.lemmas.List.Edits.{fill_none, fill_more}
 use lib.Seq.{set_at, take_at, get_or_at, drop-cons, ext_get_or}
 use Rattle.bitstream.specs.Filled.{list_of, filled}
 use Rattle.bitstream.specs.inner.FilledOn.{FilledOn}
@@ -63,6 +66,22 @@ filled_more k h l l' x r e q =
     ∙ sym (append_assoc (list_of k h) (h k ∷ []) (drop (suc k) l))
     ∙ ap (λ (n : ℕ). filled n h l) (sym (add-one k))
 
+-- a buffer whose first n places are filled by themselves
+pub filled_part : (n : ℕ) (h : ℕ → ℕ) (l m : List ℕ) → m ≡ filled n h (take n l) → m ++ drop n l ≡ filled n h l
+unfolding filled
+filled_part n h l m e =
+    ap (λ (x : List ℕ). x ++ drop n l) (e ∙ ap (λ (x : List ℕ). list_of n h ++ x) (drop_all n (take n l) (omega (arith, length-take n l))))
+    ∙ append_assoc (list_of n h) [] (drop n l)
+
+-- with zeros
+pub zeros : (n : ℕ) (l : List ℕ) → n ≤ length l → replicate n 0 ++ drop n l ≡ filled n (λ k. 0) l
+zeros zero l r = sym (fill_none l 0) ∙ filled_none (λ k. 0) l
+zeros (suc n) l r =
+    ap (λ (k : ℕ). replicate k 0 ++ drop k l) (sym (add-one n))
+    ∙ sym (fill_more n 0 l (omega arith))
+    ∙ filled_more n (λ k. 0) l _ 0 (omega arith) (zeros n l (omega arith)) refl
+    ∙ ap (λ (k : ℕ). filled k (λ i. 0) l) (add-one n)
+
 -- ---- a loop that fills the places from a up to n with h: those up to k are filled. What stands before a, of g, is another's; from a on, g is h.
 pub record Fills (a n k : ℕ) (h : ℕ → ℕ) (l l' : List ℕ) : Type 0 where
   pub from : a ≤ k
@@ -93,8 +112,16 @@ fills_as {a} {n} {k} {h} {g} f q s = let e : k ≡ n = omega (arith, f.most) in 
 pub fills_end : {a n k : ℕ} {h : ℕ → ℕ} {l l' : List ℕ} → Fills a n k h l l' → n ≤ k → FilledOn a n h l l'
 fills_end f q = fills_as f q (λ j r s. refl)
 
+-- where a loop began at the first place
+pub filled_whole : (n : ℕ) (h : ℕ → ℕ) (l l' : List ℕ) → n ≤ length l → FilledOn 0 n h l l' → l' ≡ filled n h l
+filled_whole n h l l' r e = e l r (filled_none h l)
+
+-- and another went on
+pub filled_twice : (a n : ℕ) (h : ℕ → ℕ) (l l' l'' : List ℕ) → a ≤ n → n ≤ length l → FilledOn 0 a h l l' → FilledOn a n h l' l'' → l'' ≡ filled n h l
+filled_twice a n h l l' l'' q r e f = f l r (filled_whole a h l l' (omega arith) e)
+
 pub fills_all : {n k : ℕ} {h : ℕ → ℕ} {l l' : List ℕ} → Fills 0 n k h l l' → n ≤ k → l' ≡ filled n h l
-fills_all {h = h} {l} f q = fills_end f q l f.room (filled_none h l)
+fills_all f q = filled_whole _ _ _ _ f.room (fills_end f q)
 
 -- one loop up to a, and another from a on
 pub fills_on : {a n : ℕ} {h : ℕ → ℕ} {l l' l'' : List ℕ} → Fills 0 n a h l l' → FilledOn a n h l' l'' → l'' ≡ filled n h l

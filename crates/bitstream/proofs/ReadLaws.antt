@@ -29,7 +29,7 @@ pub refilled_same : (c w : ℕ) (s : Accumulator) (ws : List ℕ) → Takeable c
 refilled_same c w s ws t l = record { enough = l; most = t.few; place = refl; keeps = λ u p h a. a }
 
 pub refilled : (c w : ℕ) (s : Accumulator) (ws : List ℕ) (d : ℕ) → Takeable c w s ws → s.have < w → d ≡ stream_bits c ws s.at → d < 2 ^ c
-    → Refilled c w s ws (record { acc = (s.acc * 2 ^ c) % 2 ^ 64 + d; have = s.have + c; at = s.at + 1; value = 0 })
+    → Refilled c w s ws (record { acc = (s.acc * 2 ^ c) % 2 ^ 64 + d; have = s.have + c; at = s.at + 1 })
 refilled c w s ws d t l e b = record {
   enough = t.part;
   most = omega arith;
@@ -49,7 +49,7 @@ refilled c w s ws d t l e b = record {
 
 -- ---- a field is taken, without its last u bits, by one shift
 pub took : (c f u : ℕ) (s h : Accumulator) (ws : List ℕ) (v : ℕ) → u < f → Refilled c (f + u) s ws h → v ≡ h.acc / 2 ^ (h.have - f) % 2 ^ (f - u)
-    → v < 2 ^ (f - u) → Took c f u s ws (record { acc = h.acc; have = h.have - f; at = h.at; value = v })
+    → v < 2 ^ (f - u) → Took c f u s ws v (record { acc = h.acc; have = h.have - f; at = h.at })
 took c f u s h ws v l r e n = record {
   below = n;
   few = omega (arith, r.enough, r.most);
@@ -81,9 +81,9 @@ took c f u s h ws v l r e n = record {
 none_less : (n : ℕ) → n - 0 ≡ n
 none_less n = omega arith
 
-took_twice : (c f a b : ℕ) (s x y : Accumulator) (ws : List ℕ) → f ≡ a + b → Took c a 0 s ws x → Took c b 0 x ws y
-    → Took c f 0 s ws (record { acc = y.acc; have = y.have; at = y.at; value = x.value * 2 ^ b + y.value })
-took_twice c f a b s x y ws e t u = record {
+took_twice : (c f a b : ℕ) (s x y : Accumulator) (ws : List ℕ) (v w : ℕ) → f ≡ a + b → Took c a 0 s ws v x → Took c b 0 x ws w y
+    → Took c f 0 s ws (v * 2 ^ b + w) y
+took_twice c f a b s x y ws v w e t u = record {
   below = rw (none_less f, e, pow-add 2 a b) (digits_lt (rw (none_less a) at t.below) (rw (none_less b) at u.below));
   few = u.few;
   place = omega (arith, t.place, u.place);
@@ -95,7 +95,7 @@ took_twice c f a b s x y ws e t u = record {
       let k = rw q at j.1 in (
         ap₂ (λ (m n : ℕ). m * 2 ^ b + n) (i.0 ∙ div-one (span c g p a)) (j.0 ∙ div-one (span c g (p + a) b))
             ∙ sym (split c g p a b) ∙ ap (span c g p) (sym e) ∙ sym (div-one (span c g p f)),
-        record { over = k.over; place = k.place; held = k.held },
+        k,
       );
 }
 
@@ -126,8 +126,8 @@ module _ (c f : ℕ) (s : Accumulator) (ws : List ℕ) (t : FieldTakeable c f s 
           there = λ q. room_at c s.at s.have (f - 32) (length ws) t.some (omega arith) (omega (arith, t.there));
         }
 
-    pub back_takeable : (x : Accumulator) → Took c (f - 32) 0 s ws x → Takeable c (32 + 0) x ws
-    back_takeable x u =
+    pub back_takeable : (v : ℕ) (x : Accumulator) → Took c (f - 32) 0 s ws v x → Takeable c (32 + 0) x ws
+    back_takeable v x u =
         let e = t.wide l in
         record {
           some = t.some;
@@ -138,9 +138,8 @@ module _ (c f : ℕ) (s : Accumulator) (ws : List ℕ) (t : FieldTakeable c f s 
           there = λ q. room_at c x.at x.have 32 (length ws) t.some (omega arith) (omega (arith, t.there, u.place));
         }
 
-    pub front_small : (x : Accumulator) → Took c (f - 32) 0 s ws x → x.value < 2 ^ 32
-    front_small x u = omega (arith, u.below, pow_mono {i = f - 32 - 0} {j = 32} (omega (arith, t.size)))
+    pub front_small : (v : ℕ) (x : Accumulator) → Took c (f - 32) 0 s ws v x → v < 2 ^ 32
+    front_small v x u = omega (arith, u.below, pow_mono {i = f - 32 - 0} {j = 32} (omega (arith, t.size)))
 
-    pub took_wide : (x y : Accumulator) → Took c (f - 32) 0 s ws x → Took c 32 0 x ws y
-        → Took c f 0 s ws (record { acc = y.acc; have = y.have; at = y.at; value = x.value * 2 ^ 32 + y.value })
-    took_wide x y = took_twice c f (f - 32) 32 s x y ws (omega arith)
+    pub took_wide : (v w : ℕ) (x y : Accumulator) → Took c (f - 32) 0 s ws v x → Took c 32 0 x ws w y → Took c f 0 s ws (v * 2 ^ 32 + w) y
+    took_wide v w x y = took_twice c f (f - 32) 32 s x y ws v w (omega arith)

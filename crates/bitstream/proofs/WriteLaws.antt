@@ -40,7 +40,7 @@ module _ (c w : ℕ) (s : Accumulator) (v : ℕ) (out : List ℕ) (h : Pushable 
       → joint s v w % 2 ^ (s.have + w) ≡ span f g (c * s.at) (s.have + w)
   joint_is f g e q = appended f g s.acc (c * s.at) s.have e v w 64 (omega arith) h.fits q
 
-  pub pushed_more : s.have + w < c → Pushed c w s v out out (record { acc = joint s v w; have = s.have + w; at = s.at; value = 0 })
+  pub pushed_more : s.have + w < c → Pushed c w s v out out (record { acc = joint s v w; have = s.have + w; at = s.at })
   pushed_more l = record {
     place = sym (add_assoc (c * s.at) s.have w);
     few = l;
@@ -48,7 +48,7 @@ module _ (c w : ℕ) (s : Accumulator) (v : ℕ) (out : List ℕ) (h : Pushable 
   }
 
   pub pushed_word : c ≤ s.have + w
-      → Pushed c w s v out (set out s.at (filled_word c s v w)) (record { acc = joint s v w; have = s.have + w - c; at = s.at + 1; value = 0 })
+      → Pushed c w s v out (set out s.at (filled_word c s v w)) (record { acc = joint s v w; have = s.have + w - c; at = s.at + 1 })
   unfolding word_of
   pushed_word l = record {
     place = omega (arith, mul-add c s.at 1);

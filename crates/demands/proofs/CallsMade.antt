@@ -5,8 +5,7 @@ use mathlib.Core.List.{map}
 use Rattle.words.specs.Outcome.{accepted, said_of, left_of}
 use Rattle.words.proofs.MeetLaws.{meets_accepted}
 use Rattle.table.specs.Well.{well_made}
-use Rattle.play.specs.declared.Played.{Played}
-use Rattle.play.specs.Play.{played_paper}
+use Rattle.words.specs.Told.{told_paper}
 use Rattle.page.specs.PutBack.{put_back_of}
 use Rattle.index_jump.specs.declared.Landed.{Landed}
 use Rattle.demands.specs.Listing.{Listing}
@@ -16,7 +15,7 @@ use Rattle.demands.specs.Resumed.{SavesAs, Resumes, Stop, Day, SamePages}
 use Rattle.demands.specs.Resumed as Resumed
 use Rattle.demands.specs.Jumped.{GrownOver}
 use Rattle.demands.specs.Jumped as Jumped
-use Rattle.demands.specs.CallsMade.{StartMade, PlaysMade, none, next, SaveMade, DayMade, over, SamePagesMade, GrowsMade, Ruled, Demand3Made}
+use Rattle.demands.specs.CallsMade.{Played, StartMade, PlaysMade, none, next, SaveMade, DayMade, over, SamePagesMade, GrowsMade, Ruled, Demand3Made}
 use Rattle.demands.specs.CallsMade as Made
 use Rattle.demands.proofs.RightLaws.{right_start, right_on, answers_on}
 use Rattle.demands.proofs.Resumed.{page_words, saved_page, resumes, days}
@@ -31,7 +30,7 @@ started list lent t m =
     rw k.leaves (right_start list lent k.done k.wants)
 
 played : {t last : List ℕ} {packets : List (List ℕ)} {rs : List Played} → PlaysMade t packets rs last
-    → (last ≡ play_all ours t packets) × (map played_paper rs ≡ said_all ours t packets)
+    → (last ≡ play_all ours t packets) × (map told_paper rs ≡ said_all ours t packets)
 played none = (refl, refl)
 played (next {t} {ws} {after} {last} {packets} {r} {rs} m p) =
     let k = played p in
@@ -50,7 +49,7 @@ saved : (t page : List ℕ) (m : SaveMade t page) → let d = (meets_accepted m.
 saved t page m = let k = meets_accepted m.meets m.accepts in cc (m.wrote, k.says, k.leaves)
 
 day : {before packets : List (List ℕ)} {t last : List ℕ} {rs : List Played} {stops : List Stop} → DayMade before t packets rs stops last
-    → Day ours before t packets (map played_paper rs) stops last
+    → Day ours before t packets (map told_paper rs) stops last
 day over = Resumed.over
 day (Made.plays {ws = ws} m d) = rw m.answer (Resumed.plays ws (rw m.buffer at (day d)))
 day {t = t} (Made.stops {page = page} s b d) =
@@ -100,10 +99,10 @@ demand_3_made = record {
       let again : Resumes ours list t packets [] page room = rw (saved t page m) (resumes list packets t q m.lent k.done k.wants room [] h) in
       b.answer ∙ ap said_of again.accepts ∙ ap accepted again.says;
   days = λ list lent t last packets answers stops a d.
-      let k = days list [] t (started list lent t a) packets last (map played_paper answers) stops (day d) in
+      let k = days list [] t (started list lent t a) packets last (map told_paper answers) stops (day d) in
       (record { table = k.right; said = k.ruled }, same_pages list t (started list lent t a) stops k.same_pages);
   unbroken = λ list lent t last whole packets answers all stops a d p.
-      let k = days list [] t (started list lent t a) packets last (map played_paper answers) stops (day d) in
+      let k = days list [] t (started list lent t a) packets last (map told_paper answers) stops (day d) in
       (k.same_table ∙ ap (layout_of list) (sym (played p).0), k.same_answers ∙ sym (played p).1);
   jumps = λ ws first taken t ix g n h from given w lent last r room m.
       let l = jumps ws first taken t ix (grown_over g) n h from given w lent room in

@@ -3,6 +3,7 @@
 -- proofs one after the other
 -- some outcome meets every promise
 pub mod Answered
+mod Named
 -- every promise leaves one outcome, and a refusal the lent words
 pub mod Once
 -- each call gives the first refusal of its list that applies

@@ -7,7 +7,6 @@ use Rattle.words.proofs.Kit.{subst, eqb-true, not-true, le-ltb, le-leb, eqb, leb
 use mathlib.Core.Logic.{◌↔◌}
 use native.Mathlib.Nat.{mod-lt, mul_comm, mul-le-mul, le_refl, le_trans}
 use Rattle.words.specs.declared.Where.TheVariants.{Word}
-use Rattle.words.specs.declared.Refusal.{Refusal}
 use Rattle.words.specs.Numbers.{STREAM}
 use Rattle.words.specs.Tests.{pick, when, both, either, among}
 use Rattle.words.specs.All.{all}
@@ -15,7 +14,7 @@ use Rattle.words.specs.Word.{join}
 use Rattle.words.specs.Part.{part}
 use Rattle.words.specs.Refusals.{first_given, only_where}
 use Rattle.words.specs.Outcome.{Outcome, Reply, refused, accepted, onward, said_of}
-use Rattle.words.specs.Told.{told, refusal}
+use Rattle.words.specs.Told.{RefusalTold, told, refusal}
 use Rattle.words.proofs.Cases.{both_left, both_right, accepted_same}
 use Rattle.words.proofs.RefusalLaws.{first_passed, none_given, onward_first}
 use Rattle.words.proofs.ToldLaws.{told_onward}
@@ -255,7 +254,7 @@ module _ (list : Listing) (t ws : List ℕ) (none : streams_in list ≤ place_in
   abbrev borne : ℕ
   borne = (packet_of (get_or ws 0 0) ws).parts.identifier
 
-  abbrev not_listed : Refusal
+  abbrev not_listed : RefusalTold
   not_listed = refusal STREAM (Word (when (streamed (get_or ws 0 0)) 1))
 
   unheard : (o : Outcome Packet) → read_of ws ≡ o → onward (heard_by list ws) (done_on t) ≡ onward (told (where_of ws) o) (λ p. refused not_listed)

@@ -8,9 +8,8 @@ use Rattle.words.specs.Part.{part}
 use Rattle.words.specs.SetBits.{bits_of, above}
 use Rattle.words.specs.All.{all, first_of}
 use Rattle.words.specs.declared.Where.TheVariants.{Nowhere}
-use Rattle.words.specs.declared.Refusal.{Refusal}
 use Rattle.words.specs.Outcome.{refused, accepted, Done, said_of, left_of}
-use Rattle.words.specs.Told.{Told, refusal}
+use Rattle.words.specs.Told.{RefusalTold, Told, refusal}
 use Rattle.fields.specs.Sizes.{field_size, words_of}
 use Rattle.fields.specs.Rules.{rule_of}
 use Rattle.fields.specs.Layout.{span_of, obeyed, body_words, place_of, field_of, low_bits_set, other_length, rule_broken}
@@ -83,7 +82,7 @@ computed = record {
 -- ---- demand 2's layouts
 
 -- a constant refusal
-pub no_constant_refusal : (P : Program) (r : Refusal) → ((ws : List ℕ) → P.read ws ≡ refused r) → Demand2 P → ⊥
+pub no_constant_refusal : (P : Program) (r : RefusalTold) → ((ws : List ℕ) → P.read ws ≡ refused r) → Demand2 P → ⊥
 no_constant_refusal P r same d =
     let e : refused r ≡ accepted computed.read3.0 = sym (same data3) ∙ d.reads data3 ∙ computed.read3.1 in
     let z : ◌≡◌ {A = ℕ} 0 3 = ap size_read e ∙ computed.read3.2 in

@@ -2,9 +2,8 @@
 -- or record."
 use Rattle.std.specs.Prelude.{◌≡◌, ℕ, false, List, [], ◌∷◌}
 use Rattle.words.specs.Tests.{pick}
-use Rattle.words.specs.declared.Refusal.{Refusal}
 use Rattle.words.specs.Outcome.{refused, accepted}
-use Rattle.words.specs.Told.{Told}
+use Rattle.words.specs.Told.{RefusalTold, Told}
 use Rattle.play.specs.declared.Heard.{Heard}
 use Rattle.demands.specs.Listing.{Listing}
 use Rattle.demands.specs.Trace.{heard_by, trace_of, is_own}
@@ -39,9 +38,9 @@ accepted_of (accepted a ∷ later) = a ∷ accepted_of later
 -- of refused packets, whatever identifier their words bear
 pub record RefusedApart (P : Program) (list : Listing) : Type 0 where
   -- one is no stream's own
-  pub unowned : (ws : List ℕ) (r : Refusal) → heard_by list ws ≡ refused r → (s : ℕ) → is_own s (heard_by list ws) ≡ false
+  pub unowned : (ws : List ℕ) (r : RefusalTold) → heard_by list ws ≡ refused r → (s : ℕ) → is_own s (heard_by list ws) ≡ false
   -- its answer, number and place, is by its words and the list alone, whatever was played before; nothing changes
-  pub answer : (packets : List (List ℕ)) (t : List ℕ) → Right list packets t → (ws : List ℕ) (r : Refusal) → heard_by list ws ≡ refused r
+  pub answer : (packets : List (List ℕ)) (t : List ℕ) → Right list packets t → (ws : List ℕ) (r : RefusalTold) → heard_by list ws ≡ refused r
       → P.play t ws ≡ refused r
   -- they may be altered, added and dropped: where the accepted packets are the same, the records of all streams are, and the answers to these packets
   pub altered : (before ps qs : List (List ℕ)) (t u : List ℕ) → Right list before t → Right list before u

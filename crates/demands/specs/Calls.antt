@@ -1,39 +1,38 @@
 -- Every public call, with its promise. No call has a `requires`: it may be handed any words. The promise of a call that is lent nothing is `paper r ≡ want h`,
 -- and that of a call that is lent words is `Meets paper (want h) (lent h) r after`, of what it is handed, h, its answer r, and the lent words afterwards; these
 -- are the `ensures` of the calls, word for word.
-use Rattle.std.specs.Prelude.{◌≡◌, ℕ, List, [], ◌∷◌, map}
-use Rattle.words.specs.Outcome.{Reply, refused, checked, measured, Done, Meets}
+use Rattle.std.specs.Prelude.{◌≡◌, ℕ, List, [], ◌∷◌}
+use Rattle.words.specs.Listed.{on_paper}
+use Rattle.words.specs.Outcome.{Reply, refused, Done, Meets}
+use Rattle.words.specs.Told.{told_paper}
 use Rattle.fields.specs.Answers.{found_paper}
 use Rattle.fields.specs.Layout.{field_count, found_of, context_of}
 use Rattle.packet.specs.declared.Parts.{Parts}
-use Rattle.packet.specs.Read.{parsed_paper}
-use Rattle.packet_trailer.specs.Trailer.{trailer_of, trailer_word_of, trailer_paper}
-use Rattle.packet.specs.Survey.{survey_paper}
+use Rattle.packet_trailer.specs.Trailer.{trailer_of, trailer_word_of}
 use Rattle.packet.specs.Told.{read_told, survey_told}
 use Rattle.packet_write.specs.Write.{write_of, write_survey_of}
-use Rattle.payload_format.specs.Answers.{shown_paper}
 use Rattle.payload_format.specs.Count.{needed_of}
 use Rattle.payload_order.specs.declared.Coordinates.{Coordinates}
-use Rattle.payload_order.specs.Numbering.{coordinates_of, located_paper, item_of}
+use Rattle.payload_order.specs.Numbering.{coordinates_of, item_of}
 use Rattle.payload_pack.specs.Pack.{pack_of}
 use Rattle.payload_format.specs.Signs.{signed_of}
 use Rattle.payload_unpack.specs.Unpack.{Buffers, unpack_of}
 use Rattle.table.specs.Start.{start_of}
 use Rattle.table.specs.Well.{well_made}
-use Rattle.play.specs.Play.{play_told, played_paper}
-use Rattle.play.specs.Run.{run_of, run_paper}
+use Rattle.play.specs.Play.{play_told}
+use Rattle.play.specs.Run.{run_of}
 use Rattle.page.specs.PutBack.{put_back_of}
 use Rattle.page.specs.Save.{length_of, save_of}
 use Rattle.index.specs.Start.{start_index_of}
-use Rattle.index_grow.specs.Grow.{grow_told, grown_paper}
-use Rattle.index_jump.specs.Jump.{jump_of, jumped_paper}
-use Rattle.panel.specs.AllReadings.{readings_of, in_each}
+use Rattle.index_grow.specs.Grow.{grow_told}
+use Rattle.index_jump.specs.Jump.{jump_of}
+use Rattle.panel.specs.AllReadings.{readings_of, readings_paper}
 use Rattle.panel.specs.HeldWords.{held_words_of}
 use Rattle.panel.specs.Readings.{reading_of, reading_paper}
 use Rattle.panel_streams.specs.Identity.{identity_of, identity_paper}
 use Rattle.panel_streams.specs.TypeCounts.{type_counts_of, type_counts_paper}
 use Rattle.panel_streams.specs.OwnTable.{own_table_of}
-use Rattle.panel_streams.specs.Changed.{changed_of, changed_paper}
+use Rattle.panel_streams.specs.Changed.{changed_of}
 use Rattle.vrt49.specs.Answers.{plain}
 
 -- a call that answers alone, and one that is lent words: how its answers read on paper, what is wanted by what it is handed, and which words are lent
@@ -70,94 +69,94 @@ abbrev pub field_count_call : Call
 field_count_call = answers plain field_count
 
 abbrev pub check_body_call : Call
-check_body_call = answers checked context_of
+check_body_call = answers on_paper context_of
 
 abbrev pub find_call : Call
 find_call = answers found_paper (λ (h : ℕ × List ℕ). found_of h.0 h.1)
 
 -- packet::read, read_survey, packet_write::write, write_survey, packet_trailer::trailer_parts, trailer_word
 abbrev pub read_call : Call
-read_call = answers parsed_paper read_told
+read_call = answers told_paper read_told
 
 abbrev pub read_survey_call : Call
-read_survey_call = answers survey_paper survey_told
+read_survey_call = answers told_paper survey_told
 
 abbrev pub write_call : Call
-write_call = lends measured (λ (h : Parts × List ℕ × List ℕ × ℕ). write_of h.0 h.1 h.2 h.3) (λ h. h.2)
+write_call = lends on_paper (λ (h : Parts × List ℕ × List ℕ × ℕ). write_of h.0 h.1 h.2 h.3) (λ h. h.2)
 
 abbrev pub write_survey_call : Call
 write_survey_call =
-    lends measured (λ (h : Parts × ℕ × List ℕ × List ℕ × ℕ). write_survey_of h.1 h.0 h.2 h.3 h.4) (λ h. h.3)
+    lends on_paper (λ (h : Parts × ℕ × List ℕ × List ℕ × ℕ). write_survey_of h.1 h.0 h.2 h.3 h.4) (λ h. h.3)
 
 abbrev pub trailer_parts_call : Call
 trailer_parts_call = answers plain trailer_of
 
 abbrev pub trailer_word_call : Call
-trailer_word_call = answers trailer_paper (λ (h : ℕ × ℕ × ℕ × ℕ). trailer_word_of h.0 h.1 h.2 h.3)
+trailer_word_call = answers on_paper (λ (h : ℕ × ℕ × ℕ × ℕ). trailer_word_of h.0 h.1 h.2 h.3)
 
 -- payload_format::words_needed, payload_unpack::unpack, payload_pack::pack, payload_format::signed
 abbrev pub words_needed_call : Call
-words_needed_call = answers measured (λ (h : ℕ × ℕ × ℕ). needed_of h.0 h.1 h.2)
+words_needed_call = answers on_paper (λ (h : ℕ × ℕ × ℕ). needed_of h.0 h.1 h.2)
 
 abbrev pub unpack_call : Call
-unpack_call = lends measured (λ (h : ℕ × ℕ × ℕ × List ℕ × Buffers). unpack_of h.0 h.1 h.2 h.3 h.4) (λ h. h.4)
+unpack_call = lends on_paper (λ (h : ℕ × ℕ × ℕ × List ℕ × Buffers). unpack_of h.0 h.1 h.2 h.3 h.4) (λ h. h.4)
 
 abbrev pub pack_call : Call
-pack_call = lends measured (λ (h : ℕ × ℕ × List ℕ × List ℕ × List ℕ × List ℕ). pack_of h.0 h.1 h.2 h.3 h.4 h.5) (λ h. h.5)
+pack_call = lends on_paper (λ (h : ℕ × ℕ × List ℕ × List ℕ × List ℕ × List ℕ). pack_of h.0 h.1 h.2 h.3 h.4 h.5) (λ h. h.5)
 
 -- payload_order::coordinates_of, item_at
 abbrev pub coordinates_of_call : Call
-coordinates_of_call = answers located_paper (λ (h : ℕ × ℕ × ℕ × ℕ). coordinates_of h.0 h.1 h.2 h.3)
+coordinates_of_call = answers on_paper (λ (h : ℕ × ℕ × ℕ × ℕ). coordinates_of h.0 h.1 h.2 h.3)
 
 abbrev pub item_at_call : Call
-item_at_call = answers measured (λ (h : ℕ × ℕ × ℕ × Coordinates). item_of h.0 h.1 h.2 h.3)
+item_at_call = answers on_paper (λ (h : ℕ × ℕ × ℕ × Coordinates). item_of h.0 h.1 h.2 h.3)
 
 abbrev pub signed_call : Call
-signed_call = answers shown_paper (λ (h : ℕ × ℕ). signed_of h.0 h.1)
+signed_call = answers on_paper (λ (h : ℕ × ℕ). signed_of h.0 h.1)
 
 -- table::start, well_made
 abbrev pub start_call : Call
-start_call = lends measured (λ (h : List ℕ × List ℕ × List ℕ). start_of h.0 h.1 h.2) (λ h. h.2)
+start_call = lends on_paper (λ (h : List ℕ × List ℕ × List ℕ). start_of h.0 h.1 h.2) (λ h. h.2)
 
 abbrev pub well_made_call : Call
 well_made_call = answers plain well_made
 
 -- play::play, play_run
 abbrev pub play_call : Call
-play_call = lends played_paper (λ (h : List ℕ × List ℕ). play_told h.0 h.1) (λ h. h.0)
+play_call = lends told_paper (λ (h : List ℕ × List ℕ). play_told h.0 h.1) (λ h. h.0)
 
 abbrev pub play_run_call : Call
-play_run_call = lends run_paper (λ (h : List ℕ × List ℕ × ℕ × List ℕ). run_of h.0 h.1 h.2 h.3) (λ h. (h.0, h.3))
+play_run_call = lends on_paper (λ (h : List ℕ × List ℕ × ℕ × List ℕ). run_of h.0 h.1 h.2 h.3) (λ h. (h.0, h.3))
 
 -- page::page_length, save, put_back
 abbrev pub page_length_call : Call
-page_length_call = answers measured length_of
+page_length_call = answers on_paper length_of
 
 abbrev pub save_call : Call
-save_call = lends measured (λ (h : List ℕ × List ℕ). save_of h.0 h.1) (λ h. h.1)
+save_call = lends on_paper (λ (h : List ℕ × List ℕ). save_of h.0 h.1) (λ h. h.1)
 
 abbrev pub put_back_call : Call
-put_back_call = lends measured (λ (h : List ℕ × List ℕ). put_back_of h.0 h.1) (λ h. h.1)
+put_back_call = lends on_paper (λ (h : List ℕ × List ℕ). put_back_of h.0 h.1) (λ h. h.1)
 
 -- index::start_index, index_grow::grow, index_jump::jump
 abbrev pub start_index_call : Call
-start_index_call = lends measured (λ (h : List ℕ × List ℕ). start_index_of h.0 h.1) (λ h. h.1)
+start_index_call = lends on_paper (λ (h : List ℕ × List ℕ). start_index_of h.0 h.1) (λ h. h.1)
 
 abbrev pub grow_call : Call
-grow_call = lends grown_paper (λ (h : List ℕ × List ℕ × List ℕ). grow_told h.0 h.1 h.2) (λ h. (h.0, h.2))
+grow_call = lends told_paper (λ (h : List ℕ × List ℕ × List ℕ). grow_told h.0 h.1 h.2) (λ h. (h.0, h.2))
 
 abbrev pub jump_call : Call
-jump_call = lends jumped_paper (λ (h : List ℕ × ℕ × List ℕ × ℕ × List ℕ). jump_of h.0 h.1 h.2 h.3 h.4) (λ h. h.4)
+jump_call = lends on_paper (λ (h : List ℕ × ℕ × List ℕ × ℕ × List ℕ). jump_of h.0 h.1 h.2 h.3 h.4) (λ h. h.4)
 
 -- panel::reading, readings, held_words
 abbrev pub reading_call : Call
 reading_call = answers reading_paper (λ (h : List ℕ × ℕ × ℕ). reading_of h.0 h.1 h.2)
 
 abbrev pub readings_call : Call
-readings_call = answers (map reading_paper) (λ (h : List ℕ × ℕ). in_each (readings_of h.0 h.1))
+readings_call = answers readings_paper (λ (h : List ℕ × ℕ). readings_of h.0 h.1)
 
 abbrev pub held_words_call : Call
-held_words_call = lends measured (λ (h : List ℕ × ℕ × ℕ × List ℕ). held_words_of h.0 h.1 h.2 h.3) (λ h. h.3)
+held_words_call = lends on_paper (λ (h : List ℕ × ℕ × ℕ × List ℕ). held_words_of h.0 h.1 h.2 h.3) (λ h. h.3)
 
 -- panel_streams::identity, counts, own_table, changed
 abbrev pub identity_call : Call
@@ -167,10 +166,10 @@ abbrev pub counts_call : Call
 counts_call = answers type_counts_paper (λ (h : List ℕ × ℕ × ℕ). type_counts_of h.0 h.1 h.2)
 
 abbrev pub own_table_call : Call
-own_table_call = lends measured (λ (h : List ℕ × ℕ × List ℕ). own_table_of h.0 h.1 h.2) (λ h. h.2)
+own_table_call = lends on_paper (λ (h : List ℕ × ℕ × List ℕ). own_table_of h.0 h.1 h.2) (λ h. h.2)
 
 abbrev pub changed_call : Call
-changed_call = answers changed_paper (λ (h : List ℕ × ℕ × List ℕ × ℕ). changed_of h.0 h.1 h.2 h.3)
+changed_call = answers on_paper (λ (h : List ℕ × ℕ × List ℕ × ℕ). changed_of h.0 h.1 h.2 h.3)
 
 unfoldable pub calls : List {1} Call
 calls =

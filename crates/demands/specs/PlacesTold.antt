@@ -1,11 +1,10 @@
 -- Where a packet is refused. Document 02, C-15: "Every reading refusal is to carry the word place from the packet's start, and FIELD also the field bit."
 use Rattle.std.specs.Prelude.{◌≡◌, ℕ, ◌+◌, ◌≤◌, ◌<◌, true, false, List, [], ◌∷◌, length, get_or, ◌⊎◌}
 use Rattle.words.specs.declared.Where.TheVariants.{Nowhere, Word, Field}
-use Rattle.words.specs.declared.Refusal.{Refusal}
 use Rattle.words.specs.Numbers.{EMPTY, TYPE, BITS, SHORT, CUT, CLASS, TIME, INDICATOR, LAYOUT, FIELD, ROOM, TABLE, PAGE}
 use Rattle.words.specs.Tests.{among}
 use Rattle.words.specs.Outcome.{refused}
-use Rattle.words.specs.Told.{refusal, place_word}
+use Rattle.words.specs.Told.{RefusalTold, refusal, place_word}
 use Rattle.fields.specs.Broken.{Highest}
 use Rattle.packet.specs.Header.{size_of}
 use Rattle.packet.specs.Parts.{body_at, body_of}
@@ -15,14 +14,14 @@ use Rattle.demands.specs.Samples.{Sample, row, Hold, packet_says}
 
 -- a refusal r of the words ws: "the header for types, bits, sizes and cuts", and EMPTY's place is 0: but for EMPTY that word was handed in; of any other number
 -- that has a place it is one of the packet's words, all of which were handed in
-pub record WordInside (ws : List ℕ) (r : Refusal) : Type 0 where
+pub record WordInside (ws : List ℕ) (r : RefusalTold) : Type 0 where
   pub header : of_header r.number ≡ true → (r.place ≡ Word 0) × ((r.number ≡ EMPTY → ⊥) → 0 < length ws)
   pub inside : of_header r.number ≡ false → (r.number ≡ TABLE → ⊥)
       → (place_word r.place < size_of (get_or ws 0 0)) × (size_of (get_or ws 0 0) ≤ length ws)
 
 -- "the first word of the highest broken field for FIELD": a field b is told, one of 30 to 8, which is carried and breaks its rule, those above it obey, and it
 -- stands so many words behind the body's first
-pub record FieldTold (ws : List ℕ) (r : Refusal) : Type 0 where
+pub record FieldTold (ws : List ℕ) (r : RefusalTold) : Type 0 where
   pub bit : ℕ
   pub at : ℕ
   pub place : r.place ≡ Field (body_at (get_or ws 0 0) + at) bit
@@ -59,12 +58,12 @@ refused_at =
 -- of reading, plainly and where 49A is chosen, of playing, and of growing, whose PAGE and ROOM are of the index and have no place
 pub record PlacesTold (P : Program) : Type 0 where
   pub samples : Hold refused_at
-  pub read : (ws : List ℕ) (r : Refusal) → P.read ws ≡ refused r → WordInside ws r
-  pub read_survey : (ws : List ℕ) (r : Refusal) → P.read_survey ws ≡ refused r → WordInside ws r
-  pub play : (t ws : List ℕ) (r : Refusal) → P.play t ws ≡ refused r → WordInside ws r
-  pub grow : (t ws ix : List ℕ) (r : Refusal) → P.grow t ws ix ≡ refused r
+  pub read : (ws : List ℕ) (r : RefusalTold) → P.read ws ≡ refused r → WordInside ws r
+  pub read_survey : (ws : List ℕ) (r : RefusalTold) → P.read_survey ws ≡ refused r → WordInside ws r
+  pub play : (t ws : List ℕ) (r : RefusalTold) → P.play t ws ≡ refused r → WordInside ws r
+  pub grow : (t ws ix : List ℕ) (r : RefusalTold) → P.grow t ws ix ≡ refused r
       → ((r.place ≡ Nowhere) × (among r.number (TABLE ∷ PAGE ∷ ROOM ∷ []) ≡ true)) ⊎ WordInside ws r
-  pub read_field : (ws : List ℕ) (r : Refusal) → P.read ws ≡ refused r → r.number ≡ FIELD → FieldTold ws r
-  pub survey_field : (ws : List ℕ) (r : Refusal) → P.read_survey ws ≡ refused r → r.number ≡ FIELD → FieldTold ws r
-  pub play_field : (t ws : List ℕ) (r : Refusal) → P.play t ws ≡ refused r → r.number ≡ FIELD → FieldTold ws r
-  pub grow_field : (t ws ix : List ℕ) (r : Refusal) → P.grow t ws ix ≡ refused r → r.number ≡ FIELD → FieldTold ws r
+  pub read_field : (ws : List ℕ) (r : RefusalTold) → P.read ws ≡ refused r → r.number ≡ FIELD → FieldTold ws r
+  pub survey_field : (ws : List ℕ) (r : RefusalTold) → P.read_survey ws ≡ refused r → r.number ≡ FIELD → FieldTold ws r
+  pub play_field : (t ws : List ℕ) (r : RefusalTold) → P.play t ws ≡ refused r → r.number ≡ FIELD → FieldTold ws r
+  pub grow_field : (t ws ix : List ℕ) (r : RefusalTold) → P.grow t ws ix ≡ refused r → r.number ≡ FIELD → FieldTold ws r

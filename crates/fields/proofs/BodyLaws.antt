@@ -1,7 +1,7 @@
 -- What callers use of a type 4 body that is accepted. The idea: the carried bits are those above b, b, and those below it (`bits_split`), so the
 -- words and the rules of all fields are those of the fields before b's, of b's own, and of the rest (`body_split`, `rules_split`).
 use Rattle.words.proofs.Kit.{◌≡◌, refl, sym, ap, ◌∙◌, Bool, true, false, ⊎_elim, List, [], ◌∷◌, ◌++◌, ℕ, zero, suc, ◌+◌, ◌≤◌, ◌<◌, arith}
-use Rattle.words.proofs.Kit.{◌/◌, ◌%◌, ◌^◌, not, eqb-true, ne_eqb, not-true, not-false, le-ltb, le-leb, ltb, length, take, drop}
+use Rattle.words.proofs.Kit.{◌/◌, ◌%◌, ◌^◌, eqb-true, ne_eqb, not-false, le-ltb, le-leb, ltb, length, take, drop}
 use native.Mathlib.Nat.{zero-add, add-zero, add_assoc}
 use borrow.Author.Tests.{ltb-true}
 use lib.ListN.{length-drop}
@@ -135,36 +135,36 @@ span_fixed b [] ws h = refl
 span_fixed b (x ∷ bs) ws h = fixed_step (ltb b x) b x (above b bs) ws h refl (λ us. span_fixed b bs us h)
 
 -- the rules of the fields of the bits above b, b at least 9, and of those up to b, which stand behind them
-module _ (k b n at : ℕ) (body : List ℕ) (h : b < k) (g : 9 ≤ b) (t : Bool) (e : t ≡ obeyed (above b (bits_of k n)) (drop at body)) where
-  parts_rules : obeyed (bits_of k n) (drop at body) ≡ both t (obeyed (bits_of (suc b) n) (drop (at + sizes_of (above b (bits_of k n))) body))
+module _ (k b n at : ℕ) (body : List ℕ) (h : b < k) (g : 9 ≤ b) where
+  parts_rules : obeyed (bits_of k n) (drop at body)
+      ≡ both (obeyed (above b (bits_of k n)) (drop at body)) (obeyed (bits_of (suc b) n) (drop (at + sizes_of (above b (bits_of k n))) body))
   parts_rules =
       ap (λ (l : List ℕ). obeyed l (drop at body)) (bits_parts k n b h) ∙ obeyed_append (above b (bits_of k n)) (bits_of (suc b) n) (drop at body)
-      ∙ rw (e, span_fixed b (bits_of k n) (drop at body) g, drop-drop)
+      ∙ rw (span_fixed b (bits_of k n) (drop at body) g, drop-drop)
 
-  pub parts_broken : not t ≡ true → false ≡ obeyed (bits_of k n) (drop at body)
-  parts_broken o = sym (rw (not-true t o) at parts_rules)
+  pub parts_broken : obeyed (above b (bits_of k n)) (drop at body) ≡ false → false ≡ obeyed (bits_of k n) (drop at body)
+  parts_broken o = sym (rw o at parts_rules)
 
-  pub parts_kept : (p : ℕ) → not t ≡ false → (t ≡ true → p ≡ at + sizes_of (above b (bits_of k n)))
+  pub parts_kept : (p : ℕ) → obeyed (above b (bits_of k n)) (drop at body) ≡ true → p ≡ at + sizes_of (above b (bits_of k n))
       → obeyed (bits_of (suc b) n) (drop p body) ≡ obeyed (bits_of k n) (drop at body)
-  parts_kept p o f = rw (f (not-false t o)) (sym (rw (not-false t o) at parts_rules))
+  parts_kept p o f = rw f (sym (rw o at parts_rules))
 
--- as a program walks them in parts: h is whether those above bit 21 obey and p the place past them, m and q the same of those above 17
-module _ (n : ℕ) (body : List ℕ) (h : Bool) (p : ℕ) (eh : h ≡ obeyed (above 21 (bits_of 31 n)) (drop 1 body)) where
-  pub high_broken : not h ≡ true → false ≡ obeyed (bits_of 31 n) (drop 1 body)
-  high_broken = parts_broken 31 21 n 1 body (omega arith) (omega arith) h eh
+-- as a program walks them in parts: those above bit 21, p the place past them, and those above 17, q the place past these
+module _ (n : ℕ) (body : List ℕ) where
+  pub high_broken : obeyed (above 21 (bits_of 31 n)) (drop 1 body) ≡ false → false ≡ obeyed (bits_of 31 n) (drop 1 body)
+  high_broken = parts_broken 31 21 n 1 body (omega arith) (omega arith)
 
-  module _ (ph : h ≡ true → p ≡ 1 + sizes_of (above 21 (bits_of 31 n))) (oh : not h ≡ false) (m : Bool) (q : ℕ)
-      (em : m ≡ obeyed (above 17 (bits_of 22 n)) (drop p body)) where
+  module _ (p : ℕ) (kept : obeyed (above 21 (bits_of 31 n)) (drop 1 body) ≡ true) (past : p ≡ 1 + sizes_of (above 21 (bits_of 31 n))) where
     high_kept : obeyed (bits_of 22 n) (drop p body) ≡ obeyed (bits_of 31 n) (drop 1 body)
-    high_kept = parts_kept 31 21 n 1 body (omega arith) (omega arith) h eh p oh ph
+    high_kept = parts_kept 31 21 n 1 body (omega arith) (omega arith) p kept past
 
-    pub middle_broken : not m ≡ true → false ≡ obeyed (bits_of 31 n) (drop 1 body)
-    middle_broken o = parts_broken 22 17 n p body (omega arith) (omega arith) m em o ∙ high_kept
+    pub middle_broken : obeyed (above 17 (bits_of 22 n)) (drop p body) ≡ false → false ≡ obeyed (bits_of 31 n) (drop 1 body)
+    middle_broken o = parts_broken 22 17 n p body (omega arith) (omega arith) o ∙ high_kept
 
-    pub low_decides : (r : Bool) → (m ≡ true → q ≡ p + sizes_of (above 17 (bits_of 22 n))) → not m ≡ false
+    pub low_decides : (q : ℕ) (r : Bool) → obeyed (above 17 (bits_of 22 n)) (drop p body) ≡ true → q ≡ p + sizes_of (above 17 (bits_of 22 n))
         → r ≡ obeyed (bits_of 18 (n % 2 ^ 18)) (drop q body) → r ≡ obeyed (bits_of 31 n) (drop 1 body)
-    low_decides r pm o e =
-        e ∙ ap (λ (l : List ℕ). obeyed l (drop q body)) (bits_mod 18 n) ∙ parts_kept 22 17 n p body (omega arith) (omega arith) m em q o pm ∙ high_kept
+    low_decides q r middle after e =
+        e ∙ ap (λ (l : List ℕ). obeyed l (drop q body)) (bits_mod 18 n) ∙ parts_kept 22 17 n p body (omega arith) (omega arith) q middle after ∙ high_kept
 
 -- the fields of all bits: those of fixed size, then 9 and then 8, which stand last; lower bits have none
 sizes_low : (k n : ℕ) → k ≤ 10 → sizes_of (bits_of k n) ≡ 0
@@ -194,8 +194,9 @@ span_last n a ws e =
     (λ (y : has n 9 ≡ false). let f : a ≡ 0 = rw y at e in rw (bits_no 9 n y, f, zero-add) (span_lists n ws)) (true_or_false (has n 9))
 
 -- as a program finds their end, in a body: f words of fixed size, a words of field 9 and l of field 8
-pub end_counted : (n f a l : ℕ) (body : List ℕ) → f ≡ sizes_of (bits_of 31 n) → a ≡ when (has n 9) (ascii_words (drop (1 + f) body))
-    → l ≡ when (has n 8) (list_words (drop (1 + f + a) body)) → 1 + f + a + l ≡ 1 + span_of (bits_of 31 n) (drop 1 body)
+pub end_counted : (n f a l : ℕ) (body : List ℕ) → f ≡ sizes_of (bits_of 31 n) → a ≡ when (has n 9) (words_of 9 (drop (1 + f) body))
+    → l ≡ when (has n 8) (words_of 8 (drop (1 + f + a) body)) → 1 + f + a + l ≡ 1 + span_of (bits_of 31 n) (drop 1 body)
+unfolding words_of
 end_counted n f a l body ef ea el =
     let all : List ℕ = bits_of 31 n in
     let ws : List ℕ = drop 1 body in
@@ -211,7 +212,7 @@ end_counted n f a l body ef ea el =
     omega (arith, whole, last, lists)
 
 -- where field 8 is not there
-pub end_ninth : (n f a : ℕ) (body : List ℕ) → has n 8 ≡ false → f ≡ sizes_of (bits_of 31 n) → a ≡ when (has n 9) (ascii_words (drop (1 + f) body))
+pub end_ninth : (n f a : ℕ) (body : List ℕ) → has n 8 ≡ false → f ≡ sizes_of (bits_of 31 n) → a ≡ when (has n 9) (words_of 9 (drop (1 + f) body))
     → 1 + f + a ≡ 1 + span_of (bits_of 31 n) (drop 1 body)
 end_ninth n f a body none e g = rw (add-zero (1 + f + a)) at (end_counted n f a 0 body e g (rw none))
 

@@ -1,18 +1,17 @@
 -- The highest broken field of a body. The idea: the bits come highest first, so the first that is broken is the highest (`broken_meant`); a walk that has
 -- passed the bits from `top` up without a broken one still has it before it, and stands where the next field begins (`Seeking`).
 use Rattle.words.proofs.Kit.{◌≡◌, refl, sym, ap, ◌∙◌, Bool, true, false, not, ⊎_elim, List, [], ◌∷◌, ◌++◌, ℕ, zero, suc, ◌+◌, ◌*◌, ◌%◌, ◌^◌, ◌≤◌, ◌<◌, arith}
-use Rattle.words.proofs.Kit.{◌-◌, not-true, not-false, length, take, drop, get_or}
+use Rattle.words.proofs.Kit.{not-true, not-false, length, drop, get_or}
 use mathlib.Core.Logic.{◌⊎◌, inl, inr, ◌↔◌}
-use native.Mathlib.Nat.{add-zero, one-mul, le_refl, mod-lt, mod-eq_of_lt}
-use lib.ListN.{length-drop}
-use lib.Pow.{pow_pos, pow-lt}
-use lib.Seq.{drop-drop}
+use native.Mathlib.Nat.{add-zero, mod-lt}
+use lib.Bits.{bit_and}
+use lib.Pow.{pow_pos}
 use Rattle.words.specs.declared.Where.TheVariants.{Nowhere, Field}
 use Rattle.words.specs.Word.{has}
 use Rattle.words.specs.SetBits.{bits_of, above}
 use Rattle.words.specs.All.{all}
-use Rattle.words.proofs.Cases.{true_or_false, true_is_false, le_or_lt, both_yes}
-use Rattle.words.proofs.SetBitLaws.{bits_zero, bits_yes, bits_no, bits_trim, bits_mod, bits_top, bits_few, bits_none, Head, bits_head, has_above}
+use Rattle.words.proofs.Cases.{true_or_false, true_is_false, le_or_lt}
+use Rattle.words.proofs.SetBitLaws.{bits_zero, bits_yes, bits_no, bits_trim, bits_mod, bits_few, bits_none, Head, bits_head, has_above}
 use Rattle.words.proofs.SetBitLaws.{above_kept, above_agree, above_parts}
 use Rattle.words.proofs.AllLaws.{all_at}
 use Rattle.fields.specs.Sizes.{ascii_words, list_words, words_of}
@@ -21,41 +20,9 @@ use Rattle.fields.specs.Layout.{span_of, obeyed, carried, indicator_of, body_wor
 use Rattle.fields.specs.Broken.{breaks, first_broken, broken_of, Highest}
 use Rattle.fields.specs.inner.Limits.{ruled}
 use Rattle.fields.proofs.SizeLaws.{size_some, words_fixed}
-use Rattle.fields.proofs.RuleLaws.{unruled_kept}
-use Rattle.fields.proofs.PlaceLaws.{rest_whole}
-use Rattle.fields.proofs.WalkLaws.{none_left, rules_cons}
+use Rattle.fields.proofs.RuleLaws.{ruled_bits, unruled_kept}
+use Rattle.fields.proofs.WalkLaws.{unruled_left, rules_cons}
 use Rattle.fields.proofs.BodyLaws.{span_append, place_drop, from_field, body_split}
-
--- ---- a field asked by itself
-
--- the only bit of a power of two
-power_bit : (b : ℕ) → b < 31 → bits_of 31 (1 * 2 ^ b % 2 ^ 32) ≡ b ∷ []
-power_bit b h =
-    let small : 1 * 2 ^ b % 2 ^ 32 ≡ 2 ^ b = ap (λ (n : ℕ). n % 2 ^ 32) (one-mul (2 ^ b)) ∙ mod-eq_of_lt (pow-lt {i = b} {j = 32} (omega arith)) in
-    let below : 2 ^ b < 2 ^ suc b = pow-lt {i = b} {j = suc b} (omega arith) in
-    let none : 2 ^ b - 2 ^ b ≡ 0 = omega arith in
-    ap (bits_of 31) small ∙ bits_top 31 b (2 ^ b) h (le_refl (2 ^ b)) below ∙ ap (λ (n : ℕ). b ∷ bits_of 31 n) none
-    ∙ ap (λ (l : List ℕ). b ∷ l) (bits_none 31 0 (le_refl 0))
-
-one_obeyed : (b : ℕ) (ws : List ℕ) → obeyed (b ∷ []) ws ≡ rule_of b ws
-unfolding obeyed
-one_obeyed b ws = both_yes (rule_of b ws)
-
-module _ (b at : ℕ) (body : List ℕ) (low : b < 31) (some : 0 < at) (kept : Bool) where
-  pub alone_kept : at ≤ length body → kept ≡ obeyed (bits_of 31 (1 * 2 ^ b % 2 ^ 32)) (drop 1 (take (length body - (at - 1)) (drop (at - 1) body)))
-      → kept ≡ rule_of b (drop at body)
-  alone_kept h e =
-      let next : at - 1 + 1 ≡ at = omega arith in
-      let behind : drop 1 (drop (at - 1) body) ≡ drop at body = drop-drop 1 (at - 1) body ∙ ap (λ (n : ℕ). drop n body) next in
-      e ∙ rw (rest_whole (at - 1) body, power_bit b low, behind) (one_obeyed b (drop at body))
-
-  -- past the body's end there are no words, wherever one stands
-  pub alone_past : length body < at
-      → kept ≡ obeyed (bits_of 31 (1 * 2 ^ b % 2 ^ 32)) (drop 1 (take (length body - length body) (drop (length body) body))) → kept ≡ rule_of b (drop at body)
-  alone_past h e =
-      let here : drop (length body) body ≡ [] = none_left (drop (length body) body) (omega (arith, length-drop (length body) body)) in
-      let there : drop at body ≡ [] = none_left (drop at body) (omega (arith, length-drop at body)) in
-      e ∙ rw (rest_whole (length body) body, power_bit b low, here, there) (one_obeyed b [])
 
 -- nowhere is not a field
 no_field : {p b : ℕ} → Nowhere ≡ Field p b → ⊥
@@ -264,11 +231,24 @@ module _ (body : List ℕ) where
 
   -- ---- the walk: its start, a turn, a broken field, its end
 
+  -- the field of a bit that has no rule is not broken, nor is any where no bit has one
+  unruled_whole : (b : ℕ) → ruled b ≡ false → breaks b body ≡ false
+  unruled_whole b none = breaks_not b (place_of b body) refl ∙ ap not (sym (unruled_kept b (from_field b body) (ruled b) refl none))
+
+  unruled_broken : (k n : ℕ) → k ≤ 32 → ((b : ℕ) → b < 32 → has n b ≡ true → ruled b ≡ false) → first_broken (bits_of k n) body ≡ Nowhere
+  unfolding first_broken
+  unruled_broken zero n h none = rw (bits_zero n)
+  unruled_broken (suc k) n h none =
+      ⊎_elim
+      (λ (y : has n k ≡ true).
+      rw (bits_yes k n y) (first_later k (bits_of k n) (unruled_whole k (none k (omega arith) y)) ∙ unruled_broken k n (omega arith) none))
+      (λ (y : has n k ≡ false). rw (bits_no k n y) (unruled_broken k n (omega arith) none))
+      (true_or_false (has n k))
+
   pub record Seeking (rest at : ℕ) : Type 0 where
     pub top : ℕ
     pub most : top ≤ 31
     pub left : bits_of 32 rest ≡ bits_of top indicator
-    pub past : 0 < at
     pub near : at + length (bits_of 32 rest) * 2 ^ 33 ≤ 1 + 32 * 2 ^ 33
     pub places : Places top at
     pub same : first_broken (bits_of top indicator) body ≡ broken_of body
@@ -279,7 +259,6 @@ module _ (body : List ℕ) where
     top = 31;
     most = omega arith;
     left = bits_trim 31 32 (w % 2 ^ 31) (omega arith) (mod-lt w (pow_pos 31)) ∙ bits_mod 31 w ∙ ap (bits_of 31) e;
-    past = omega arith;
     near = omega (arith, bits_few 32 (w % 2 ^ 31));
     places = places_start;
     same = refl;
@@ -304,30 +283,25 @@ module _ (body : List ℕ) where
         ahead : first_broken (b ∷ bits_of 32 rest') body ≡ broken_of body
         ahead = ap (λ (l : List ℕ). first_broken l body) (sym cut ∙ p.left) ∙ p.same
 
-        pub seeking_broken : not k ≡ true → Field at b ≡ broken_of body
-        seeking_broken n = rw here (sym (first_here b (bits_of 32 rest') (asked ∙ n)) ∙ ahead)
+        pub seeking_broken : k ≡ false → Field at b ≡ broken_of body
+        seeking_broken n = rw here (sym (first_here b (bits_of 32 rest') (asked ∙ ap not n)) ∙ ahead)
 
-        pub seeking_turn : (w : ℕ) → not k ≡ false → w ≡ words_of b (drop at body) → w ≤ 2 ^ 33 → Seeking rest' (at + w)
+        pub seeking_turn : (w : ℕ) → k ≡ true → w ≡ words_of b (drop at body) → w ≤ 2 ^ 33 → Seeking rest' (at + w)
         seeking_turn w n e small = record {
           top = b;
           most = omega (arith, seeking_bit);
           left = next.rest;
-          past = omega (arith, p.past);
           near = omega (arith, p.near, ap length cut);
           places = places_next p.top at p.most p.places b next.low next.gap next.set w e;
-          same = rw (← next.rest) (sym (first_later b (bits_of 32 rest') (asked ∙ n)) ∙ ahead);
+          same = rw (← next.rest) (sym (first_later b (bits_of 32 rest') (asked ∙ ap not n)) ∙ ahead);
         }
 
-    -- a place that the walk reaches is small, and not the indicator's
+    -- a place that the walk reaches is small
     pub seeking_near : at < 2 ^ 40
     seeking_near = omega (arith, p.near)
 
-    pub seeking_past : 0 < at
-    seeking_past = p.past
-
-    pub seeking_end : rest ≡ 0 → Nowhere ≡ broken_of body
-    unfolding first_broken
-    seeking_end z = ap (λ (l : List ℕ). first_broken l body) (sym (bits_none 32 rest (omega arith)) ∙ p.left) ∙ p.same
+    pub seeking_end : bit_and rest ruled_bits ≡ 0 → Nowhere ≡ broken_of body
+    seeking_end z = sym (unruled_broken 32 rest (omega arith) (unruled_left rest z)) ∙ ap (λ (l : List ℕ). first_broken l body) p.left ∙ p.same
 
   -- ---- the place lies inside the body, and the bit is one of 30 to 8
 
@@ -339,7 +313,7 @@ module _ (body : List ℕ) where
     has_rule =
         ⊎_elim (λ (t : ruled b ≡ true). t)
         (λ (f : ruled b ≡ false).
-        absurd (true_is_false (sym highest.broken ∙ breaks_not b (place_of b body) refl ∙ ap not (sym (unruled_kept b (from_field b body) (ruled b) refl f)))))
+        absurd (true_is_false (sym highest.broken ∙ unruled_whole b f)))
         (true_or_false (ruled b))
 
     pub broken_bit : (8 ≤ b) × (b ≤ 30)

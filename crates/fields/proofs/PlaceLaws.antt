@@ -1,4 +1,4 @@
--- Where a field stands. The words of a body from a place on: the first two of them, where a field's rule and its own lengths stand. A field lies
+-- Where a field stands. The words of a body from a place on, and the first of them. A field lies
 -- inside where the words past its place suffice (`inside_cut`, `inside_whole`), and its place follows from the indicator with the bits up to
 -- its own cleared (`place_above`).
 use Rattle.words.proofs.Kit.{◌≡◌, sym, ap, ◌∙◌, false, ⊎_elim, List, [], ◌∷◌, ℕ, ◌+◌, ◌-◌, ◌*◌, ◌/◌, ◌%◌, ◌^◌, ◌≤◌, ◌<◌, arith}
@@ -13,21 +13,13 @@ use Rattle.words.specs.SetBits.{bits_of}
 use Rattle.words.proofs.Cases.{le_or_lt}
 use Rattle.words.proofs.BitLaws.{has_low}
 use Rattle.words.proofs.SetBitLaws.{has_above, bits_mod, bits_above}
-use Rattle.fields.specs.Sizes.{list_words, words_of}
+use Rattle.fields.specs.Sizes.{words_of}
 use Rattle.fields.specs.Layout.{span_of, indicator_of, place_of, inside_of}
-use Rattle.fields.proofs.SizeLaws.{list_words_two}
 
 -- ---- the words from a place on
 
 pub first_word : (at : ℕ) (ws : List ℕ) → get_or (drop at ws) 0 0 ≡ get_or ws at 0
 first_word at ws = get_or-drop at ws 0 0 ∙ ap (λ (i : ℕ). get_or ws i 0) (add-zero at)
-
-pub second_word : (at : ℕ) (ws : List ℕ) → get_or (drop at ws) 1 0 ≡ get_or ws (at + 1) 0
-second_word at ws = get_or-drop at ws 1 0
-
--- field 8, by its first two words as a program reads them
-pub lists_at : (at u v n : ℕ) (ws : List ℕ) → u ≡ get_or ws at 0 → v ≡ get_or ws (at + 1) 0 → n ≡ list_words (u ∷ v ∷ []) → n ≡ list_words (drop at ws)
-lists_at at u v n ws e f g = g ∙ rw (list_words_two (drop at ws), first_word at ws, second_word at ws, e, f)
 
 pub rest_whole : (at : ℕ) (ws : List ℕ) → take (length ws - at) (drop at ws) ≡ drop at ws
 rest_whole at ws = take_all (length ws - at) (drop at ws) (omega (arith, length-drop at ws))

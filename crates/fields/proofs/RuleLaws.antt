@@ -1,8 +1,8 @@
 -- The field rules. The idea: every rule looks at the first word alone, but for device (17), which looks at two; so a rule of a field from bit 10 up,
 -- which has a word (device has two), is the rule of its own words. A rule is a limit of the first word and what else is asked (`rule_limit`); and the
 -- fields that have one are the bits of one constant (`ruled_bit`).
-use Rattle.words.proofs.Kit.{◌≡◌, refl, sym, ◌∙◌, Bool, true, false, not, ⊎_elim, List, [], ◌∷◌, ℕ, ◌+◌, ◌/◌, ◌%◌, ◌^◌, ◌≤◌, ◌<◌, arith, eqb-true}
-use Rattle.words.proofs.Kit.{◌*◌, not-true, eq-eqb, ne_eqb, lt-ltb, le-ltb, eqb, ltb, take, drop, get_or}
+use Rattle.words.proofs.Kit.{◌≡◌, refl, sym, ◌∙◌, Bool, true, false, not, ⊎_elim, List, [], ◌∷◌, ℕ, ◌/◌, ◌%◌, ◌^◌, ◌≤◌, ◌<◌, arith, eqb-true}
+use Rattle.words.proofs.Kit.{◌*◌, not-true, eq-eqb, ne_eqb, lt-ltb, le-ltb, eqb, ltb, take, get_or}
 use native.Mathlib.Nat.{mod-eq_of_lt, div-eq_of_lt, div-lt_iff_lt-mul}
 use lib.Pow.{pow_pos}
 use lib.Seq.{get_or-take}
@@ -15,7 +15,6 @@ use Rattle.fields.specs.Sizes.{field_size}
 use Rattle.fields.specs.Rules.{rule_of, not_negative_fields, upper_half_fields, not_negative, upper_half_zero}
 use Rattle.fields.specs.Rules.{device_rule, state_rule, format_rule, ascii_rule, lists_rule}
 use Rattle.fields.specs.inner.Limits.{ruled_fields, ruled, limit_of, first_ok, device_second, more_ok}
-use Rattle.fields.proofs.PlaceLaws.{first_word, second_word}
 use Rattle.fields.proofs.SizeLaws.{size_some}
 
 -- a rule other than device's is the same for the same first word
@@ -90,20 +89,16 @@ module _ (b : ℕ) (ws : List ℕ) (below : Bool) (f : below ≡ first_ok b (get
   pub rule_more : below ≡ true → (v : ℕ) (more : Bool) → v ≡ get_or ws 1 0 → more ≡ more_ok b (get_or ws 0 0) v → more ≡ rule_of b ws
   rule_more under v more e m = m ∙ rw e (sym (rule_limit b ws h ∙ rw (← f, under)))
 
--- the same of a field at a place of a body, whose first word is u
-module _ (b u at : ℕ) (body : List ℕ) (e : u ≡ get_or body at 0) (below : Bool) (f : below ≡ first_ok b u) (h : u < 2 ^ 32) where
-  first_is : u ≡ get_or (drop at body) 0 0
-  first_is = e ∙ sym (first_word at body)
+-- the same, by the first word u
+module _ (b u : ℕ) (ws : List ℕ) (e : u ≡ get_or ws 0 0) (below : Bool) (f : below ≡ first_ok b u) (h : u < 2 ^ 32) where
+  pub word_over : below ≡ false → below ≡ rule_of b ws
+  word_over over = over ∙ rule_broken_lem b ws below (f ∙ rw e) (rw (← e) h) over
 
-  pub rule_broken_at : below ≡ false → false ≡ rule_of b (drop at body)
-  rule_broken_at = rule_broken_lem b (drop at body) below (f ∙ rw first_is) (rw (← first_is) h)
+  pub word_only : 17 < b → below ≡ rule_of b ws
+  word_only = rule_only b ws below (f ∙ rw e) (rw (← e) h)
 
-  pub rule_only_at : 17 < b → below ≡ rule_of b (drop at body)
-  rule_only_at = rule_only b (drop at body) below (f ∙ rw first_is) (rw (← first_is) h)
-
-  pub rule_more_at : below ≡ true → (v : ℕ) (more : Bool) → v ≡ get_or body (at + 1) 0 → more ≡ more_ok b u v → more ≡ rule_of b (drop at body)
-  rule_more_at under v more g m =
-      rule_more b (drop at body) below (f ∙ rw first_is) (rw (← first_is) h) under v more (g ∙ sym (second_word at body)) (rw first_is at m)
+  pub word_more : below ≡ true → (v : ℕ) (more : Bool) → v ≡ get_or ws 1 0 → more ≡ more_ok b u v → more ≡ rule_of b ws
+  word_more under v more g m = rule_more b ws below (f ∙ rw e) (rw (← e) h) under v more g (rw e at m)
 
 -- ---- the fields that have a rule, as the bits of one constant
 abbrev pub ruled_bits : ℕ

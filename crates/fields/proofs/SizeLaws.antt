@@ -2,7 +2,7 @@
 -- at none from bit 10 up. A bit is in one group at most, so the words of any set bits are the counts of ones in the groups, each times its words, by one
 -- induction over the width (`size_grouped`, `sizes_counted`).
 use Rattle.words.proofs.Kit.{◌≡◌, refl, sym, ap, ◌∙◌, Bool, true, false, not, ⊎_elim, List, [], ◌∷◌, ◌++◌, ℕ, zero, suc, ◌+◌, ◌-◌, ◌*◌, ◌/◌, ◌%◌, ◌^◌, ◌≤◌}
-use Rattle.words.proofs.Kit.{◌<◌, arith, le-ltb, ne_eqb, eqb-true, not-true, eqb, ltb, leb, length, get_or}
+use Rattle.words.proofs.Kit.{◌<◌, arith, le-ltb, ne_eqb, eqb-true, not-true, eqb, ltb, leb, length}
 use native.Mathlib.Nat.{mul-le-mul_left, zero-add, add-zero, mod-lt, mod-eq_of_lt, lt_of_le_of_lt}
 use borrow.Author.Tests.{leb-true}
 use lib.Bits.{bit_and, and_le_r}
@@ -13,11 +13,11 @@ use Rattle.words.specs.Tests.{pick, when, both}
 use Rattle.words.specs.Word.{has}
 use Rattle.words.specs.SetBits.{bits_of, above}
 use Rattle.words.specs.All.{all}
-use Rattle.words.proofs.Cases.{le_or_lt, true_or_false, both_left, both_right, both_no}
+use Rattle.words.proofs.Cases.{true_or_false, both_left, both_right, both_no}
 use Rattle.words.proofs.AllLaws.{all_at}
 use Rattle.words.proofs.BitLaws.{has_and, has_low, word_same}
 use Rattle.words.proofs.SetBitLaws.{bits_zero, bits_yes, bits_no, bits_parts, bits_counted, bits_few, bits_none, has_above}
-use Rattle.fields.specs.Sizes.{field_size, sizes_of, list_words, words_of}
+use Rattle.fields.specs.Sizes.{field_size, sizes_of, words_of}
 use Rattle.fields.specs.Layout.{carried}
 use Rattle.fields.specs.inner.Groups.{one_word, two_words, eleven_words, thirteen_words, from_fifteen, last_five, ten_alone}
 
@@ -56,15 +56,6 @@ fixed_fields = (refl, refl)
 pub words_fixed : (b : ℕ) (ws : List ℕ) → 10 ≤ b → words_of b ws ≡ field_size b
 unfolding words_of
 words_fixed b ws h = rw (ne_eqb b 9 (λ e. omega arith), ne_eqb b 8 (λ e. omega arith))
-
--- a field of some fixed size n has the words of its row, and one that has none, and is neither 9 nor 8, has no words
-pub words_some : (b n : ℕ) (ws : List ℕ) → n ≡ field_size b → (n ≡ 0 → ⊥) → n ≡ words_of b ws
-words_some b n ws e f =
-    ⊎_elim (λ (h : 10 ≤ b). e ∙ sym (words_fixed b ws h)) (λ (h : b < 10). absurd (f (e ∙ size_none b h))) (le_or_lt 10 b)
-
-pub words_lacking : (b n : ℕ) (ws : List ℕ) → n ≡ field_size b → n ≡ 0 → (b ≡ 9 → ⊥) → (b ≡ 8 → ⊥) → 0 ≡ words_of b ws
-unfolding words_of
-words_lacking b n ws e z g h = rw (ne_eqb b 9 g, ne_eqb b 8 h) (sym z ∙ e)
 
 -- below bit 8 it has none
 pub words_none : (b : ℕ) (ws : List ℕ) → b < 8 → words_of b ws ≡ 0
@@ -354,11 +345,6 @@ module _ (n s : ℕ) (e : s ≡ length (bits_of 31 (bit_and n from_fifteen)) + l
     groups_most = omega (arith, groups_sizes, sizes_most n)
 
 -- ---- fields that say their sizes themselves
-
--- field 8 looks at its first two words
-pub list_words_two : (ws : List ℕ) → list_words ws ≡ list_words (get_or ws 0 0 ∷ get_or ws 1 0 ∷ [])
-unfolding list_words
-list_words_two ws = refl
 
 -- an asynchronous list that may count twice
 pub twice_at_most : (n k : ℕ) → k ≤ 1 → n * (1 + k) ≤ n * 2

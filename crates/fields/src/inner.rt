@@ -10,4 +10,4 @@ pub use format::{channel_size, event_size, format_ok, item_size, packing_size, r
 pub use highest::broken;
 pub use layout::{behind, end_of, rules_kept};
 pub use rules::{first_ok, more_ok};
-pub use sizes::{field_size, fixed_words, words_at};
+pub use sizes::{field_size, fixed_words, words_of};

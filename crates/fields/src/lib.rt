@@ -6,9 +6,10 @@ mod places;
 
 ghost use Rattle.std.specs.Prelude.{◌≡◌};
 ghost use Rattle.fields.specs.Layout.{field_count, context_of};
-ghost use Rattle.words.specs.Outcome.{checked};
+ghost use Rattle.words.specs.Listed.{on_paper};
 
 pub use places::{Found, find};
+use words::Refusal;
 
 // The number of fields that an indicator carries, those of bits 30 to 8: count of ones.
 pub fn field_count(indicator: u32) -> u32
@@ -18,18 +19,18 @@ pub fn field_count(indicator: u32) -> u32
 }
 
 // Whether a type 4 body is as document 01 says: INDICATOR, LAYOUT or FIELD where it is not.
-pub fn check_body(body: &[u32]) -> words::Check
-    ensures { checked result ≡ context_of body.now }
+pub fn check_body(body: &[u32]) -> Result<(), Refusal>
+    ensures { on_paper result ≡ context_of body.now }
 {
     let indicator = words::inner::word_at(body, 0);
     if indicator % 256 != 0 {
-        return words::Check::Refused(words::INDICATOR);
+        return Err(Refusal::Indicator);
     }
     if crate::inner::end_of(indicator, body) != body.len() {
-        return words::Check::Refused(words::LAYOUT);
+        return Err(Refusal::Layout);
     }
     if crate::inner::rules_kept(indicator, body) {
-        return words::Check::Fine;
+        return Ok(());
     }
-    words::Check::Refused(words::FIELD)
+    Err(Refusal::Field)
 }

@@ -1,19 +1,21 @@
 -- A page saved into an index. The idea: the words from the offset on are lent to saving, whose answers are those of `saved_at` (`saved_lent`); an entry more
 -- does not change what is refused (`entered_refused`, `entered_made`), and an index that is started is its first entry (`start_refused`, `start_made`).
+use Rattle.std.specs.Prelude.{Result, Ok, Err}
 use Rattle.words.proofs.Kit.{◌≡◌, refl, sym, ap, ◌∙◌, Bool, true, false, ⊎_elim, List, [], ◌∷◌, ◌++◌, ℕ, ◌+◌, ◌-◌, ◌^◌, ◌≤◌, ◌<◌, arith, lt-ltb, le-ltb}
 use Rattle.words.proofs.Kit.{ltb-false, not-false, ltb, length, take, drop}
 use borrow.Rule.Slice.PartMut.{mid_of, put_mid}
 use mathlib.Core.List.{append-nil}
 use lib.ListN.{length-drop, drop_of_length-le, take-append-drop}
 use lib.Seq.{take_all}
-use Rattle.words.specs.declared.Length.{Length}
-use Rattle.words.specs.declared.Length.TheVariants.{Accepted, Refused}
+use Rattle.words.specs.declared.refusals.Refusal.{Refusal}
+use Rattle.words.specs.declared.refusals.Refusal.TheVariants as refusals
+use Rattle.words.specs.Listed.{list_number, on_paper}
 use Rattle.words.specs.Numbers.{TABLE, ROOM}
 use Rattle.words.specs.Part.{put}
-use Rattle.words.specs.Outcome.{Outcome, refused, measured, Done, said_of, left_of, Meets}
+use Rattle.words.specs.Outcome.{Outcome, refused, accepted, Done, said_of, left_of, Meets}
 use Rattle.words.proofs.Cases.{true_or_false, le_or_lt, accepted_same}
 use Rattle.words.proofs.RefusalLaws.{first_passed, first_refused}
-use Rattle.words.proofs.MeetLaws.{meets_accepted, meets_refused, meets_length, said_refused}
+use Rattle.words.proofs.MeetLaws.{meets_accepted, meets_err, meets_ok, said_refused}
 use Rattle.table.specs.Well.{well_made}
 use Rattle.page.specs.Layout.{page_of, page_length}
 use Rattle.page.specs.Save.{size_limit, save_of}
@@ -56,30 +58,30 @@ module _ (ix : List ℕ) (offset : ℕ) (h : offset ≤ length ix) where
       (λ (w : well_made t ≡ false). rw w (refl, take-append-drop offset ix))
       (true_or_false (well_made t))
 
-  pub saved_lent : (t last : List ℕ) (r : Length)
-      → Meets measured (save_of t (mid_of offset (length ix - offset) ix)) (mid_of offset (length ix - offset) ix) r last
-      → Meets measured (saved_at t offset ix) ix r (put_mid offset (length ix - offset) ix last)
+  pub saved_lent : (t last : List ℕ) (r : Result ℕ Refusal)
+      → Meets on_paper (save_of t (mid_of offset (length ix - offset) ix)) (mid_of offset (length ix - offset) ix) r last
+      → Meets on_paper (saved_at t offset ix) ix r (put_mid offset (length ix - offset) ix last)
   saved_lent t last r m =
-      let k : Meets measured (save_of t (drop offset ix)) (drop offset ix) r last = rw rest_lent at m in
+      let k : Meets on_paper (save_of t (drop offset ix)) (drop offset ix) r last = rw rest_lent at m in
       let a = saved_alike t in
       record { answer = k.answer ∙ a.0; buffer = rest_back last ∙ ap (λ (z : List ℕ). take offset ix ++ z) k.buffer ∙ a.1 }
 
 -- ---- with the entry
 
-module _ (t ix : List ℕ) (j place offset : ℕ) (r : Length) where
-  pub entered_refused : (n : ℕ) (left : List ℕ) → Meets measured (saved_at t offset ix) ix r left → r ≡ Refused n
-      → Meets measured (entered_at t j place offset ix) ix r left
+module _ (t ix : List ℕ) (j place offset : ℕ) where
+  pub entered_refused : (n : Refusal) (left : List ℕ) → Meets on_paper (saved_at t offset ix) ix (Err n) left
+      → Meets on_paper (entered_at t j place offset ix) ix (Err n) left
   unfolding saved_at entered_at
-  entered_refused n left m e =
-      let no : saved_at t offset ix ≡ refused n = said_refused (saved_at t offset ix) n (sym m.answer ∙ ap measured e) in
+  entered_refused n left m =
+      let no : saved_at t offset ix ≡ refused (list_number n) = said_refused (saved_at t offset ix) (list_number n) (sym m.answer) in
       let same : left ≡ ix = m.buffer ∙ ap (λ o. left_of o ix) no in
-      rw (e, same) (meets_refused (first_refused (enter_list t offset ix) _ n _ no))
+      rw same (meets_err (first_refused (enter_list t offset ix) _ (list_number n) _ no))
 
-  module _ (n : ℕ) (mid : List ℕ) (m : Meets measured (saved_at t offset ix) ix r mid) (e : r ≡ Accepted n) where
+  module _ (n : ℕ) (mid : List ℕ) (m : Meets on_paper (saved_at t offset ix) ix (Ok n) mid) where
     passed : (well_made t ≡ true) × (offset + page_length t ≤ length ix) × (page_length t ≡ n) × (mid ≡ put offset (page_length t) (page_of t) ix)
     unfolding saved_at
     passed =
-        let k = meets_accepted m (ap measured e) in
+        let k = meets_accepted m refl in
         let q = first_passed (enter_list t offset ix) _ k.done k.wants in
         let d = accepted_same q.1 in (
           not-false (well_made t) q.0.0,
@@ -99,36 +101,36 @@ module _ (t ix : List ℕ) (j place offset : ℕ) (r : Length) where
     entered_small = omega (arith, passed.2, page_small t passed.0)
 
     pub entered_made : (last : List ℕ) → last ≡ put (entry_from j) 4 (place_words place (offset ∷ n ∷ [])) mid
-        → Meets measured (entered_at t j place offset ix) ix (Accepted n) last
+        → Meets on_paper (entered_at t j place offset ix) ix (Ok n) last
     unfolding entered_at with_entry
     entered_made last f =
-        (meets_length {left = with_entry j place offset t ix}
+        (meets_ok {left = with_entry j place offset t ix}
         (rw (passed.0, le-ltb (length ix) (offset + page_length t) passed.1, passed.2)) (f ∙ rw (passed.3, passed.2)))
 
 -- ---- an index that is started, r being the answer to its first entry
 
 module _ (t ix : List ℕ) where
-  pub start_short : (b : Bool) → b ≡ well_made t → length ix < 4100 → b ≡ true → Meets measured (start_index_of t ix) ix (Refused ROOM) ix
+  pub start_short : (b : Bool) → b ≡ well_made t → length ix < 4100 → b ≡ true → Meets on_paper (start_index_of t ix) ix (Err refusals.Room) ix
   unfolding start_index_of
-  start_short b e h w = meets_refused (rw (← e, w, lt-ltb (length ix) (start_words t) (omega arith)))
+  start_short b e h w = meets_err (rw (← e, w, lt-ltb (length ix) (start_words t) (omega arith)))
 
-  pub start_ill : (b : Bool) → b ≡ well_made t → b ≡ false → Meets measured (start_index_of t ix) ix (Refused TABLE) ix
+  pub start_ill : (b : Bool) → b ≡ well_made t → b ≡ false → Meets on_paper (start_index_of t ix) ix (Err refusals.Table) ix
   unfolding start_index_of
-  start_ill b e w = meets_refused (rw (← e, w))
+  start_ill b e w = meets_err (rw (← e, w))
 
-  pub start_refused : (r : Length) (n : ℕ) (left : List ℕ) → Meets measured (entered_at t 0 0 4100 ix) ix r left → r ≡ Refused n
-      → Meets measured (start_index_of t ix) ix r left
+  pub start_refused : (n : Refusal) (left : List ℕ) → Meets on_paper (entered_at t 0 0 4100 ix) ix (Err n) left
+      → Meets on_paper (start_index_of t ix) ix (Err n) left
   unfolding start_index_of entered_at
-  start_refused r n left m e =
-      let no : entered_at t 0 0 4100 ix ≡ refused n = said_refused (entered_at t 0 0 4100 ix) n (sym m.answer ∙ ap measured e) in
+  start_refused n left m =
+      let no : entered_at t 0 0 4100 ix ≡ refused (list_number n) = said_refused (entered_at t 0 0 4100 ix) (list_number n) (sym m.answer) in
       let same : left ≡ ix = m.buffer ∙ ap (λ o. left_of o ix) no in
-      rw (e, same) (meets_refused (first_refused (enter_list t 4100 ix) _ n _ no))
+      rw same (meets_err (first_refused (enter_list t 4100 ix) _ (list_number n) _ no))
 
-  module _ (r : Length) (n : ℕ) (mid : List ℕ) (m : Meets measured (entered_at t 0 0 4100 ix) ix r mid) (e : r ≡ Accepted n) where
+  module _ (n : ℕ) (mid : List ℕ) (m : Meets on_paper (entered_at t 0 0 4100 ix) ix (Ok n) mid) where
     first : (well_made t ≡ true) × (4100 + page_length t ≤ length ix) × (page_length t ≡ n) × (mid ≡ with_entry 0 0 4100 t ix)
     unfolding entered_at
     first =
-        let k = meets_accepted m (ap measured e) in
+        let k = meets_accepted m refl in
         let q = first_passed (enter_list t 4100 ix) _ k.done k.wants in
         let d = accepted_same q.1 in (
           not-false (well_made t) q.0.0,
@@ -149,7 +151,7 @@ module _ (t ix : List ℕ) where
     pub start_small : 4100 + n < 2 ^ 64
     start_small = omega (arith, first.2, page_small t first.0)
 
-    pub start_made : (last : List ℕ) → last ≡ with_reached 0 0 mid → Meets measured (start_index_of t ix) ix (Accepted (4100 + n)) last
+    pub start_made : (last : List ℕ) → last ≡ with_reached 0 0 mid → Meets on_paper (start_index_of t ix) ix (Ok (4100 + n)) last
     unfolding start_index_of started_index
     start_made last f =
-        meets_length {left = started_index t ix} (rw (first.0, le-ltb (length ix) (start_words t) first.1, first.2)) (f ∙ ap (with_reached 0 0) first.3)
+        meets_ok {left = started_index t ix} (rw (first.0, le-ltb (length ix) (start_words t) first.1, first.2)) (f ∙ ap (with_reached 0 0) first.3)

@@ -55,10 +55,14 @@ of_index ix g =
 
 -- ---- one entry: p is its word place, o its offset, m the highest place of its boundary; the pages before it end at the place at
 
-pub entry_tests : (ix : List ℕ) (j at p m o : ℕ) (r : Bool) → at ≡ pages_from ix j → p ≡ entry_place ix j → m ≡ most_place (1024 * j) → o ≡ entry_offset ix j
-    → r ≡ both (leb p m) (eqb o at) → r ≡ entry_good ix j
-unfolding entry_good
-entry_tests ix j at p m o r e f g h i = i ∙ rw (h, g, f, e)
+module _ (ix : List ℕ) (j p m : ℕ) (f : p ≡ entry_place ix j) (g : m ≡ most_place (1024 * j)) where
+  pub entry_far : m < p → leb p m ≡ entry_good ix j
+  unfolding entry_good
+  entry_far h = rw (← f, ← g, lt-leb p m h)
+
+  pub entry_near : (at o : ℕ) → p ≤ m → at ≡ pages_from ix j → o ≡ entry_offset ix j → eqb o at ≡ entry_good ix j
+  unfolding entry_good
+  entry_near at o h e i = rw (← f, ← g, le-leb p m h, i, e)
 
 -- ---- the loop that tests the entries, b being the answer to entry j
 

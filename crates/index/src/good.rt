@@ -19,8 +19,8 @@ fn entry_good(index: &[u32], j: usize, at: usize) -> bool
     requires { (index_contents ≤ length index.now) × (j < most_entries) × (at ≡ pages_from index.now j) }
     ensures { result ≡ entry_good index.now j }
 {
-    let low = crate::contents::entry_place(index, j) <= most_place(crate::contents::SPACING * j);
-    words::inner::both_of(low, crate::contents::entry_offset(index, j) == at)
+    crate::contents::entry_place(index, j) <= most_place(crate::contents::SPACING * j)
+        && crate::contents::entry_offset(index, j) == at
 }
 
 // Whether n entries are right, and the last page ends inside the index.
@@ -29,13 +29,11 @@ fn entries_good(index: &[u32], n: usize) -> bool
     ensures { result ≡ entries_good index.now n }
 {
     let mut at = crate::contents::CONTENTS_WORDS;
-    let mut j = 0;
-    while j < n {
+    for j in 0..n {
         if !entry_good(index, j, at) {
             return false;
         }
         at += crate::contents::entry_length(index, j);
-        j += 1;
     }
     at <= index.len()
 }

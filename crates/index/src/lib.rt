@@ -6,24 +6,24 @@ mod good;
 pub mod inner;
 mod writing;
 
-ghost use Rattle.words.specs.Outcome.{measured, Meets};
+ghost use Rattle.words.specs.Listed.{on_paper};
+ghost use Rattle.words.specs.Outcome.{Meets};
 ghost use Rattle.index.specs.Start.{start_index_of};
+
+use words::Refusal;
 
 // Starts an index beside a recording whose boundary 0 finds a table so, and answers the words that it takes: TABLE where the table is not well made; ROOM where
 // the index is shorter than the contents and the table's page. A refusal changes nothing; other words stay.
-pub fn start_index(table: &[u32], index: &mut [u32]) -> words::Length
-    ensures { Meets measured (start_index_of table.now index.old) index.old result index.new }
+pub fn start_index(table: &[u32], index: &mut [u32]) -> Result<usize, Refusal>
+    ensures { Meets on_paper (start_index_of table.now index.old) index.old result index.new }
 {
     if index.len() < contents::CONTENTS_WORDS {
         if table::well_made(table) {
-            return words::Length::Refused(words::ROOM);
+            return Err(Refusal::Room);
         }
-        return words::Length::Refused(words::TABLE);
+        return Err(Refusal::Table);
     }
-    let made = writing::make_entry(table, index, 0, 0, contents::CONTENTS_WORDS);
-    let words::Length::Accepted(size) = made else {
-        return made;
-    };
+    let size = writing::make_entry(table, index, 0, 0, contents::CONTENTS_WORDS)?;
     writing::write_reached(index, 0, 0);
-    words::Length::Accepted(contents::CONTENTS_WORDS + size)
+    Ok(contents::CONTENTS_WORDS + size)
 }

@@ -1,9 +1,12 @@
 // What is written into the contents of an index.
 ghost use Rattle.std.specs.Prelude.{◌≡◌, [], ◌∷◌, ◌+◌, ◌/◌, ◌%◌, ◌^◌, ◌≤◌, ◌<◌, length};
 ghost use Rattle.words.specs.Part.{put};
-ghost use Rattle.words.specs.Outcome.{measured, Meets};
+ghost use Rattle.words.specs.Listed.{on_paper};
+ghost use Rattle.words.specs.Outcome.{Meets};
 ghost use Rattle.index.specs.Layout.{most_entries, entry_from, index_contents, place_words, with_reached};
 ghost use Rattle.index.specs.inner.Entered.{saved_at, entered_at};
+
+use words::Refusal;
 
 // Four words of the contents, from a place on.
 fn write_four(index: &mut [u32], at: usize, a: u32, b: u32, c: u32, d: u32)
@@ -62,9 +65,9 @@ fn write_entry(index: &mut [u32], j: usize, place: u64, offset: usize, size: usi
 }
 
 // Saves the page of a table into an index, at an offset: TABLE, and ROOM where it does not fit.
-fn save_at(table: &[u32], index: &mut [u32], offset: usize) -> words::Length
+fn save_at(table: &[u32], index: &mut [u32], offset: usize) -> Result<usize, Refusal>
     requires { offset ≤ length index.old }
-    ensures { Meets measured (saved_at table.now offset index.old) index.old result index.new }
+    ensures { Meets on_paper (saved_at table.now offset index.old) index.old result index.new }
 {
     page::save(table, &mut index[offset..])
 }
@@ -76,14 +79,11 @@ pub fn make_entry(
     j: usize,
     place: u64,
     offset: usize,
-) -> words::Length
+) -> Result<usize, Refusal>
     requires { (index_contents ≤ offset) × (offset ≤ length index.old) × (offset < 2 ^ 32) × (j < most_entries) }
-    ensures { Meets measured (entered_at table.now j place offset index.old) index.old result index.new }
+    ensures { Meets on_paper (entered_at table.now j place offset index.old) index.old result index.new }
 {
-    let saved = save_at(table, index, offset);
-    let words::Length::Accepted(size) = saved else {
-        return saved;
-    };
+    let size = save_at(table, index, offset)?;
     write_entry(index, j, place, offset, size);
-    words::Length::Accepted(size)
+    Ok(size)
 }

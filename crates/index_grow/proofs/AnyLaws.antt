@@ -1,7 +1,10 @@
 -- Room for the next entry behind any packet. The idea: each return is a test of `room_for_any`; and a packet changes no number of streams, so that no page
 -- behind it is longer than the longest of so many (`any_fits`).
+use Rattle.std.specs.Prelude.{Result}
 use Rattle.words.proofs.Kit.{◌≡◌, sym, ◌∙◌, Bool, true, false, List, ℕ, ◌+◌, ◌*◌, ◌^◌, ◌≤◌, ◌<◌, arith, le-ltb, lt-ltb, lt-leb, leb, ltb, length}
 use borrow.Author.Tests.{ltb-true, leb-true}
+use Rattle.words.specs.declared.RefusedAt.{RefusedAt}
+use Rattle.words.specs.Told.{told_paper}
 use Rattle.words.specs.Outcome.{Meets}
 use Rattle.words.proofs.Cases.{both_left, both_right, both_no}
 use Rattle.table.specs.Layout.{streams_of}
@@ -10,8 +13,8 @@ use Rattle.play.proofs.KeepLaws.{Kept, kept_at}
 use Rattle.page.specs.Layout.{page_length}
 use Rattle.page.proofs.Bounds.{page_between}
 use Rattle.index.specs.Layout.{most_entries, entries_in, pages_end}
-use Rattle.index_grow.specs.declared.Grown.{Grown}
-use Rattle.index_grow.specs.Grow.{table_taken, reaches_entry, entry_lacks, grow_told, grown_paper}
+use Rattle.index_grow.specs.declared.Taken.{Taken}
+use Rattle.index_grow.specs.Grow.{table_taken, reaches_entry, entry_lacks, grow_told}
 use Rattle.index_grow.specs.inner.Steps.{Ready, GrownOn, room_for_any}
 use Rattle.index_grow.proofs.GrowLaws.{grow_lent}
 
@@ -57,5 +60,5 @@ module _ (t ws ix : List ℕ) (q : Ready t ix) (b : Bool) (e : b ≡ room_for_an
       let fits : pages_end ix + page_length (table_taken t ws) ≤ length ix = omega (arith, p.2, most, after.streams) in
       rw (lt-leb most_entries (entries_in ix) p.0, lt-leb (2 ^ 32) (pages_end ix) p.1, le-ltb (length ix) _ fits)
 
-  pub any_grown : (r : Grown) (left last : List ℕ) → GrownOn t ws ix r left last → Meets grown_paper (grow_told t ws ix) (t, ix) r (left, last)
+  pub any_grown : (r : Result Taken RefusedAt) (left last : List ℕ) → GrownOn t ws ix r left last → Meets told_paper (grow_told t ws ix) (t, ix) r (left, last)
   any_grown r left last k = grow_lent t ws ix left last r (rw any_fits (both_no (reaches_entry ix))) q k

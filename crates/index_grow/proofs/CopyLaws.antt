@@ -1,12 +1,15 @@
 -- A packet taken in on a copy of the table's layout. The idea: what is asked of a table is asked of its layout alone, so growing answers of the copy l as of
 -- the table l ++ x, and leaves the same index (`grow_alone`); the copy is given back only where the packet is taken in (`copied`).
+use Rattle.std.specs.Prelude.{Result, Ok, Err}
 use Rattle.words.proofs.Kit.{◌≡◌, refl, sym, ap, ap₂, ◌∙◌, Bool, true, false, ⊎_elim, List, ◌++◌, ℕ, ◌+◌, ◌-◌, ◌^◌, ◌≤◌, ◌<◌, arith, length, take, drop}
 use lib.ListN.{take-append-drop}
 use lib.Seq.{get_or-take, length-take-le}
 use Rattle.words.specs.Tests.{both}
 use Rattle.words.specs.Part.{part, put}
+use Rattle.words.specs.declared.RefusedAt.{RefusedAt}
+use Rattle.words.specs.Listed.{list_number}
 use Rattle.words.specs.Outcome.{refused, accepted, Done, said_of, left_of, Meets}
-use Rattle.words.specs.Told.{Told}
+use Rattle.words.specs.Told.{Told, refusal, told_paper}
 use Rattle.words.proofs.Cases.{true_or_false}
 use Rattle.words.proofs.PartLaws.{part_whole, part_length, put_length, part_put}
 use Rattle.words.proofs.MeetLaws.{said_accepted, said_refused}
@@ -23,9 +26,7 @@ use Rattle.page.proofs.AloneLaws.{page_alone, length_alone}
 use Rattle.index.specs.Layout.{with_entry}
 use Rattle.index.specs.Good.{index_good}
 use Rattle.index_grow.specs.declared.Taken.{Taken}
-use Rattle.index_grow.specs.declared.Grown.{Grown}
-use Rattle.index_grow.specs.declared.Grown.TheVariants.{Accepted, Refused}
-use Rattle.index_grow.specs.Grow.{table_taken, reaches_entry, entry_lacks, index_then, grow_of, grow_told, grown_paper}
+use Rattle.index_grow.specs.Grow.{table_taken, reaches_entry, entry_lacks, index_then, grow_of, grow_told}
 use Rattle.index_grow.specs.inner.Steps.{Ready, GrownOn, layout_in, given_back}
 use Rattle.index_grow.proofs.GrowLaws.{grow_accepts, grow_refuses, unread_both}
 use Rattle.index_grow.proofs.AnswerLaws.{grow_taken}
@@ -148,11 +149,12 @@ grow_past l x ws ix e =
 
 -- ---- given back
 
-pub given_back_lem : (answer : Grown) (x : Taken) (copy t last : List ℕ) → answer ≡ Accepted x
+pub given_back_lem : (answer : Result Taken RefusedAt) (x : Taken) (copy t last : List ℕ) → answer ≡ Ok x
     → last ≡ put 0 (length copy) (part 0 (length copy) copy) t → last ≡ given_back answer copy t
 given_back_lem answer x copy t last e f = f ∙ rw (part_whole copy, e)
 
-module _ (t ws ix copy : List ℕ) (q : Ready t ix) (e : copy ≡ layout_in t) (r : Grown) (left leftIndex : List ℕ) (k : GrownOn copy ws ix r left leftIndex) where
+module _ (t ws ix copy : List ℕ) (q : Ready t ix) (e : copy ≡ layout_in t) (r : Result Taken RefusedAt)
+    (left leftIndex : List ℕ) (k : GrownOn copy ws ix r left leftIndex) where
   long : length left ≡ layout_words (streams_of t)
   unfolding table_taken left_at
   long = ap length k.table ∙ (kept_at copy ws 0).whole ∙ ap length e ∙ layout_long t q.table
@@ -180,12 +182,12 @@ module _ (t ws ix copy : List ℕ) (q : Ready t ix) (e : copy ≡ layout_in t) (
       let taken : (left_of (grow_told copy ws ix) (copy, ix)).0 ≡ left = rw d.1 (ap left_table (grow_taken copy ws ix d.0 d.1).is ∙ sym k.table) in
       rw (whole t q.table) at alone.table ∙ ap (λ (z : List ℕ). z ++ drop (layout_words (streams_of t)) t) (rw e at taken)
 
-  copied_by : (g : Grown) (last : List ℕ) → r ≡ g → last ≡ given_back g left t → (left_of (grow_told t ws ix) (t, ix)).0 ≡ last
+  copied_by : (g : Result Taken RefusedAt) (last : List ℕ) → r ≡ g → last ≡ given_back g left t → (left_of (grow_told t ws ix) (t, ix)).0 ≡ last
   unfolding put
-  copied_by (Refused x) last f h =
-      let no = said_refused (grow_told t ws ix) x (said_whole ∙ sym k.answer ∙ ap grown_paper f) in
+  copied_by (Err x) last f h =
+      let no = said_refused (grow_told t ws ix) (refusal (list_number x.refusal) x.place) (said_whole ∙ sym k.answer ∙ ap told_paper f) in
       ap (λ (o : Told (Done Taken (List ℕ × List ℕ))). (left_of o (t, ix)).0) no ∙ sym h
-  copied_by (Accepted y) last f h = table_whole y (sym k.answer ∙ ap grown_paper f) ∙ sym (h ∙ rw long)
+  copied_by (Ok y) last f h = table_whole y (sym k.answer ∙ ap told_paper f) ∙ sym (h ∙ rw long)
 
-  pub copied : (last : List ℕ) → last ≡ given_back r left t → Meets grown_paper (grow_told t ws ix) (t, ix) r (last, leftIndex)
+  pub copied : (last : List ℕ) → last ≡ given_back r left t → Meets told_paper (grow_told t ws ix) (t, ix) r (last, leftIndex)
   copied last f = record { answer = k.answer ∙ sym said_whole; buffer = sym (ap₂ (λ a b. (a, b)) (copied_by r last refl f) index_whole) }

@@ -1,10 +1,11 @@
 -- The next entry of an index. The idea: each return is a row of `entry_lacks`, and the last is what making the entry answers.
+use Rattle.std.specs.Prelude.{Result, Ok, Err, is_ok}
 use Rattle.words.proofs.Kit.{◌≡◌, refl, sym, ap, ◌∙◌, Bool, true, false, not, ⊎_elim, List, ℕ, ◌+◌, ◌^◌, ◌≤◌, ◌<◌, arith, le-leb, lt-leb, le-ltb, lt-ltb}
 use Rattle.words.proofs.Kit.{ltb-false, not-true, not-false, leb, ltb, length}
 use borrow.Author.Tests.{leb-false}
-use Rattle.words.specs.declared.Length.{Length}
-use Rattle.words.specs.declared.Length.TheVariants.{Accepted, Refused}
-use Rattle.words.specs.Outcome.{accepted, refused, measured, Done, left_of, Meets}
+use Rattle.words.specs.declared.refusals.Refusal.{Refusal}
+use Rattle.words.specs.Listed.{list_number, on_paper}
+use Rattle.words.specs.Outcome.{accepted, refused, Done, left_of, Meets}
 use Rattle.words.proofs.Cases.{le_or_lt, accepted_same}
 use Rattle.words.proofs.RefusalLaws.{first_passed, none_given, either_passed}
 use Rattle.words.proofs.MeetLaws.{meets_accepted, said_refused}
@@ -31,17 +32,17 @@ module _ (t ix : List ℕ) (place j : ℕ) (i : (j ≡ entries_in ix) × (j < 2 
         let far : 4294967296 ≤ offset = omega arith in
         record { fits = rw (lt-leb most_entries (entries_in ix) (rw e at few), le-leb (2 ^ 32) (pages_end ix) (rw f at far)); index = refl }
 
-    module _ (near : offset ≤ 4294967295) (r : Length) (left : List ℕ) (m : Meets measured (entered_at t j place offset ix) ix r left) where
+    module _ (near : offset ≤ 4294967295) (r : Result ℕ Refusal) (left : List ℕ) (m : Meets on_paper (entered_at t j place offset ix) ix r left) where
       lacks_is : entry_lacks t ix ≡ ltb (length ix) (offset + page_length t)
       unfolding entry_lacks
       lacks_is =
           let near-too : offset < 2 ^ 32 = omega arith in
           rw (lt-leb most_entries (entries_in ix) (rw e at few), lt-leb (2 ^ 32) (pages_end ix) (rw f at near-too), f)
 
-      pub made_room : (n : ℕ) → r ≡ Accepted n → EntryMade t place ix true left
+      made_room : (n : ℕ) → r ≡ Ok n → EntryMade t place ix true left
       unfolding entered_at
       made_room n y =
-          let k = meets_accepted m (ap measured y) in
+          let k = meets_accepted m (ap on_paper y) in
           let q = first_passed (enter_list t offset ix) _ k.done k.wants in
           let d = accepted_same q.1 in
           record {
@@ -49,10 +50,11 @@ module _ (t ix : List ℕ) (place j : ℕ) (i : (j ≡ entries_in ix) × (j < 2 
             index = k.leaves ∙ sym (ap (λ (x : Done ℕ (List ℕ)). x.leaves) d) ∙ rw (e, f);
           }
 
-      pub made_full : Ready t ix → (n : ℕ) → r ≡ Refused n → EntryMade t place ix false left
+      made_full : Ready t ix → (k : Refusal) → r ≡ Err k → EntryMade t place ix false left
       unfolding entered_at
-      made_full w n y =
-          let no : entered_at t j place offset ix ≡ refused n = said_refused (entered_at t j place offset ix) n (sym m.answer ∙ ap measured y) in
+      made_full w k y =
+          let n = list_number k in
+          let no : entered_at t j place offset ix ≡ refused n = said_refused (entered_at t j place offset ix) n (sym m.answer ∙ ap on_paper y) in
           ⊎_elim
           (λ (h : offset + page_length t ≤ length ix).
           let yes : entered_at t j place offset ix ≡ accepted (record { says = page_length t; leaves = with_entry j place offset t ix }) =
@@ -62,6 +64,13 @@ module _ (t ix : List ℕ) (place j : ℕ) (i : (j ≡ entries_in ix) × (j < 2 
           (λ (h : length ix < offset + page_length t).
           record { fits = rw (lacks_is, lt-ltb (length ix) (offset + page_length t) h); index = m.buffer ∙ ap (λ o. left_of o ix) no })
           (le_or_lt (offset + page_length t) (length ix))
+
+      made_by : Ready t ix → (s : Result ℕ Refusal) → r ≡ s → EntryMade t place ix (is_ok s) left
+      made_by w (Ok n) y = made_room n y
+      made_by w (Err k) y = made_full w k y
+
+      pub made_asked : Ready t ix → (b : Bool) → b ≡ is_ok r → EntryMade t place ix b left
+      made_asked w b y = rw y (made_by w r refl)
 
 -- the index stays as long
 pub made_whole : (t ix mid : List ℕ) (place : ℕ) (made : Bool) → Ready t ix → EntryMade t place ix made mid → not made ≡ false → index_contents ≤ length mid

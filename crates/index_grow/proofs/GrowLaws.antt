@@ -1,14 +1,15 @@
 -- What growing answers and leaves, on a table and an index that are well made. The idea: reading is asked as play asks it (`grow_read`), so growing refuses
 -- what ends the recording as play does (`unread_both`), and takes in what play hears or refuses with STREAM (`read_both`), where there is room.
+use Rattle.std.specs.Prelude.{Result}
 use Rattle.words.proofs.Kit.{◌≡◌, refl, sym, ap, ◌∙◌, Bool, true, false, not, ⊎_elim, List, [], ◌∷◌, ℕ, ◌+◌, ◌%◌, ◌^◌, ◌<◌, arith, not-true, not-false, eqb}
 use Rattle.words.proofs.Kit.{get_or}
 use Rattle.words.specs.declared.Where.TheVariants.{Nowhere}
-use Rattle.words.specs.declared.Refusal.{Refusal}
+use Rattle.words.specs.declared.RefusedAt.{RefusedAt}
 use Rattle.words.specs.Numbers.{TABLE, PAGE, ROOM}
 use Rattle.words.specs.Tests.{both}
 use Rattle.words.specs.Outcome.{Outcome, refused, accepted, onward, Done, said_of, Meets}
 use Rattle.words.specs.Refusals.{first_given}
-use Rattle.words.specs.Told.{Told, refusal}
+use Rattle.words.specs.Told.{Told, RefusalTold, refusal, told_paper}
 use Rattle.words.proofs.Cases.{true_or_false, true_is_false}
 use Rattle.words.proofs.RefusalLaws.{onward_first}
 use Rattle.packet.specs.declared.Packet.{Packet}
@@ -18,9 +19,8 @@ use Rattle.packet.specs.Read.{list_by, read_by}
 use Rattle.packet.specs.Told.{where_of}
 use Rattle.table.specs.Well.{well_made}
 use Rattle.play.specs.declared.Heard.{Heard}
-use Rattle.play.specs.declared.Played.{Played}
 use Rattle.play.specs.declared.step.Happened.{Happened}
-use Rattle.play.specs.Play.{heard_done, chosen, play_of, play_told, played_paper}
+use Rattle.play.specs.Play.{heard_done, chosen, play_of, play_told}
 use Rattle.play.specs.inner.Steps.{sought_of}
 use Rattle.play.specs.Run.{goes_on, said_at, left_at, next_of, Stepped}
 use Rattle.play.proofs.StreamLaws.{sought_number}
@@ -30,8 +30,7 @@ use Rattle.play.proofs.BeyondLaws.{goes_read}
 use Rattle.index.specs.Layout.{packets_taken}
 use Rattle.index.specs.Good.{index_good}
 use Rattle.index_grow.specs.declared.Taken.{Taken}
-use Rattle.index_grow.specs.declared.Grown.{Grown}
-use Rattle.index_grow.specs.Grow.{taken_as, taken_of, table_taken, reaches_entry, entry_lacks, index_then, grown_done, grow_of, grow_told, grown_paper}
+use Rattle.index_grow.specs.Grow.{taken_as, taken_of, table_taken, reaches_entry, entry_lacks, index_then, grown_done, grow_of, grow_told}
 use Rattle.index_grow.specs.inner.Steps.{Ready, GrownOn, answer_by, counted_in, EntryTaken}
 
 module _ (t ws ix : List ℕ) (q : Ready t ix) where
@@ -65,7 +64,7 @@ module _ (t ws ix : List ℕ) (q : Ready t ix) where
 
   -- where it ends, both refuse alike
   pub record Unread : Type 0 where
-    pub says : Refusal
+    pub says : RefusalTold
     pub plays : play_told t ws ≡ refused says
     pub grows : grow_told t ws ix ≡ refused says
 
@@ -105,23 +104,23 @@ module _ (t ws ix : List ℕ) (q : Ready t ix) where
       lacks_is : entry_lacks (table_taken t ws) ix ≡ not made
       lacks_is = rw (← left_is, m.fits) (sym (twice (entry_lacks left ix)))
 
-      pub grown_full : (r : Grown) → not made ≡ true → grown_paper r ≡ refused (refusal ROOM Nowhere) → GrownOn t ws ix r left last
+      pub grown_full : (r : Result Taken RefusedAt) → not made ≡ true → told_paper r ≡ refused (refusal ROOM Nowhere) → GrownOn t ws ix r left last
       grown_full r i g =
           let e = grow_refuses (goes c) (rw (y, lacks_is) i) in
           record { answer = g ∙ sym (ap said_of e); table = left_is; index = m.index ∙ rw (not-true made i, e) }
 
     -- a is what play answered
-    module _ (a : Played) (f : a ≡ s.answer) where
-      said_is : played_paper a ≡ said_of (play_told t ws)
+    module _ (a : Result Heard RefusedAt) (f : a ≡ s.answer) where
+      said_is : told_paper a ≡ said_of (play_told t ws)
       unfolding said_at
-      said_is = ap played_paper f ∙ k.answer
+      said_is = ap told_paper f ∙ k.answer
 
       -- where the recording ends
-      pub grown_unread : (r : Grown) → not s.continues ≡ true → grown_paper r ≡ answer_by (played_paper a) false 0 → GrownOn t ws ix r left ix
+      pub grown_unread : (r : Result Taken RefusedAt) → not s.continues ≡ true → told_paper r ≡ answer_by (told_paper a) false 0 → GrownOn t ws ix r left ix
       unfolding said_at
       grown_unread r c g =
           let u = unread_both (sym k.on ∙ not-true s.continues c) in
-          let paper : played_paper a ≡ refused u.says = said_is ∙ ap said_of u.plays in
+          let paper : told_paper a ≡ refused u.says = said_is ∙ ap said_of u.plays in
           record { answer = g ∙ rw (paper, u.grows); table = left_is; index = rw u.grows }
 
       module _ (c : not s.continues ≡ false) where
@@ -134,18 +133,18 @@ module _ (t ws ix : List ℕ) (q : Ready t ix) where
         taken_by (refused r) size = refl
         taken_by (accepted h) size = refl
 
-        taken_is : answer_by (played_paper a) true s.next ≡ accepted (taken_of t ws)
+        taken_is : answer_by (told_paper a) true s.next ≡ accepted (taken_of t ws)
         taken_is = rw (said_is, size_is) (taken_by (said_of (play_told t ws)) (size_of (get_or ws 0 0)))
 
-        grown_on : (r : Grown) (last : List ℕ) → reaches_entry ix ≡ false → grown_paper r ≡ answer_by (played_paper a) true s.next
+        grown_on : (r : Result Taken RefusedAt) (last : List ℕ) → reaches_entry ix ≡ false → told_paper r ≡ answer_by (told_paper a) true s.next
             → last ≡ counted_in s.next ix → GrownOn t ws ix r left last
         unfolding counted_in index_then
         grown_on r last n g h =
             let e = grow_accepts (goes c) (rw n) in
             record { answer = g ∙ taken_is ∙ sym (ap said_of e); table = left_is; index = h ∙ rw (e, n, size_is) }
 
-        pub grown_entry : (r : Grown) (made : Bool) (last : List ℕ) → reaches_entry ix ≡ true → EntryTaken left s.next ix made last → not made ≡ false
-            → grown_paper r ≡ answer_by (played_paper a) true s.next → GrownOn t ws ix r left last
+        pub grown_entry : (r : Result Taken RefusedAt) (made : Bool) (last : List ℕ) → reaches_entry ix ≡ true
+            → EntryTaken left s.next ix made last → not made ≡ false → told_paper r ≡ answer_by (told_paper a) true s.next → GrownOn t ws ix r left last
         unfolding index_then
         grown_entry r made last y m i g =
             let e = grow_accepts (goes c) (rw (y, lacks_is c y made last m) i) in
@@ -158,12 +157,14 @@ step_ready t ws ix left s q k = record { table = rw k.table ((kept_at t ws 0).we
 -- ---- the whole: b is the test of the table, and c that of the contents
 
 module _ (t ws ix : List ℕ) (b : Bool) (e : b ≡ well_made t) where
-  pub grow_ill : (r : Grown) → not b ≡ true → grown_paper r ≡ refused (refusal TABLE Nowhere) → Meets grown_paper (grow_told t ws ix) (t, ix) r (t, ix)
+  pub grow_ill : (r : Result Taken RefusedAt) → not b ≡ true → told_paper r ≡ refused (refusal TABLE Nowhere)
+      → Meets told_paper (grow_told t ws ix) (t, ix) r (t, ix)
   unfolding grow_told grow_of where_of
   grow_ill r i g = let no : well_made t ≡ false = sym e ∙ not-true b i in record { answer = g ∙ rw no; buffer = rw no }
 
   module _ (i : not b ≡ false) (c : Bool) (f : c ≡ index_good ix) where
-    pub grow_contents : (r : Grown) → not c ≡ true → grown_paper r ≡ refused (refusal PAGE Nowhere) → Meets grown_paper (grow_told t ws ix) (t, ix) r (t, ix)
+    pub grow_contents : (r : Result Taken RefusedAt) → not c ≡ true → told_paper r ≡ refused (refusal PAGE Nowhere)
+        → Meets told_paper (grow_told t ws ix) (t, ix) r (t, ix)
     unfolding grow_told grow_of where_of
     grow_contents r j g =
         let yes : well_made t ≡ true = sym e ∙ not-false b i in
@@ -187,8 +188,8 @@ pub reaches_no : (ix : List ℕ) (b : Bool) → b ≡ reaches_entry ix → b ≡
 reaches_no ix b e i = sym e ∙ i
 
 -- a packet behind which there is no entry, or room for its page: the table that is played on may be the lent one
-pub grow_lent : (t ws ix left last : List ℕ) (r : Grown) → both (reaches_entry ix) (entry_lacks (table_taken t ws) ix) ≡ false → Ready t ix
-    → GrownOn t ws ix r left last → Meets grown_paper (grow_told t ws ix) (t, ix) r (left, last)
+pub grow_lent : (t ws ix left last : List ℕ) (r : Result Taken RefusedAt) → both (reaches_entry ix) (entry_lacks (table_taken t ws) ix) ≡ false → Ready t ix
+    → GrownOn t ws ix r left last → Meets told_paper (grow_told t ws ix) (t, ix) r (left, last)
 unfolding table_taken
 grow_lent t ws ix left last r n q k =
     ⊎_elim
@@ -200,11 +201,11 @@ grow_lent t ws ix left last r n q k =
     record { answer = k.answer; buffer = rw (k.table, k.index, u.grows, u.plays) })
     (true_or_false (goes_on (said_of (play_told t ws))))
 
-module _ (t ws ix : List ℕ) (q : Ready t ix) (n : reaches_entry ix ≡ false) (s : Happened) (left : List ℕ) (k : Stepped t ws 0 s left) (a : Played)
-    (f : a ≡ s.answer) (r : Grown) where
-  pub on_unread : not s.continues ≡ true → grown_paper r ≡ answer_by (played_paper a) false 0 → Meets grown_paper (grow_told t ws ix) (t, ix) r (left, ix)
+module _ (t ws ix : List ℕ) (q : Ready t ix) (n : reaches_entry ix ≡ false) (s : Happened) (left : List ℕ) (k : Stepped t ws 0 s left)
+    (a : Result Heard RefusedAt) (f : a ≡ s.answer) (r : Result Taken RefusedAt) where
+  pub on_unread : not s.continues ≡ true → told_paper r ≡ answer_by (told_paper a) false 0 → Meets told_paper (grow_told t ws ix) (t, ix) r (left, ix)
   on_unread c g = grow_lent t ws ix left ix r (rw n) q (grown_unread t ws ix q s left k a f r c g)
 
-  pub on_taken : (last : List ℕ) → not s.continues ≡ false → grown_paper r ≡ answer_by (played_paper a) true s.next → last ≡ counted_in s.next ix
-      → Meets grown_paper (grow_told t ws ix) (t, ix) r (left, last)
+  pub on_taken : (last : List ℕ) → not s.continues ≡ false → told_paper r ≡ answer_by (told_paper a) true s.next → last ≡ counted_in s.next ix
+      → Meets told_paper (grow_told t ws ix) (t, ix) r (left, last)
   on_taken last c g h = grow_lent t ws ix left last r (rw n) q (grown_on t ws ix q s left k a f c r last n g h)

@@ -1,20 +1,20 @@
 -- A packet that is played, and what growing answers of it by what play says.
+use Rattle.std.specs.Prelude.{Result, Ok, Err}
 use Rattle.words.proofs.Kit.{◌≡◌, ◌∙◌, Bool, true, false, List, [], ◌∷◌, ℕ, ◌^◌, ◌<◌, arith, length, get_or}
 use native.Mathlib.Nat.{mod-lt}
 use Rattle.words.specs.declared.Where.TheVariants.{Word}
-use Rattle.words.specs.declared.Refusal.{Refusal}
-use Rattle.words.specs.Numbers.{EMPTY}
+use Rattle.words.specs.declared.RefusedAt.{RefusedAt}
+use Rattle.words.specs.declared.refusals.Refusal.TheVariants as refusals
+use Rattle.words.specs.Listed.{list_number}
 use Rattle.words.specs.Tests.{when}
 use Rattle.words.specs.Outcome.{refused, accepted}
-use Rattle.words.specs.Told.{Told, refusal, place_word}
+use Rattle.words.specs.Told.{Told, RefusalTold, refusal, told_paper, place_word}
 use Rattle.packet.specs.Header.{size_of}
 use Rattle.packet.specs.Told.{where_of}
 use Rattle.table.specs.Well.{well_made}
 use Rattle.play.specs.declared.Heard.{Heard}
-use Rattle.play.specs.declared.Played.{Played}
-use Rattle.play.specs.declared.Played.TheVariants as played
 use Rattle.play.specs.declared.step.Happened.{Happened}
-use Rattle.play.specs.Play.{play_of, play_told, played_paper}
+use Rattle.play.specs.Play.{play_of, play_told}
 use Rattle.play.specs.Run.{goes_on, said_at, left_at, next_of, Stepped}
 use Rattle.index_grow.specs.declared.Taken.{Taken}
 use Rattle.index_grow.specs.declared.Taken.TheVariants.{Declared, Undeclared}
@@ -23,7 +23,7 @@ use Rattle.index_grow.specs.inner.Steps.{answer_by}
 -- ---- where no word is left
 
 pub none_stepped : (t ws : List ℕ) → well_made t ≡ true → length ws ≡ 0
-    → Stepped t ws 0 (record { answer = played.Refused (refusal EMPTY (Word 0)); continues = false; next = 0 }) t
+    → Stepped t ws 0 (record { answer = Err (record { refusal = refusals.Empty; place = Word 0 }); continues = false; next = 0 }) t
 unfolding said_at left_at next_of play_told play_of where_of
 none_stepped t [] w e = record { answer = rw w; on = rw w; next = rw w; table = rw w }
 none_stepped t (x ∷ ws) w e = absurd (omega (arith, e))
@@ -40,16 +40,17 @@ next_small t ws left s k = rw k.next (omega (arith, when_small (goes_on (said_at
 
 -- ---- the answer, by what play says: whether the recording goes on is c
 
-module _ (r : Refusal) (c : Bool) (size : ℕ) where
+module _ (r : RefusalTold) (c : Bool) (size : ℕ) where
   pub unheard_on : (k : ℕ) → c ≡ true → k ≡ place_word r.place → accepted (Undeclared (record { size = size; place = k })) ≡ answer_by (refused r) c size
   unheard_on k e f = rw (e, f)
 
   pub unheard_off : c ≡ false → refused r ≡ answer_by (refused r) c size
   unheard_off e = rw e
 
-module _ (a : Played) (c : Bool) (size : ℕ) where
-  pub heard_answer : (h : Heard) → a ≡ played.Accepted h → accepted (Declared h) ≡ answer_by (played_paper a) c size
+module _ (a : Result Heard RefusedAt) (c : Bool) (size : ℕ) where
+  pub heard_answer : (h : Heard) → a ≡ Ok h → accepted (Declared h) ≡ answer_by (told_paper a) c size
   heard_answer h e = rw e
 
-  pub unheard_answer : (r : Refusal) (k : Told Taken) → a ≡ played.Refused r → k ≡ answer_by (refused r) c size → k ≡ answer_by (played_paper a) c size
+  pub unheard_answer : (r : RefusedAt) (k : Told Taken) → a ≡ Err r → k ≡ answer_by (refused (refusal (list_number r.refusal) r.place)) c size
+      → k ≡ answer_by (told_paper a) c size
   unheard_answer r k e f = f ∙ rw e

@@ -18,8 +18,6 @@ use Rattle.index.specs.Layout.{most_entries, spacing, entries_in, packets_taken,
 use Rattle.index.specs.Good.{index_good}
 use Rattle.index_grow.specs.declared.Taken.{Taken}
 use Rattle.index_grow.specs.declared.Taken.TheVariants.{Declared, Undeclared}
-use Rattle.index_grow.specs.declared.Grown.{Grown}
-use Rattle.index_grow.specs.declared.Grown.TheVariants.{Accepted, Refused}
 
 -- ---- what is said of a packet that is taken in
 
@@ -78,8 +76,3 @@ grow_of t ws ix = first_given (grow_list t ws ix) (accepted (grown_done t ws ix)
 -- with the place of each refusal; TABLE, PAGE and ROOM have none
 unfoldable pub grow_told : List ℕ → List ℕ → List ℕ → Told (Done Taken (List ℕ × List ℕ))
 grow_told t ws ix = told (where_of ws) (grow_of t ws ix)
-
--- the refusals and values of answers
-abbrev pub grown_paper : Grown → Told Taken
-grown_paper (Refused r) = refused r
-grown_paper (Accepted x) = accepted x

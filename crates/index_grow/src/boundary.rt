@@ -2,12 +2,14 @@
 // changed, and nothing is undone.
 ghost use Rattle.std.specs.Prelude.{◌≡◌, true, ◌^◌, ◌≤◌, ◌<◌, length};
 ghost use Rattle.words.specs.Outcome.{Meets};
+ghost use Rattle.words.specs.Told.{told_paper};
 ghost use Rattle.index.specs.Layout.{pages_end};
 ghost use Rattle.index.specs.Good.{index_good};
-ghost use Rattle.index_grow.specs.Grow.{reaches_entry, grow_told, grown_paper};
+ghost use Rattle.index_grow.specs.Grow.{reaches_entry, grow_told};
 ghost use Rattle.index_grow.specs.inner.Steps.{Ready, GrownOn, EntryMade, EntryTaken, room_for_any, layout_in, given_back};
 
-use crate::Grown;
+use crate::Taken;
+use words::{Refusal, RefusedAt};
 
 // Where the pages of an index end.
 fn pages_end(index: &[u32]) -> usize
@@ -31,10 +33,7 @@ fn make_next(table: &[u32], index: &mut [u32], place: u64) -> bool
     if 0xFFFF_FFFF < offset {
         return false;
     }
-    match index::inner::make_entry(table, index, j, place, offset) {
-        words::Length::Accepted(_) => true,
-        words::Length::Refused(_) => false,
-    }
+    index::inner::make_entry(table, index, j, place, offset).is_ok()
 }
 
 // Makes the next entry, of a table behind a packet of so many words, and counts the packet; tells whether there was room.
@@ -52,7 +51,7 @@ fn take_entry(table: &[u32], index: &mut [u32], size: usize) -> bool
 }
 
 // Takes the packet in on a table that may be changed.
-fn grow_played(table: &mut [u32], given: &[u32], index: &mut [u32]) -> Grown
+fn grow_played(table: &mut [u32], given: &[u32], index: &mut [u32]) -> Result<Taken, RefusedAt>
     requires { Ready table.old index.old × (reaches_entry index.old ≡ true) }
     ensures { GrownOn table.old given.now index.old result table.new index.new }
 {
@@ -62,25 +61,30 @@ fn grow_played(table: &mut [u32], given: &[u32], index: &mut [u32]) -> Grown
         return crate::packets::answer_of(answer, false, 0);
     }
     if !take_entry(table, index, s.next) {
-        return crate::packets::refuse(words::ROOM);
+        return crate::packets::refuse(Refusal::Room);
     }
     crate::packets::answer_of(answer, true, s.next)
 }
 
 // Copies a table back that a packet was taken in on; where it was refused the lent table stays.
-fn give_back(answer: Grown, table: &mut [u32], copy: &[u32])
+fn give_back(answer: Result<Taken, RefusedAt>, table: &mut [u32], copy: &[u32])
     requires { length copy.now ≤ length table.old }
     ensures { table.new ≡ given_back answer copy.now table.old }
 {
-    if let Grown::Accepted(_) = answer {
+    if let Ok(_) = answer {
         words::inner::copy_part(table, 0, copy, 0, copy.len());
     }
 }
 
 // Takes the packet in on a copy of the table's layout.
-fn grow_given(copy: &mut [u32], table: &mut [u32], given: &[u32], index: &mut [u32]) -> Grown
+fn grow_given(
+    copy: &mut [u32],
+    table: &mut [u32],
+    given: &[u32],
+    index: &mut [u32],
+) -> Result<Taken, RefusedAt>
     requires { Ready table.old index.old × (reaches_entry index.old ≡ true) × (copy.old ≡ layout_in table.old) }
-    ensures { Meets grown_paper (grow_told table.old given.now index.old) (table.old, index.old) result (table.new, index.new) }
+    ensures { Meets told_paper (grow_told table.old given.now index.old) (table.old, index.old) result (table.new, index.new) }
 {
     let answer = grow_played(copy, given, index);
     give_back(answer, table, copy);
@@ -88,9 +92,14 @@ fn grow_given(copy: &mut [u32], table: &mut [u32], given: &[u32], index: &mut [u
 }
 
 // Takes the packet in, with words that have room for the longest table.
-fn grow_in(space: &mut [u32], table: &mut [u32], given: &[u32], index: &mut [u32]) -> Grown
+fn grow_in(
+    space: &mut [u32],
+    table: &mut [u32],
+    given: &[u32],
+    index: &mut [u32],
+) -> Result<Taken, RefusedAt>
     requires { Ready table.old index.old × (reaches_entry index.old ≡ true) × (length space.old ≡ 2849) }
-    ensures { Meets grown_paper (grow_told table.old given.now index.old) (table.old, index.old) result (table.new, index.new) }
+    ensures { Meets told_paper (grow_told table.old given.now index.old) (table.old, index.old) result (table.new, index.new) }
 {
     let size = table::inner::layout_words(table::inner::streams(table));
     words::inner::copy_part(space, 0, table, 0, size);
@@ -98,9 +107,9 @@ fn grow_in(space: &mut [u32], table: &mut [u32], given: &[u32], index: &mut [u32
 }
 
 // Takes the packet in on a copy, for which it has words of its own.
-fn grow_apart(table: &mut [u32], given: &[u32], index: &mut [u32]) -> Grown
+fn grow_apart(table: &mut [u32], given: &[u32], index: &mut [u32]) -> Result<Taken, RefusedAt>
     requires { Ready table.old index.old × (reaches_entry index.old ≡ true) }
-    ensures { Meets grown_paper (grow_told table.old given.now index.old) (table.old, index.old) result (table.new, index.new) }
+    ensures { Meets told_paper (grow_told table.old given.now index.old) (table.old, index.old) result (table.new, index.new) }
 {
     let mut space = [0u32; index::inner::MOST_TABLE];
     grow_in(&mut space, table, given, index)
@@ -122,9 +131,13 @@ fn room_for_any(table: &[u32], index: &[u32]) -> bool
 }
 
 // Takes the packet in: on the lent table, where there is room for any page.
-pub fn grow_to_entry(table: &mut [u32], given: &[u32], index: &mut [u32]) -> Grown
+pub fn grow_to_entry(
+    table: &mut [u32],
+    given: &[u32],
+    index: &mut [u32],
+) -> Result<Taken, RefusedAt>
     requires { Ready table.old index.old × (reaches_entry index.old ≡ true) }
-    ensures { Meets grown_paper (grow_told table.old given.now index.old) (table.old, index.old) result (table.new, index.new) }
+    ensures { Meets told_paper (grow_told table.old given.now index.old) (table.old, index.old) result (table.new, index.new) }
 {
     if room_for_any(table, index) {
         return grow_played(table, given, index);

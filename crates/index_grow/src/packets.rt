@@ -2,23 +2,24 @@
 ghost use Rattle.std.specs.Prelude.{◌≡◌, true, false, ◌^◌, ◌<◌};
 ghost use Rattle.words.specs.declared.Where.TheVariants.{Nowhere};
 ghost use Rattle.words.specs.Outcome.{refused, Meets};
-ghost use Rattle.words.specs.Told.{refusal};
+ghost use Rattle.words.specs.Listed.{list_number};
+ghost use Rattle.words.specs.Told.{refusal as told, told_paper};
 ghost use Rattle.table.specs.Well.{well_made};
-ghost use Rattle.play.specs.Play.{played_paper};
 ghost use Rattle.play.specs.Run.{Stepped};
 ghost use Rattle.index.specs.Good.{index_good};
-ghost use Rattle.index_grow.specs.Grow.{reaches_entry, grow_told, grown_paper};
+ghost use Rattle.index_grow.specs.Grow.{reaches_entry, grow_told};
 ghost use Rattle.index_grow.specs.inner.Steps.{Ready, answer_by, counted_in};
 
-use crate::{Grown, Stranger, Taken};
+use crate::{Stranger, Taken};
+use words::{Refusal, RefusedAt, Where};
 
 // A refusal that has no place.
-pub fn refuse(number: u32) -> Grown
-    ensures { grown_paper result ≡ refused (refusal number Nowhere) }
+pub fn refuse(refusal: Refusal) -> Result<Taken, RefusedAt>
+    ensures { told_paper result ≡ refused (told (list_number refusal) Nowhere) }
 {
-    Grown::Refused(words::Refusal {
-        number,
-        place: words::Where::Nowhere,
+    Err(RefusedAt {
+        refusal,
+        place: Where::Nowhere,
     })
 }
 
@@ -29,9 +30,9 @@ pub fn play_next(table: &mut [u32], given: &[u32]) -> play::inner::Happened
 {
     if given.len() == 0 {
         return play::inner::Happened {
-            answer: play::Played::Refused(words::Refusal {
-                number: words::EMPTY,
-                place: words::Where::Word(0),
+            answer: Err(RefusedAt {
+                refusal: Refusal::Empty,
+                place: Where::Word(0),
             }),
             continues: false,
             next: 0,
@@ -41,26 +42,30 @@ pub fn play_next(table: &mut [u32], given: &[u32]) -> play::inner::Happened
 }
 
 // What growing answers of a packet that play refuses: where the recording goes on, that it is of no declared stream.
-fn answer_unheard(r: words::Refusal, continues: bool, size: usize) -> Grown
-    ensures { grown_paper result ≡ answer_by (refused r) continues size }
+fn answer_unheard(r: RefusedAt, continues: bool, size: usize) -> Result<Taken, RefusedAt>
+    ensures { told_paper result ≡ answer_by (refused (told (list_number r.refusal) r.place)) continues size }
 {
     if continues {
         let place = r.place;
-        return Grown::Accepted(Taken::Undeclared(Stranger {
+        return Ok(Taken::Undeclared(Stranger {
             size,
             place: words::inner::place_word(place),
         }));
     }
-    Grown::Refused(r)
+    Err(r)
 }
 
 // What growing answers, from play's answer.
-pub fn answer_of(answer: play::Played, continues: bool, size: usize) -> Grown
-    ensures { grown_paper result ≡ answer_by (played_paper answer) continues size }
+pub fn answer_of(
+    answer: Result<play::Heard, RefusedAt>,
+    continues: bool,
+    size: usize,
+) -> Result<Taken, RefusedAt>
+    ensures { told_paper result ≡ answer_by (told_paper answer) continues size }
 {
     match answer {
-        play::Played::Accepted(h) => Grown::Accepted(Taken::Declared(h)),
-        play::Played::Refused(r) => answer_unheard(r, continues, size),
+        Ok(h) => Ok(Taken::Declared(h)),
+        Err(r) => answer_unheard(r, continues, size),
     }
 }
 
@@ -83,9 +88,9 @@ pub fn count_packet(index: &mut [u32], size: usize)
 }
 
 // Takes a packet in behind which there is no entry.
-pub fn grow_on(table: &mut [u32], given: &[u32], index: &mut [u32]) -> Grown
+pub fn grow_on(table: &mut [u32], given: &[u32], index: &mut [u32]) -> Result<Taken, RefusedAt>
     requires { Ready table.old index.old × (reaches_entry index.old ≡ false) }
-    ensures { Meets grown_paper (grow_told table.old given.now index.old) (table.old, index.old) result (table.new, index.new) }
+    ensures { Meets told_paper (grow_told table.old given.now index.old) (table.old, index.old) result (table.new, index.new) }
 {
     let s = play_next(table, given);
     let answer = s.answer;

@@ -1,16 +1,18 @@
 -- How a landing goes. The idea: an entry serves where its page is well made, its boundary stands in the words, and the packets from there to n are there; each
 -- of these that fails is PAGE (`unserved`). The words that are lent have room for the table of a page that is well made, so putting it back never lacks room
 -- (`page_put`); such a page has at most 32 bodies (`space_most`).
-use Rattle.words.proofs.Kit.{◌≡◌, sym, ap, ◌∙◌, true, false, ⊎_elim, List, [], ◌++◌, ℕ, ◌+◌, ◌-◌, ◌/◌, ◌%◌, ◌^◌, ◌≤◌, ◌<◌, arith}
+use Rattle.std.specs.Prelude.{Ok, Err}
+use Rattle.words.proofs.Kit.{◌≡◌, refl, sym, ap, ◌∙◌, true, false, ⊎_elim, List, [], ◌++◌, ℕ, ◌+◌, ◌-◌, ◌/◌, ◌%◌, ◌^◌, ◌≤◌, ◌<◌, arith}
 use Rattle.words.proofs.Kit.{le-ltb, le-leb, lt-leb, not-false, leb, length, take, drop, get_or}
 use native.Mathlib.Nat.{sub-zero, mod-lt}
 use lib.ListN.{length-append}
 use lib.Seq.{take_at}
 use mathlib.Core.List.{append-nil}
-use Rattle.words.specs.declared.Length.{Length}
-use Rattle.words.specs.declared.Length.TheVariants as lengths
 use Rattle.words.specs.Numbers.{PAGE}
-use Rattle.words.specs.Outcome.{refused, accepted, measured, Meets}
+use Rattle.words.specs.declared.refusals.Refusal.{Refusal}
+use Rattle.words.specs.declared.refusals.Refusal.TheVariants as refusals
+use Rattle.words.specs.Listed.{list_number, on_paper}
+use Rattle.words.specs.Outcome.{Outcome, refused, accepted, Meets}
 use Rattle.words.proofs.Cases.{true_or_false, true_is_false, both_no, both_left}
 use Rattle.words.proofs.RefusalLaws.{first_passed}
 use Rattle.words.proofs.MeetLaws.{meets_accepted}
@@ -23,7 +25,6 @@ use Rattle.page.proofs.Exact.{ok_contents, back_length, table_well, page_tested}
 use Rattle.index.specs.Layout.{most_entries, packets_taken, entries_in, entry_place, page_in}
 use Rattle.index.specs.Good.{index_good}
 use Rattle.index.proofs.GoodLaws.{index_of}
-use Rattle.index_jump.specs.declared.Jumped.TheVariants.{Accepted, Refused}
 use Rattle.index_jump.specs.Onward.{Behind, behind_packets}
 use Rattle.index_jump.specs.Jump.{page_before, landing_words, stands_in, landing, entry_serves}
 use Rattle.index_jump.specs.inner.Steps.{WalkedTo, Spacious, LandedIn}
@@ -67,27 +68,30 @@ module _ (p space : List ℕ) (fits : page_good p ≡ true → layout_words (bod
   unfolding put_back_of
   page_put g = rw (g, le-ltb (length space) (layout_words (bodies_in p)) (fits g))
 
-  module _ (back : Length) (mid : List ℕ) (m : Meets measured (put_back_of p space) space back mid) where
-    put_ill : (k : ℕ) → back ≡ lengths.Refused k → page_good p ≡ false
-    put_ill k e =
-        ⊎_elim
-        (λ (g : page_good p ≡ true).
-        let z : measured back ≡ accepted (layout_words (bodies_in p)) = m.answer ∙ rw (page_put g) in
-        let y : measured back ≡ refused k = ap measured e in
-        let x : ◌≡◌ {A = ℕ} 0 1 = cc in
-        absurd (omega arith))
-        (λ (g : page_good p ≡ false). g) (true_or_false (page_good p))
+  -- what is refused is a page that is not well made, as PAGE
+  put_ill : (r : Refusal) (mid : List ℕ) → Meets on_paper (put_back_of p space) space (Err r) mid → (page_good p ≡ false) × (list_number r ≡ PAGE)
+  unfolding put_back_of
+  put_ill r mid m =
+      ⊎_elim
+      (λ (g : page_good p ≡ true).
+      let z : refused (list_number r) ≡ accepted (layout_words (bodies_in p)) = m.answer ∙ rw (page_put g) in
+      let x : ◌≡◌ {A = ℕ} 0 1 = cc in
+      absurd (omega arith))
+      (λ (g : page_good p ≡ false).
+      let z : ◌≡◌ {A = Outcome ℕ} (refused (list_number r)) (refused PAGE) = m.answer ∙ rw g in
+      (g, cc))
+      (true_or_false (page_good p))
 
-    module _ (k : ℕ) (e : back ≡ lengths.Accepted k) where
-      put_made : (page_good p ≡ true) × (layout_words (bodies_in p) ≡ k) × (mid ≡ table_of p ++ drop (layout_words (bodies_in p)) space)
-      unfolding put_back_of
-      put_made =
-          let w = meets_accepted m (ap measured e) in
-          let q = first_passed (put_back_list p space) _ w.done w.wants in
-          let g : page_good p ≡ true = not-false (page_good p) q.0.0 in
-          let d : accepted w.done ≡ accepted (record { says = layout_words (bodies_in p); leaves = table_of p ++ drop (layout_words (bodies_in p)) space }) =
-          sym w.wants ∙ page_put g in
-          (g, cc, cc)
+  put_made : (k : ℕ) (mid : List ℕ) → Meets on_paper (put_back_of p space) space (Ok k) mid
+      → (page_good p ≡ true) × (layout_words (bodies_in p) ≡ k) × (mid ≡ table_of p ++ drop (layout_words (bodies_in p)) space)
+  unfolding put_back_of
+  put_made k mid m =
+      let w = meets_accepted m refl in
+      let q = first_passed (put_back_list p space) _ w.done w.wants in
+      let g : page_good p ≡ true = not-false (page_good p) q.0.0 in
+      let d : accepted w.done ≡ accepted (record { says = layout_words (bodies_in p); leaves = table_of p ++ drop (layout_words (bodies_in p)) space }) =
+      sym w.wants ∙ page_put g in
+      (g, cc, cc)
 
 -- ---- what is said of the entry
 
@@ -95,8 +99,8 @@ module _ (ws : List ℕ) (first : ℕ) (ix : List ℕ) (n : ℕ) where
   abbrev page : List ℕ
   page = page_in ix (n / 1024)
 
-  unserved : (left : List ℕ) → entry_serves ws first ix n ≡ false → LandedIn ws first ix n (Refused PAGE) left
-  unserved left e = record { answer = rw e; table = λ f. absurd (true_is_false (sym f ∙ e)) }
+  unserved : (r : Refusal) (left : List ℕ) → list_number r ≡ PAGE → entry_serves ws first ix n ≡ false → LandedIn ws first ix n (Err r) left
+  unserved r left p e = record { answer = rw (p, e); table = λ f. absurd (true_is_false (sym f ∙ e)) }
 
   serves_no_page : page_good (page_in ix (n / 1024)) ≡ false → entry_serves ws first ix n ≡ false
   unfolding entry_serves
@@ -116,17 +120,18 @@ module _ (ws : List ℕ) (first : ℕ) (ix : List ℕ) (n : ℕ) where
   serves_fits e room s = s.fits (both_left (page_good page) _ e)
 
   -- its page is p, and is put back into the words that are lent
-  module _ (p space mid : List ℕ) (back : Length) (e : p ≡ page_in ix (n / 1024)) (s : Spacious ix n (length space))
-      (m : Meets measured (put_back_of p space) space back mid) where
+  module _ (p space mid : List ℕ) (e : p ≡ page_in ix (n / 1024)) (s : Spacious ix n (length space)) where
     fits : page_good p ≡ true → layout_words (bodies_in p) ≤ length space
     fits g = rw e (s.fits (rw (← e) g))
 
-    pub land_unput : (k : ℕ) → back ≡ lengths.Refused k → LandedIn ws first ix n (Refused PAGE) mid
-    land_unput k f = unserved mid (serves_no_page (rw e at (put_ill p space fits back mid m k f)))
+    pub land_unput : (r : Refusal) → Meets on_paper (put_back_of p space) space (Err r) mid → LandedIn ws first ix n (Err r) mid
+    land_unput r m =
+        let ill = put_ill p space fits r mid m in
+        unserved r mid ill.1 (serves_no_page (rw e at ill.0))
 
-    module _ (k : ℕ) (f : back ≡ lengths.Accepted k) where
+    module _ (k : ℕ) (m : Meets on_paper (put_back_of p space) space (Ok k) mid) where
       made : (page_good p ≡ true) × (layout_words (bodies_in p) ≡ k) × (mid ≡ table_of p ++ drop (layout_words (bodies_in p)) space)
-      made = put_made p space fits back mid m k f
+      made = put_made p space fits k mid m
 
       table_long : length (table_of p) ≡ k
       table_long = back_length p (page_tested p ∙ made.0) ∙ made.1
@@ -143,15 +148,14 @@ module _ (ws : List ℕ) (first : ℕ) (ix : List ℕ) (n : ℕ) where
 
       -- its boundary is at a place
       module _ (place : ℕ) (g : place ≡ entry_place ix (n / 1024)) where
-        pub land_early : place < first → LandedIn ws first ix n (Refused PAGE) mid
-        land_early h = unserved mid (serves_nowhere (rw (← g, lt-leb first place h)))
+        pub land_early : place < first → LandedIn ws first ix n (Err refusals.Page) mid
+        land_early h = unserved refusals.Page mid refl (serves_nowhere (rw (← g, lt-leb first place h)))
 
-        pub land_far : length ws < place - first → LandedIn ws first ix n (Refused PAGE) mid
-        land_far h = unserved mid (serves_nowhere (rw (← g, lt-leb (place - first) (length ws) h) (both_no (leb first place))))
+        pub land_far : length ws < place - first → LandedIn ws first ix n (Err refusals.Page) mid
+        land_far h = unserved refusals.Page mid refl (serves_nowhere (rw (← g, lt-leb (place - first) (length ws) h) (both_no (leb first place))))
 
         -- the packets from there on are walked over
-        module _ (here : first ≤ place) (inside : place - first ≤ length ws) (reached : Length) (left : List ℕ)
-            (w : WalkedTo (behind_packets (n % 1024) ws (place - first) (take (k - 0) mid)) reached left) where
+        module _ (here : first ≤ place) (inside : place - first ≤ length ws) (left : List ℕ) where
           abbrev walked : Behind
           walked = behind_packets (n % 1024) ws (place - first) (take (k - 0) mid)
 
@@ -159,14 +163,16 @@ module _ (ws : List ℕ) (first : ℕ) (ix : List ℕ) (n : ℕ) where
           unfolding landing
           landing_is = rw (front, g, e)
 
-          pub land_short : (q : ℕ) → reached ≡ lengths.Refused q → LandedIn ws first ix n (Refused PAGE) (left ++ drop (k - 0) mid)
-          land_short q r =
-              unserved (left ++ drop (k - 0) mid) (serves_short (ap (λ (b : Behind). b.all) landing_is ∙ not_reached walked reached q w.answer r))
+          pub land_short : (r : Refusal) → WalkedTo (behind_packets (n % 1024) ws (place - first) (take (k - 0) mid)) (Err r) left
+              → LandedIn ws first ix n (Err r) (left ++ drop (k - 0) mid)
+          land_short r w =
+              let no = not_reached walked r w.answer in
+              unserved r (left ++ drop (k - 0) mid) no.1 (serves_short (ap (λ (b : Behind). b.all) landing_is ∙ no.0))
 
-          module _ (at : ℕ) (r : reached ≡ lengths.Accepted at) where
+          module _ (at : ℕ) (w : WalkedTo (behind_packets (n % 1024) ws (place - first) (take (k - 0) mid)) (Ok at) left) where
             come : ((behind_packets (n % 1024) ws (place - first) (take (k - 0) mid)).all ≡ true)
                 × ((behind_packets (n % 1024) ws (place - first) (take (k - 0) mid)).place ≡ at)
-            come = all_reached walked reached at w.answer r
+            come = all_reached walked at w.answer
 
             pub land_small : index_good ix ≡ true → n ≤ packets_taken ix → first + at < 2 ^ 64
             land_small good few = far_below ix n good few first place at ws (take (k - 0) mid) g here (sym come.1)
@@ -180,7 +186,7 @@ module _ (ws : List ℕ) (first : ℕ) (ix : List ℕ) (n : ℕ) where
             table_left =
                 ap length (w.table come.0) ∙ (behind_kept (n % 1024) ws (place - first) (take (k - 0) mid)).whole ∙ ap length front ∙ table_long
 
-            pub land_made : LandedIn ws first ix n (Accepted (record { length = k; place = first + at })) (left ++ drop (k - 0) mid)
+            pub land_made : LandedIn ws first ix n (Ok (record { length = k; place = first + at })) (left ++ drop (k - 0) mid)
             land_made =
                 let words : landing_words ix n ≡ k = rw (← e) made.1 in
                 record {

@@ -1,13 +1,13 @@
 -- A run of packets, as the walk has them. The idea: by induction over the packets, a run has as many entries as were asked for, and the last one goes on,
 -- exactly where the recording has them all; then it stands where they lead (`RunAs`).
+use Rattle.std.specs.Prelude.{Ok, Err}
 use Rattle.words.proofs.Kit.{◌≡◌, refl, sym, ap, ◌∙◌, true, false, ⊎_elim, List, [], ◌++◌, ℕ, zero, suc, ◌+◌, ◌-◌, ◌*◌, ◌/◌, ◌≤◌, ◌<◌, arith, length, take}
 use Rattle.words.proofs.Kit.{drop, get_or}
 use lib.ListN.{length-append, get_or-append}
 use mathlib.Core.List.{append_assoc}
 use lib.Seq.{get_or-append-add, length-take-le}
 use Rattle.words.specs.Tests.{when}
-use Rattle.words.specs.Numbers.{PAGE}
-use Rattle.words.specs.declared.Length.TheVariants.{Accepted, Refused}
+use Rattle.words.specs.declared.refusals.Refusal.TheVariants as refusals
 use Rattle.words.specs.Outcome.{refused, accepted}
 use Rattle.words.specs.Told.{Told}
 use Rattle.words.proofs.Cases.{true_or_false, true_is_false, le_or_lt}
@@ -149,22 +149,22 @@ module _ (n : ℕ) (ws : List ℕ) (from : ℕ) (t buffer : List ℕ) (r : Reach
         ap (λ (z : List ℕ). last_second n (z ++ rest)) out ∙ ap (last_second n) (append_assoc walked.entries _ rest)
         ∙ get_or-append walked.entries _ 0 (entry_words * n - 4) (omega (arith, long))
 
-    short_by : (behind_packets n ws from t).all ≡ false → WalkedTo (behind_packets n ws from t) (Refused PAGE) left
+    short_by : (behind_packets n ws from t).all ≡ false → WalkedTo (behind_packets n ws from t) (Err refusals.Page) left
     short_by a = record { answer = rw a; table = λ b. absurd (true_is_false (sym b ∙ a)) }
 
     -- there are fewer
-    pub run_fewer : (r.packets ≡ n → ⊥) → WalkedTo (behind_packets n ws from t) (Refused PAGE) left
+    pub run_fewer : (r.packets ≡ n → ⊥) → WalkedTo (behind_packets n ws from t) (Err refusals.Page) left
     run_fewer other =
         ⊎_elim (λ (a : (behind_packets n ws from t).all ≡ true). absurd (other (packets_is ∙ (run.there a).0))) short_by
         (true_or_false (behind_packets n ws from t).all)
 
     -- the last is not gone past
-    pub run_stopped : r.packets ≡ n → last_second n (written ++ rest) ≡ 0 → WalkedTo (behind_packets n ws from t) (Refused PAGE) left
+    pub run_stopped : r.packets ≡ n → last_second n (written ++ rest) ≡ 0 → WalkedTo (behind_packets n ws from t) (Err refusals.Page) left
     run_stopped e z =
         ⊎_elim (λ (a : (behind_packets n ws from t).all ≡ true). absurd (omega (arith, (run.there a).3 s, last_is e, z))) short_by
         (true_or_false (behind_packets n ws from t).all)
 
-    pub run_there : r.packets ≡ n → (last_second n (written ++ rest) ≡ 0 → ⊥) → WalkedTo (behind_packets n ws from t) (Accepted r.next) left
+    pub run_there : r.packets ≡ n → (last_second n (written ++ rest) ≡ 0 → ⊥) → WalkedTo (behind_packets n ws from t) (Ok r.next) left
     run_there e z =
         ⊎_elim
         (λ (a : (behind_packets n ws from t).all ≡ true).

@@ -1,10 +1,11 @@
 -- How the walk over some packets goes. The idea: after i of them, those that are left from the place where the walk stands give what all of them give (`Onto`);
 -- a turn takes the next k of them (`onto_turn`), and where these are not there the recording ends (`onto_short`).
+use Rattle.std.specs.Prelude.{Ok, Err, min}
 use Rattle.words.proofs.Kit.{◌≡◌, refl, sym, ap, ◌∙◌, true, false, not, ⊎_elim, List, [], ◌∷◌, ℕ, ◌+◌, ◌-◌, ◌*◌, ◌≤◌, ◌<◌, arith, not-false, length}
-use Rattle.words.specs.declared.Length.{Length}
-use Rattle.words.specs.declared.Length.TheVariants.{Accepted, Refused}
 use Rattle.words.specs.Numbers.{PAGE}
-use Rattle.words.specs.Outcome.{refused, accepted, measured}
+use Rattle.words.specs.declared.refusals.Refusal.{Refusal}
+use Rattle.words.specs.Listed.{list_number}
+use Rattle.words.specs.Outcome.{Outcome, refused, accepted}
 use Rattle.words.proofs.Cases.{true_or_false, true_is_false, accepted_same}
 use Rattle.words.proofs.RefusalLaws.{first_passed}
 use Rattle.table.specs.Well.{well_made}
@@ -15,18 +16,21 @@ use Rattle.index_jump.proofs.BehindLaws.{behind_none, behind_split, behind_fewer
 
 -- ---- what an answer tells
 
-pub not_reached : (b : Behind) (r : Length) (q : ℕ) → measured r ≡ reached_place b → r ≡ Refused q → b.all ≡ false
-not_reached b r q e f =
+pub not_reached : (b : Behind) (r : Refusal) → refused (list_number r) ≡ reached_place b → (b.all ≡ false) × (list_number r ≡ PAGE)
+not_reached b r e =
     ⊎_elim
     (λ (g : b.all ≡ true).
-    let z : refused q ≡ accepted b.place = sym (ap measured f) ∙ e ∙ rw g in
+    let z : refused (list_number r) ≡ accepted b.place = e ∙ rw g in
     let x : ◌≡◌ {A = ℕ} 0 1 = cc in
     absurd (omega arith))
-    (λ (g : b.all ≡ false). g) (true_or_false b.all)
+    (λ (g : b.all ≡ false).
+    let z : ◌≡◌ {A = Outcome ℕ} (refused (list_number r)) (refused PAGE) = e ∙ rw g in
+    (g, cc))
+    (true_or_false b.all)
 
-pub all_reached : (b : Behind) (r : Length) (at : ℕ) → measured r ≡ reached_place b → r ≡ Accepted at → (b.all ≡ true) × (b.place ≡ at)
-all_reached b r at e f =
-    let q = first_passed ((PAGE, not b.all) ∷ []) (accepted b.place) at (sym e ∙ ap measured f) in
+pub all_reached : (b : Behind) (at : ℕ) → accepted at ≡ reached_place b → (b.all ≡ true) × (b.place ≡ at)
+all_reached b at e =
+    let q = first_passed ((PAGE, not b.all) ∷ []) (accepted b.place) at (sym e) in
     (not-false b.all q.0.0, accepted_same q.1)
 
 -- ---- the loop
@@ -45,45 +49,45 @@ onto_start n ws from t entries w =
     record { most = omega arith; well = w; same = refl; room = refl; is = ap (λ (k : ℕ). behind_packets k ws from t) e }
 
 module _ {n from at i : ℕ} {ws t₀ entries₀ t entries : List ℕ} (p : Onto n ws from t₀ entries₀ t entries at i) where
-  pub onto_end : n ≤ i → WalkedTo (behind_packets n ws from t₀) (Accepted at) t
+  pub onto_end : n ≤ i → WalkedTo (behind_packets n ws from t₀) (Ok at) t
   onto_end h =
       let none : n - i ≡ 0 = omega arith in
       rw (p.is, none, behind_none ws at t) (record { answer = refl; table = λ _. refl })
 
   -- the next k are played
-  module _ (k : ℕ) (few : (k ≤ n - i) × (k ≤ 32) × (1 ≤ n - i → 1 ≤ 32 → 1 ≤ k)) (h : i < n) where
+  module _ (k : ℕ) (few : k ≡ min (n - i) 32) (h : i < n) where
     pub onto_some : 1 ≤ k
-    onto_some = few.2 (omega arith) (omega arith)
+    onto_some = omega (arith, few, h)
 
     pub onto_room : length entries₀ ≡ 160 → entry_words * k ≤ length entries
-    onto_room l = omega (arith, few.1, l, p.room)
+    onto_room l = omega (arith, few, l, p.room)
 
     pub onto_less : n - (i + k) < n - i
-    onto_less = omega (arith, onto_some, few.0, h)
+    onto_less = omega (arith, few, h)
 
     cut : n - i ≡ k + (n - (i + k))
-    cut = omega (arith, few.0, h)
+    cut = omega (arith, few, h)
 
-    module _ (r : Length) (left : List ℕ) (w : WalkedTo (behind_packets k ws at t) r left) where
-      pub onto_short : (m : ℕ) → r ≡ Refused m → WalkedTo (behind_packets n ws from t₀) (Refused PAGE) left
-      onto_short m e =
-          let no = not_reached (behind_packets k ws at t) r m w.answer e in
+    module _ (left : List ℕ) where
+      pub onto_short : (r : Refusal) → WalkedTo (behind_packets k ws at t) (Err r) left → WalkedTo (behind_packets n ws from t₀) (Err r) left
+      onto_short r w =
+          let no = not_reached (behind_packets k ws at t) r w.answer in
           let all : (behind_packets n ws from t₀).all ≡ (behind_packets (k + (n - (i + k))) ws at t).all =
           ap (λ (b : Behind). b.all) (p.is ∙ ap (λ (j : ℕ). behind_packets j ws at t) cut) in
           ⊎_elim
           (λ (a : (behind_packets n ws from t₀).all ≡ true).
-          absurd (true_is_false (sym (behind_fewer k (n - (i + k)) ws at t (sym all ∙ a)) ∙ no)))
-          (λ (a : (behind_packets n ws from t₀).all ≡ false). record { answer = rw a; table = λ b. absurd (true_is_false (sym b ∙ a)) })
+          absurd (true_is_false (sym (behind_fewer k (n - (i + k)) ws at t (sym all ∙ a)) ∙ no.0)))
+          (λ (a : (behind_packets n ws from t₀).all ≡ false). record { answer = rw (no.1, a); table = λ b. absurd (true_is_false (sym b ∙ a)) })
           (true_or_false (behind_packets n ws from t₀).all)
 
-      pub onto_turn : (next : ℕ) (written : List ℕ) → r ≡ Accepted next → length written ≡ length entries
+      pub onto_turn : (next : ℕ) (written : List ℕ) → WalkedTo (behind_packets k ws at t) (Ok next) left → length written ≡ length entries
           → Onto n ws from t₀ entries₀ left written next (i + k)
-      onto_turn next written e l =
-          let q = all_reached (behind_packets k ws at t) r next w.answer e in
+      onto_turn next written w l =
+          let q = all_reached (behind_packets k ws at t) next w.answer in
           let table = w.table q.0 in
           let kept = behind_kept k ws at t in
           record {
-            most = omega (arith, few.0, h);
+            most = omega (arith, few, h);
             well = ap well_made table ∙ kept.well p.well;
             same = ap length table ∙ kept.whole ∙ p.same;
             room = l ∙ p.room;

@@ -5,7 +5,7 @@
 use Rattle.std.specs.Prelude.{ℕ, ◌+◌, ◌-◌, ◌/◌, ◌%◌, Bool, not, List, [], ◌∷◌, ◌++◌, ltb, leb, length, drop}
 use Rattle.words.specs.Numbers.{PAGE, PLACE, ROOM}
 use Rattle.words.specs.Tests.{both}
-use Rattle.words.specs.Outcome.{Outcome, refused, accepted, Done}
+use Rattle.words.specs.Outcome.{Outcome, accepted, Done}
 use Rattle.words.specs.Refusals.{Refusals, first_given}
 use Rattle.table.specs.Layout.{layout_words}
 use Rattle.page.specs.Layout.{bodies_in, table_of}
@@ -13,8 +13,6 @@ use Rattle.page.specs.Good.{page_good}
 use Rattle.index.specs.Layout.{spacing, packets_taken, entry_place, page_in}
 use Rattle.index.specs.Good.{index_good}
 use Rattle.index_jump.specs.declared.Landed.{Landed}
-use Rattle.index_jump.specs.declared.Jumped.{Jumped}
-use Rattle.index_jump.specs.declared.Jumped.TheVariants.{Accepted, Refused}
 use Rattle.index_jump.specs.Onward.{Behind, behind_packets}
 
 -- the entry before packet n, and the number of packets from its boundary to n
@@ -66,7 +64,3 @@ landed_done ws first ix n t = record {
 -- what a jump answers, and what it leaves in the table
 unfoldable pub jump_of : List ℕ → ℕ → List ℕ → ℕ → List ℕ → Outcome (Done Landed (List ℕ))
 jump_of ws first ix n t = first_given (jump_list ws first ix n t) (accepted (landed_done ws first ix n t))
-
-abbrev pub jumped_paper : Jumped → Outcome Landed
-jumped_paper (Refused n) = refused n
-jumped_paper (Accepted l) = accepted l

@@ -9,19 +9,13 @@ ghost use Rattle.index_jump.specs.Onward.{behind_packets};
 ghost use Rattle.index_jump.specs.Jump.{page_before};
 ghost use Rattle.index_jump.specs.inner.Steps.{WalkedTo, Spacious, LandedIn};
 
-use crate::{Jumped, Landed};
+use crate::Landed;
+use words::Refusal;
 
 // The packets that are played at a time, and the words of their entries.
 const RUN_PACKETS: usize = 32;
 
 const RUN_WORDS: usize = 160;
-
-// The smaller of two numbers.
-fn smaller(a: usize, b: usize) -> usize
-    ensures { (result ≤ a) × (result ≤ b) × (1 ≤ a → 1 ≤ b → 1 ≤ result) }
-{
-    if a < b { a } else { b }
-}
 
 // Plays n packets in one run, from a place on, on a table that is known to be well made, and gives the place behind them; PAGE where the recording ends before:
 // there are fewer, or the last is not gone past, which its entry's second word tells.
@@ -31,48 +25,45 @@ fn walk_run(
     from: usize,
     entries: &mut [u32],
     n: usize,
-) -> words::Length
+) -> Result<usize, Refusal>
     requires { (well_made table.old ≡ true) × (1 ≤ n) × (entry_words * n ≤ length entries.old) }
     ensures { WalkedTo (behind_packets n given.now from table.old) result table.new }
 {
     let end = play::inner::ENTRY_WORDS * n;
     let reached = play::inner::run_on(table, given, from, &mut entries[0..end]);
     if reached.packets != n {
-        return words::Length::Refused(words::PAGE);
+        return Err(Refusal::Page);
     }
     if entries[end - 4] == 0 {
-        return words::Length::Refused(words::PAGE);
+        return Err(Refusal::Page);
     }
-    words::Length::Accepted(reached.next)
+    Ok(reached.next)
 }
 
-// Plays n packets from a place on, on a table that is known to be well made, and gives the place behind them; PAGE where the recording ends before.
+// Plays n packets from a place on, on a table that is known to be well made, and gives the place behind them; PAGE where the recording ends before. They are
+// played in runs, of which the last has those that are left.
 fn walk_on(
     table: &mut [u32],
     given: &[u32],
     from: usize,
     n: usize,
     entries: &mut [u32],
-) -> words::Length
+) -> Result<usize, Refusal>
     requires { (well_made table.old ≡ true) × (length entries.old ≡ 160) }
     ensures { WalkedTo (behind_packets n given.now from table.old) result table.new }
 {
     let mut at = from;
     let mut i = 0;
     while i < n {
-        let k = smaller(n - i, RUN_PACKETS);
-        let reached = walk_run(table, given, at, entries, k);
-        let words::Length::Accepted(next) = reached else {
-            return words::Length::Refused(words::PAGE);
-        };
-        at = next;
+        let k = (n - i).min(RUN_PACKETS);
+        at = walk_run(table, given, at, entries, k)?;
         i += k;
     }
-    words::Length::Accepted(at)
+    Ok(at)
 }
 
 // The same, with words for the entries of a run.
-fn walk(table: &mut [u32], given: &[u32], from: usize, n: usize) -> words::Length
+fn walk(table: &mut [u32], given: &[u32], from: usize, n: usize) -> Result<usize, Refusal>
     requires { well_made table.old ≡ true }
     ensures { WalkedTo (behind_packets n given.now from table.old) result table.new }
 {
@@ -100,33 +91,33 @@ pub fn few_before(index: &[u32], n: usize) -> bool
 }
 
 // Lands just before packet n in the words that are lent, which have room for the table; tells the layout's length, and the word place in the recording.
-pub fn land(given: &[u32], first: u64, index: &[u32], n: usize, space: &mut [u32]) -> Jumped
+pub fn land(
+    given: &[u32],
+    first: u64,
+    index: &[u32],
+    n: usize,
+    space: &mut [u32],
+) -> Result<Landed, Refusal>
     requires { (index_good index.now ≡ true) × (n ≤ packets_taken index.now) × Spacious index.now n (length space.old) }
     ensures { LandedIn given.now first index.now n result space.new }
 {
     let j = n / index::inner::SPACING;
-    let back = page::put_back(page_in(index, j), space);
-    let words::Length::Accepted(length) = back else {
-        return Jumped::Refused(words::PAGE);
-    };
+    let length = page::put_back(page_in(index, j), space)?;
     let place = index::inner::entry_place(index, j);
     if place < first {
-        return Jumped::Refused(words::PAGE);
+        return Err(Refusal::Page);
     }
     if (given.len() as u64) < place - first {
-        return Jumped::Refused(words::PAGE);
+        return Err(Refusal::Page);
     }
     let from = (place - first) as usize;
-    let reached = walk(
+    let at = walk(
         &mut space[0..length],
         given,
         from,
         n % index::inner::SPACING,
-    );
-    let words::Length::Accepted(at) = reached else {
-        return Jumped::Refused(words::PAGE);
-    };
-    Jumped::Accepted(Landed {
+    )?;
+    Ok(Landed {
         length,
         place: first + at as u64,
     })

@@ -1,22 +1,19 @@
 // An index that is started, and grown packet by packet.
 use crate::State;
-use index_grow::{Grown, Taken};
+use index_grow::Taken;
 use std::io;
 use std::io::{Read, Write};
-use words::{Length, Refusal};
+use words::{Refusal, RefusedAt};
 
-// Where growing stands: the packets taken in, and how many of them were undeclared; the check number of their answers; the place in the recording; and whether
-// it goes on, or the refusal.
+// Where growing stands: the packets taken in, and how many of them were undeclared; the check number of their answers; the place in the recording; and the
+// refusal that ended it.
 #[derive(Clone, Copy)]
 pub struct Growth {
     pub taken: u32,
     pub undeclared: u32,
     pub answers: u32,
     pub at: usize,
-    pub goes_on: bool,
-    pub number: u32,
-    pub place: usize,
-    pub bit: u32,
+    pub ended: Option<RefusedAt>,
 }
 
 // Starts the index with the table.
@@ -28,12 +25,12 @@ pub fn start(
 ) -> io::Result<State> {
     let answer = index::start_index(table, index);
     let at = match answer {
-        Length::Accepted(n) => {
+        Ok(n) => {
             lines::inner::named(output, b"start", n as u64)?;
             0
         }
-        Length::Refused(number) => {
-            lines::inner::named(output, b"start refused", number as u64)?;
+        Err(refusal) => {
+            lines::inner::named(output, b"start refused", u32::from(refusal) as u64)?;
             s.at
         }
     };
@@ -80,7 +77,7 @@ fn grown_by(g: Growth, packet: Taken, n: usize) -> Growth {
             undeclared: g.undeclared.wrapping_add(1),
             answers: fold_five(
                 g.answers,
-                words::STREAM as u64,
+                u32::from(Refusal::Stream) as u64,
                 p.size as u64,
                 p.place as u64,
                 0,
@@ -92,23 +89,14 @@ fn grown_by(g: Growth, packet: Taken, n: usize) -> Growth {
     }
 }
 
-// Growth that a refusal ends.
-fn ended_by(g: Growth, r: Refusal) -> Growth {
-    let place = r.place;
-    Growth {
-        goes_on: false,
-        number: r.number,
-        place: words::inner::place_word(place),
-        bit: words::inner::place_bit(place),
-        ..g
-    }
-}
-
 // Growth by the packet at the front of the words; the recording has n.
 fn grow_by(g: Growth, table: &mut [u32], given: &[u32], index: &mut [u32], n: usize) -> Growth {
     match index_grow::grow(table, given, index) {
-        Grown::Accepted(packet) => grown_by(g, packet, n),
-        Grown::Refused(r) => ended_by(g, r),
+        Ok(packet) => grown_by(g, packet, n),
+        Err(r) => Growth {
+            ended: Some(r),
+            ..g
+        },
     }
 }
 
@@ -141,7 +129,7 @@ fn grow_all(
 ) -> Growth {
     let mut g = start;
     for _ in 0..most {
-        if !g.goes_on {
+        if g.ended.is_some() {
             return g;
         }
         g = grow_once(g, table, given, index, alone);
@@ -154,10 +142,11 @@ fn show(output: &mut impl Write, g: Growth) -> io::Result<()> {
     lines::inner::named(output, b"grow", g.taken as u64)?;
     lines::inner::named(output, b"undeclared", g.undeclared as u64)?;
     lines::inner::named(output, b"answers", g.answers as u64)?;
-    if !g.goes_on {
-        lines::inner::named(output, b"refused", g.number as u64)?;
-        lines::inner::named(output, b"place", g.place as u64)?;
-        lines::inner::named(output, b"bit", g.bit as u64)?;
+    if let Some(r) = g.ended {
+        let place = r.place;
+        lines::inner::named(output, b"refused", u32::from(r.refusal) as u64)?;
+        lines::inner::named(output, b"place", words::inner::place_word(place) as u64)?;
+        lines::inner::named(output, b"bit", words::inner::place_bit(place) as u64)?;
     }
     Ok(())
 }
@@ -178,10 +167,7 @@ pub fn grow(
         undeclared: 0,
         answers: 0,
         at: s.at,
-        goes_on: true,
-        number: 0,
-        place: 0,
-        bit: 0,
+        ended: None,
     };
     let g = grow_all(start, table, given, index, most, alone);
     show(output, g)?;

@@ -1,16 +1,17 @@
 // A jump, in a table of its own.
-use index_jump::Jumped;
+use index_jump::Landed;
 use std::io;
 use std::io::{Read, Write};
+use words::Refusal;
 
 // What a jump answers.
-fn show(output: &mut impl Write, answer: Jumped) -> io::Result<()> {
+fn show(output: &mut impl Write, answer: Result<Landed, Refusal>) -> io::Result<()> {
     match answer {
-        Jumped::Accepted(l) => {
+        Ok(l) => {
             lines::inner::named(output, b"jump", l.length as u64)?;
             lines::inner::named(output, b"place", l.place)
         }
-        Jumped::Refused(number) => lines::inner::named(output, b"jump refused", number as u64),
+        Err(refusal) => lines::inner::named(output, b"jump refused", u32::from(refusal) as u64),
     }
 }
 

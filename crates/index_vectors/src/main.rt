@@ -138,8 +138,7 @@ fn main(rt: HostRuntime) -> io::Result<()> {
         at: 0,
     };
     for k in 0..0xFFFF_FFFF {
-        let next = lines::inner::next_word(&mut input)?;
-        let lines::inner::Input::Word(kind) = next else {
+        let Some(kind) = lines::inner::next_word(&mut input)? else {
             return Ok(());
         };
         lines::inner::number(&mut output, k)?;

@@ -2,15 +2,14 @@
 use crate::State;
 use std::io;
 use std::io::{Read, Write};
-use words::Length;
 
 // A table for a list: its identifiers, and as many choices.
 fn start_for(output: &mut impl Write, list: &[u32], table: &mut [u32]) -> io::Result<()> {
     lines::inner::pattern(table);
     let n = list.len() / 2;
     match table::start(&list[0..n], &list[n..], table) {
-        Length::Accepted(length) => lines::inner::named(output, b"table", length as u64),
-        Length::Refused(number) => lines::inner::named(output, b"table refused", number as u64),
+        Ok(length) => lines::inner::named(output, b"table", length as u64),
+        Err(refusal) => lines::inner::named(output, b"table refused", u32::from(refusal) as u64),
     }
 }
 

@@ -4,13 +4,6 @@ ghost use Rattle.std.specs.Prelude.{◌≤◌, IfOk, length};
 use std::io;
 use std::io::{ErrorKind, Read};
 
-// The next word of the input, or its end.
-#[derive(Clone, Copy)]
-pub enum Input {
-    Word(u32),
-    End,
-}
-
 // The word of four bytes, the first of them highest.
 pub fn big_endian(a: u8, b: u8, c: u8, d: u8) -> u32 {
     u32::from_be_bytes([a, b, c, d])
@@ -38,28 +31,25 @@ pub fn read_full(input: &mut impl Read, buffer: &mut [u8]) -> io::Result<usize>
     Ok(done)
 }
 
-// The next word of the input; its end where fewer than four bytes are left.
-pub fn next_word(input: &mut impl Read) -> io::Result<Input> {
+// The next word of the input; none where fewer than four bytes are left.
+pub fn next_word(input: &mut impl Read) -> io::Result<Option<u32>> {
     let mut bytes = [0u8; 4];
     let n = read_full(input, &mut bytes)?;
     if n < 4 {
-        return Ok(Input::End);
+        return Ok(None);
     }
-    Ok(Input::Word(big_endian(bytes[0], bytes[1], bytes[2], bytes[3])))
+    Ok(Some(u32::from_be_bytes(bytes)))
 }
 
 // The next word of the input; 0 past its end.
 pub fn word(input: &mut impl Read) -> io::Result<u32> {
-    match next_word(input)? {
-        Input::Word(w) => Ok(w),
-        Input::End => Ok(0),
-    }
+    Ok(next_word(input)?.unwrap_or(0))
 }
 
 // Fills a buffer with the next words of the input; whether all were there.
 pub fn fill(input: &mut impl Read, words: &mut [u32]) -> io::Result<bool> {
     for place in words {
-        let Input::Word(w) = next_word(input)? else {
+        let Some(w) = next_word(input)? else {
             return Ok(false);
         };
         *place = w;

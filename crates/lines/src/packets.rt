@@ -3,11 +3,11 @@ use crate::output::{named, named_flag, text};
 use packet::{Packet, Parts, Survey};
 use std::io;
 use std::io::Write;
-use words::{Refusal, Where};
+use words::{RefusedAt, Where};
 
 // Writes a refusal: its number, and the word and the field's bit where they are told.
-pub fn show_refusal(output: &mut impl Write, r: Refusal) -> io::Result<()> {
-    named(output, b"refused", r.number as u64)?;
+pub fn show_refusal(output: &mut impl Write, r: RefusedAt) -> io::Result<()> {
+    named(output, b"refused", u32::from(r.refusal) as u64)?;
     let place = r.place;
     match place {
         Where::Nowhere => Ok(()),

@@ -3,9 +3,8 @@
 use Rattle.words.proofs.Kit.{◌≡◌, sym, ap, ◌∙◌, Bool, true, false, List, [], ◌∷◌, ◌++◌, ℕ, ◌≤◌, ◌<◌, arith, eqb-true, ltb-false, ne_eqb}
 use Rattle.words.proofs.Kit.{not-false, eqb, length, get_or}
 use borrow.Author.Tests.{eqb-false}
-use Rattle.words.specs.declared.Check.{Check}
 use Rattle.words.specs.Tests.{both}
-use Rattle.words.specs.Outcome.{refused, accepted, after, onward, checked}
+use Rattle.words.specs.Outcome.{Outcome, refused, accepted, after, onward}
 use Rattle.words.specs.Refusals.{Refusals, first_given}
 use Rattle.words.proofs.Cases.{both_no}
 use Rattle.words.proofs.RefusalLaws.{None, first_passed, after_first, onward_first}
@@ -119,86 +118,64 @@ module _ (ws : List ℕ) where
   pub survey_unread : (n : ℕ) → read_survey_of ws ≡ refused n → read_by true ws ≡ refused n
   survey_unread n e = survey_read ∙ rw e
 
--- ---- the steps as the code asks them
+-- ---- the steps as the code asks them: what a step refuses ends the chain, and where it finds nothing the rest decides
 
--- the prologue and the body of a plain packet
-module _ (w : ℕ) (ws : List ℕ) (front : Check) (f : checked front ≡ prologue_checks false w ws) where
-  pub prologue_refused : (n : ℕ) → front ≡ Check.Refused n → refused n ≡ rest_checks false w ws
-  prologue_refused n r = rw (rest_steps w ws, ← f, r)
+module _ (w : ℕ) (ws : List ℕ) where
+  -- the prologue and the body of a plain packet
+  pub prologue_refused : (n : ℕ) → refused n ≡ prologue_checks false w ws → refused n ≡ rest_checks false w ws
+  prologue_refused n e = rw (rest_steps w ws, ← e)
 
-  module _ (fine : front ≡ Check.Fine) (body : Check) (b : checked body ≡ body_checks (type_of w) (body_of w ws)) where
-    pub body_asked : checked body ≡ rest_checks false w ws
-    body_asked = rw (rest_steps w ws, ← f, fine) b
+  pub body_asked : (o : Outcome Unit) → accepted tt ≡ prologue_checks false w ws → o ≡ body_checks (type_of w) (body_of w ws) → o ≡ rest_checks false w ws
+  body_asked o f e = rw (rest_steps w ws, ← f) e
 
-    pub body_refused : (n : ℕ) → body ≡ Check.Refused n → refused n ≡ rest_checks false w ws
-    body_refused n r = sym (ap checked r) ∙ body_asked
+  -- the prologue of a packet that 49A governs, and then its payload
+  pub governed_refused : (n : ℕ) → refused n ≡ prologue_checks true w ws → refused n ≡ governed_checks w ws
+  governed_refused n e = rw (governed_steps w ws, ← e)
 
-    pub body_fine : body ≡ Check.Fine → rest_checks false w ws ≡ accepted tt
-    body_fine e = sym body_asked ∙ ap checked e
+  pub payload_asked : (o : Outcome Unit) (high low : ℕ) → accepted tt ≡ prologue_checks true w ws → high ≡ class_high w ws → low ≡ class_low w ws
+      → o ≡ payload_checks w high low → o ≡ governed_checks w ws
+  payload_asked o high low f h g e = rw (governed_steps w ws, ← f, ← h, ← g) e
 
--- the prologue of a packet that 49A governs, and then its payload
-module _ (w : ℕ) (ws : List ℕ) (front : Check) (f : checked front ≡ prologue_checks true w ws) where
-  pub governed_refused : (n : ℕ) → front ≡ Check.Refused n → refused n ≡ governed_checks w ws
-  governed_refused n r = rw (governed_steps w ws, ← f, r)
+  -- what is left of a packet that it governs, and of one that it does not
+  module _ (kind : ℕ) (k : kind ≡ type_of w) (o : Outcome Unit) where
+    pub governed_asked : kind ≡ 1 → o ≡ governed_checks w ws → o ≡ rest_checks true w ws
+    governed_asked one e = rw (rest_governed w ws (sym k ∙ one)) e
 
-  module _ (fine : front ≡ Check.Fine) (high low : ℕ) (h : high ≡ class_high w ws) (g : low ≡ class_low w ws) (payload : Check)
-      (p : checked payload ≡ payload_checks w high low) where
-    pub payload_asked : checked payload ≡ governed_checks w ws
-    payload_asked = rw (governed_steps w ws, ← f, fine, ← h, ← g) p
-
-    pub payload_refused : (n : ℕ) → payload ≡ Check.Refused n → refused n ≡ governed_checks w ws
-    payload_refused n r = sym (ap checked r) ∙ payload_asked
-
-    pub payload_fine : payload ≡ Check.Fine → governed_checks w ws ≡ accepted tt
-    payload_fine e = sym payload_asked ∙ ap checked e
-
-pub payload_passed : (w high low : ℕ) (payload : Check) → checked payload ≡ payload_checks w high low → payload ≡ Check.Fine
-    → payload_checks w high low ≡ accepted tt
-payload_passed w high low payload p e = sym p ∙ ap checked e
-
-module _ (w : ℕ) (ws : List ℕ) (one : type_of w ≡ 1) where
-  pub governed_refuses : (n : ℕ) → refused n ≡ governed_checks w ws → refused n ≡ rest_checks true w ws
-  governed_refuses n e = rw (rest_governed w ws one) e
-
-  pub governed_passes : governed_checks w ws ≡ accepted tt → rest_checks true w ws ≡ accepted tt
-  governed_passes e = rw (rest_governed w ws one) e
-
--- what is left, of a packet by the choice
-module _ (survey : Bool) (w : ℕ) (ws : List ℕ) (rest : Check) (r : checked rest ≡ rest_checks survey w ws) where
-  pub rest_refused : (n : ℕ) → rest ≡ Check.Refused n → refused n ≡ rest_checks survey w ws
-  rest_refused n e = sym (ap checked e) ∙ r
-
-  pub rest_fine : rest ≡ Check.Fine → rest_checks survey w ws ≡ accepted tt
-  rest_fine e = sym r ∙ ap checked e
+    pub plain_asked : (kind ≡ 1 → ⊥) → o ≡ rest_checks false w ws → o ≡ rest_checks true w ws
+    plain_asked d e = rw (rest_other w ws true (λ one. d (k ∙ one))) e
 
 -- header and size first
-module _ (ws : List ℕ) (sized : Check) (s : checked sized ≡ sized_checks ws) where
-  pub refused_first : (survey : Bool) (n : ℕ) → sized ≡ Check.Refused n → refused n ≡ read_by survey ws
-  refused_first survey n r = sym (sized_refuses survey ws n (sym s ∙ ap checked r))
+module _ (ws : List ℕ) where
+  pub header_refused : (length ws ≡ 0 → ⊥) → (n : ℕ) → refused n ≡ header_checks (get_or ws 0 0) → refused n ≡ sized_checks ws
+  header_refused d n e = rw (sized_checks_lem ws d, ← e)
 
-  module _ (fine : sized ≡ Check.Fine) where
-    passed_first : sized_checks ws ≡ accepted tt
-    passed_first = sym s ∙ ap checked fine
+  pub size_asked : (length ws ≡ 0 → ⊥) → (o : Outcome Unit) → accepted tt ≡ header_checks (get_or ws 0 0) → o ≡ size_checks (get_or ws 0 0) (length ws)
+      → o ≡ sized_checks ws
+  size_asked d o f e = rw (sized_checks_lem ws d, ← f) e
 
+  pub refused_first : (survey : Bool) (n : ℕ) → refused n ≡ sized_checks ws → refused n ≡ read_by survey ws
+  refused_first survey n e = sym (sized_refuses survey ws n (sym e))
+
+  module _ (fine : accepted tt ≡ sized_checks ws) where
     pub header_there : 0 < length ws
-    header_there = sized_some ws passed_first
+    header_there = sized_some ws (sym fine)
 
     pub required_fits : required_of (get_or ws 0 0) ≤ size_of (get_or ws 0 0)
-    required_fits = (sized_fits ws passed_first).0
+    required_fits = (sized_fits ws (sym fine)).0
 
     pub size_fits : size_of (get_or ws 0 0) ≤ length ws
-    size_fits = (sized_fits ws passed_first).1
+    size_fits = (sized_fits ws (sym fine)).1
 
     pub none_reserved : reserved_of (get_or ws 0 0) ≡ 0
-    none_reserved = sized_reserved ws passed_first
+    none_reserved = sized_reserved ws (sym fine)
 
     module _ (survey : Bool) where
       pub refused_then : (n : ℕ) → refused n ≡ rest_checks survey (get_or ws 0 0) ws → refused n ≡ read_by survey ws
-      refused_then n e = sym (rest_refuses survey ws passed_first n (sym e))
+      refused_then n e = sym (rest_refuses survey ws (sym fine) n (sym e))
 
-      module _ (e : rest_checks survey (get_or ws 0 0) ws ≡ accepted tt) where
+      module _ (e : accepted tt ≡ rest_checks survey (get_or ws 0 0) ws) where
         pub accepted_then : read_by survey ws ≡ accepted (packet_of (get_or ws 0 0) ws)
-        accepted_then = rest_accepted survey ws passed_first e
+        accepted_then = rest_accepted survey ws (sym fine) (sym e)
 
         pub packet_given : (p : Packet) → p ≡ packet_of (get_or ws 0 0) ws → accepted p ≡ read_by survey ws
         packet_given p q = rw q (sym accepted_then)

@@ -5,11 +5,13 @@ use Rattle.words.proofs.Kit.{get_or, Bool, false}
 use native.Mathlib.Nat.{le_refl, mod-lt}
 use borrow.Author.Tests.{eqb-false}
 use Rattle.words.specs.Numbers.{STREAM}
+use Rattle.words.specs.declared.refusals.Refusal.TheVariants as refusals
+use Rattle.words.specs.Listed.{IsListed}
 use Rattle.words.specs.Outcome.{refused, accepted}
 use Rattle.words.specs.Refusals.{only_where}
 use Rattle.words.specs.Part.{part}
 use Rattle.words.proofs.Cases.{accepted_same}
-use Rattle.words.proofs.RefusalLaws.{Numbered, first_passed, none_given, number_among}
+use Rattle.words.proofs.RefusalLaws.{Numbers, Numbered, first_passed, none_given, number_among}
 use Rattle.fields.specs.Layout.{context_of}
 use Rattle.packet.specs.declared.Packet.{Packet}
 use Rattle.packet.specs.Header.{type_of, size_of}
@@ -123,6 +125,31 @@ module _ (survey : Bool) (ws : List ℕ) (p : Packet) (e : read_by survey ws ≡
   size_said = rw (← (read_accepts survey ws p e).says)
 
 -- ---- the numbers of reading
+
+-- a refusal's number is one of the list
+pub read_listed : (survey : Bool) (ws : List ℕ) (n : ℕ) → read_by survey ws ≡ refused n → IsListed n
+unfolding read_by
+read_listed survey ws n e =
+    let all : Numbers IsListed (list_by survey (get_or ws 0 0) ws) = (
+      (refusals.Empty, refl),
+      (
+        (refusals.Kind, refl),
+        (
+          (refusals.Bits, refl),
+          (
+            (refusals.Short, refl),
+            (
+              (refusals.Cut, refl),
+              (
+                (refusals.Class, refl),
+                ((refusals.Time, refl), ((refusals.Indicator, refl), ((refusals.Layout, refl), ((refusals.Field, refl), ((refusals.Pad, refl), tt))))),
+              ),
+            ),
+          ),
+        ),
+      ),
+    ) in
+    subst (Numbered IsListed) e (number_among IsListed (list_by survey (get_or ws 0 0) ws) _ all tt)
 
 -- a refusal's number is not STREAM's
 pub read_number : (survey : Bool) (ws : List ℕ) (n : ℕ) → read_by survey ws ≡ refused n → n ≡ STREAM → ⊥

@@ -4,16 +4,13 @@ use Rattle.std.specs.Prelude.{ℕ, ◌^◌, Bool, false, not, List, [], ◌∷�
 use Rattle.words.specs.Numbers.{EMPTY, TYPE, BITS, SHORT, CUT, CLASS, TIME, PAD}
 use Rattle.words.specs.Tests.{both}
 use Rattle.words.specs.Word.{bits}
-use Rattle.words.specs.Outcome.{Outcome, refused, accepted}
+use Rattle.words.specs.Outcome.{Outcome, accepted}
 use Rattle.words.specs.Refusals.{Refusals, first_given, only_where}
-use Rattle.words.specs.Told.{Told}
 use Rattle.fields.specs.Layout.{context_list}
 use Rattle.packet_survey.specs.Payload.{pad_bad}
 use Rattle.packet.specs.Header.{type_of, classed, trailed, reserved_of, tsf_of, size_of}
 use Rattle.packet.specs.Parts.{required_of, body_length, class_high, class_low, fraction_of, body_of, packet_of}
 use Rattle.packet.specs.declared.Packet.{Packet}
-use Rattle.packet.specs.declared.Parsed.{Parsed}
-use Rattle.packet.specs.declared.Parsed.TheVariants.{Accepted, Refused}
 
 -- "type above 5"; "reserved header bit set"
 abbrev pub header_list : ℕ → Refusals
@@ -71,8 +68,3 @@ read_list w ws = front_list false w ws ++ body_list (type_of w) (body_of w ws)
 
 abbrev pub read_of : List ℕ → Outcome Packet
 read_of ws = read_by false ws
-
--- the refusal and values of an answer
-abbrev pub parsed_paper : Parsed → Told Packet
-parsed_paper (Refused n) = refused n
-parsed_paper (Accepted p) = accepted p

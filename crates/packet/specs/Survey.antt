@@ -2,17 +2,14 @@
 -- format, and n, the items of the payload. Of other types these four are zero.
 use Rattle.std.specs.Prelude.{ℕ, true, List, eqb, get_or}
 use Rattle.words.specs.Tests.{when}
-use Rattle.words.specs.Outcome.{Outcome, refused, accepted}
+use Rattle.words.specs.Outcome.{Outcome, accepted}
 use Rattle.words.specs.Refusals.{first_given}
-use Rattle.words.specs.Told.{Told}
 use Rattle.packet_survey.specs.Class.{pad_of}
 use Rattle.packet_survey.specs.Payload.{items_in, format_first, format_second}
 use Rattle.packet.specs.Header.{type_of}
 use Rattle.packet.specs.Parts.{body_length, class_high, class_low, packet_of}
 use Rattle.packet.specs.Read.{list_by}
 use Rattle.packet.specs.declared.Survey.{Survey}
-use Rattle.packet.specs.declared.ParsedSurvey.{ParsedSurvey}
-use Rattle.packet.specs.declared.ParsedSurvey.TheVariants.{Accepted, Refused}
 
 unfoldable pub survey_of : ℕ → List ℕ → Survey
 survey_of w ws =
@@ -27,8 +24,3 @@ survey_of w ws =
 
 unfoldable pub read_survey_of : List ℕ → Outcome Survey
 read_survey_of ws = first_given (list_by true (get_or ws 0 0) ws) (accepted (survey_of (get_or ws 0 0) ws))
-
--- the refusal and values of an answer
-abbrev pub survey_paper : ParsedSurvey → Told Survey
-survey_paper (Refused n) = refused n
-survey_paper (Accepted s) = accepted s

@@ -9,9 +9,12 @@ mod prologue;
 mod surveys;
 
 ghost use Rattle.std.specs.Prelude.{◌≡◌};
-ghost use Rattle.packet.specs.Read.{parsed_paper};
-ghost use Rattle.packet.specs.Survey.{survey_paper};
+ghost use Rattle.words.specs.Listed.{on_paper};
+ghost use Rattle.words.specs.Told.{told_paper};
+ghost use Rattle.packet.specs.Read.{read_of};
 ghost use Rattle.packet.specs.Told.{read_told, survey_told};
+
+use words::{Refusal, RefusedAt};
 
 // The parts of a packet beside its body. A part that is absent is zero.
 #[derive(Clone, Copy)]
@@ -45,13 +48,6 @@ pub struct Packet {
     pub length: usize,
 }
 
-// What reading answers: the packet, or the refusal.
-#[derive(Clone, Copy)]
-pub enum Parsed {
-    Accepted(Packet),
-    Refused(words::Refusal),
-}
-
 // What a reading that follows 49A gives: the packet and, of type 1, its pad count, the two words of its payload's format, and n, the items of its payload. Of
 // other types these are zero.
 #[derive(Clone, Copy)]
@@ -63,43 +59,37 @@ pub struct Survey {
     pub items: u32,
 }
 
-// What such a reading answers, or the refusal.
-#[derive(Clone, Copy)]
-pub enum ParsedSurvey {
-    Accepted(Survey),
-    Refused(words::Refusal),
-}
-
 // The packet that stands at the front of the words, as plain 49.0, or the first of the refusals 1 to 10 that applies, and where. Words
 // beyond its size are ignored.
-pub fn read(ws: &[u32]) -> Parsed
-    ensures { parsed_paper result ≡ read_told ws.now }
+pub fn read(ws: &[u32]) -> Result<Packet, RefusedAt>
+    ensures { told_paper result ≡ read_told ws.now }
 {
-    let sized = checks::check_sized(ws);
-    if let words::Check::Refused(n) = sized {
-        return Parsed::Refused(places::refusal_of(n, ws));
+    match read_plain(ws) {
+        Ok(packet) => Ok(packet),
+        Err(r) => Err(places::refusal_of(r, ws)),
     }
+}
+
+// The packet, read as plain 49.0, or the refusal alone.
+fn read_plain(ws: &[u32]) -> Result<Packet, Refusal>
+    ensures { on_paper result ≡ read_of ws.now }
+{
+    checks::check_sized(ws)?;
     let w = ws[0];
-    let front = checks::check_prologue(false, w, ws);
-    if let words::Check::Refused(n) = front {
-        return Parsed::Refused(places::refusal_of(n, ws));
-    }
-    let body = checks::check_body(w, ws);
-    if let words::Check::Refused(n) = body {
-        return Parsed::Refused(places::refusal_of(n, ws));
-    }
+    checks::check_prologue(false, w, ws)?;
+    checks::check_body(w, ws)?;
     let high = prologue::class_high(w, ws);
     let low = prologue::class_low(w, ws);
-    Parsed::Accepted(prologue::packet_of(w, high, low, ws))
+    Ok(prologue::packet_of(w, high, low, ws))
 }
 
 // The packet that stands at the front of the words, as 49A, which governs type 1: there CLASS is not given, and PAD comes after the other refusals. Words beyond
 // its size are ignored.
-pub fn read_survey(ws: &[u32]) -> ParsedSurvey
-    ensures { survey_paper result ≡ survey_told ws.now }
+pub fn read_survey(ws: &[u32]) -> Result<Survey, RefusedAt>
+    ensures { told_paper result ≡ survey_told ws.now }
 {
-    if surveys::is_governed(ws) {
-        return surveys::read_governed(ws);
+    match surveys::read_either(ws) {
+        Ok(survey) => Ok(survey),
+        Err(r) => Err(places::refusal_of(r, ws)),
     }
-    surveys::read_other(ws)
 }

@@ -1,14 +1,16 @@
 // Reading that follows 49A: packets of type 1, which it governs, and those of other types, which are plain.
 ghost use Rattle.std.specs.Prelude.{◌≡◌, ◌^◌, ◌≤◌, ◌<◌, eqb, length, get_or};
 ghost use Rattle.words.specs.Outcome.{accepted};
+ghost use Rattle.words.specs.Listed.{on_paper};
 ghost use Rattle.packet.specs.Header.{type_of, reserved_of, size_of};
 ghost use Rattle.packet.specs.Parts.{required_of, body_length, class_high, class_low};
-ghost use Rattle.packet.specs.Survey.{survey_of, survey_paper};
-ghost use Rattle.packet.specs.Told.{survey_told};
+ghost use Rattle.packet.specs.Survey.{survey_of, read_survey_of};
 ghost use Rattle.packet.specs.inner.Steps.{payload_checks};
 
+use words::Refusal;
+
 // Whether the words begin with a header of type 1.
-pub fn is_governed(ws: &[u32]) -> bool
+fn is_governed(ws: &[u32]) -> bool
     ensures { result ≡ eqb (type_of (get_or ws.now 0 0)) 1 }
 {
     if ws.len() == 0 {
@@ -29,12 +31,13 @@ fn survey_of(w: u32, high: u32, low: u32, payload: usize, ws: &[u32]) -> crate::
         place: crate::header::body_at(w),
         length: payload,
     };
+    let class = packet_survey::inner::Class { high, low };
     crate::Survey {
         packet,
-        pad: packet_survey::inner::pad_of(high),
-        first: packet_survey::inner::format_first(low),
-        second: packet_survey::inner::format_second(low),
-        items: packet_survey::inner::items_in(high, low, payload),
+        pad: class.pad(),
+        first: class.format_first(),
+        second: class.format_second(),
+        items: class.items_in(payload),
     }
 }
 
@@ -55,42 +58,38 @@ fn other_of(w: u32, ws: &[u32]) -> crate::Survey
 }
 
 // Reads words that begin with a header of type 1. Its checks are asked here, so that the compiler puts them in line.
-pub fn read_governed(ws: &[u32]) -> crate::ParsedSurvey
+fn read_governed(ws: &[u32]) -> Result<crate::Survey, Refusal>
     requires { type_of (get_or ws.now 0 0) ≡ 1 }
-    ensures { survey_paper result ≡ survey_told ws.now }
+    ensures { on_paper result ≡ read_survey_of ws.now }
 {
-    let sized = crate::checks::check_sized(ws);
-    if let words::Check::Refused(n) = sized {
-        return crate::ParsedSurvey::Refused(crate::places::refusal_of(n, ws));
-    }
+    crate::checks::check_sized(ws)?;
     let w = ws[0];
-    let prologue = crate::checks::check_prologue(true, w, ws);
-    if let words::Check::Refused(n) = prologue {
-        return crate::ParsedSurvey::Refused(crate::places::refusal_of(n, ws));
-    }
+    crate::checks::check_prologue(true, w, ws)?;
     let high = crate::prologue::class_high(w, ws);
     let low = crate::prologue::class_low(w, ws);
     let payload = crate::prologue::body_length(w);
-    let found = crate::checks::check_payload(w, high, low, payload);
-    if let words::Check::Refused(n) = found {
-        return crate::ParsedSurvey::Refused(crate::places::refusal_of(n, ws));
-    }
-    crate::ParsedSurvey::Accepted(survey_of(w, high, low, payload, ws))
+    crate::checks::check_payload(w, high, low, payload)?;
+    Ok(survey_of(w, high, low, payload, ws))
 }
 
 // Reads other words.
-pub fn read_other(ws: &[u32]) -> crate::ParsedSurvey
+fn read_other(ws: &[u32]) -> Result<crate::Survey, Refusal>
     requires { type_of (get_or ws.now 0 0) ≡ 1 → ⊥ }
-    ensures { survey_paper result ≡ survey_told ws.now }
+    ensures { on_paper result ≡ read_survey_of ws.now }
 {
-    let sized = crate::checks::check_sized(ws);
-    if let words::Check::Refused(n) = sized {
-        return crate::ParsedSurvey::Refused(crate::places::refusal_of(n, ws));
-    }
+    crate::checks::check_sized(ws)?;
     let w = ws[0];
-    let rest = crate::checks::check_survey(w, ws);
-    if let words::Check::Refused(n) = rest {
-        return crate::ParsedSurvey::Refused(crate::places::refusal_of(n, ws));
+    crate::checks::check_survey(w, ws)?;
+    Ok(other_of(w, ws))
+}
+
+// Reads words of either kind.
+pub fn read_either(ws: &[u32]) -> Result<crate::Survey, Refusal>
+    ensures { on_paper result ≡ read_survey_of ws.now }
+{
+    if is_governed(ws) {
+        read_governed(ws)
+    } else {
+        read_other(ws)
     }
-    crate::ParsedSurvey::Accepted(other_of(w, ws))
 }

@@ -66,7 +66,7 @@ module _ (low : ℕ) (known : low_known low ≡ true) where
   pub type_most : data_type low ≤ 13
   type_most = leb-true (data_type low) 13 (both_right (leb 1 (data_type low)) _ type_asked)
 
-low_fits : (low : ℕ) → low < 2 ^ 21 → both (leb 1 (data_type low)) (leb (data_type low) 13) ≡ true → low_known low ≡ true
+pub low_fits : (low : ℕ) → low < 2 ^ 21 → both (leb 1 (data_type low)) (leb (data_type low) 13) ≡ true → low_known low ≡ true
 unfolding low_known
 low_fits low h e =
     both_true (eqb (low / 2 ^ 24 % 256) 0) _ (eq-eqb (low / 2 ^ 24 % 256) 0 (omega arith))

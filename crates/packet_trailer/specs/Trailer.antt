@@ -3,11 +3,9 @@ use Rattle.std.specs.Prelude.{ℕ, ◌^◌, not, [], ◌∷◌, ltb}
 use Rattle.words.specs.Numbers.{VALUE}
 use Rattle.words.specs.Tests.{both}
 use Rattle.words.specs.Word.{bits, has, join}
-use Rattle.words.specs.Outcome.{Outcome, refused, accepted}
+use Rattle.words.specs.Outcome.{Outcome, accepted}
 use Rattle.words.specs.Refusals.{Refusals, first_given}
 use Rattle.packet_trailer.specs.declared.Trailer.{Trailer}
-use Rattle.packet_trailer.specs.declared.TrailerWord.{TrailerWord}
-use Rattle.packet_trailer.specs.declared.TrailerWord.TheVariants.{Accepted, Refused}
 
 -- what a trailer word says
 unfoldable pub trailer_of : ℕ → Trailer
@@ -23,8 +21,3 @@ unfoldable pub trailer_word_of : ℕ → ℕ → ℕ → ℕ → Outcome ℕ
 trailer_word_of enables indicators e associated =
     first_given (trailer_list enables indicators e associated)
     (accepted (join (7 ∷ 1 ∷ 12 ∷ 12 ∷ []) (associated ∷ e ∷ indicators ∷ enables ∷ [])))
-
--- the number and values of an answer
-abbrev pub trailer_paper : TrailerWord → Outcome ℕ
-trailer_paper (Refused n) = refused n
-trailer_paper (Accepted w) = accepted w

@@ -2,7 +2,10 @@
 #![tactic(auto)]
 
 ghost use Rattle.std.specs.Prelude.{◌≡◌};
-ghost use Rattle.packet_trailer.specs.Trailer.{trailer_of, trailer_word_of, trailer_paper};
+ghost use Rattle.words.specs.Listed.{on_paper};
+ghost use Rattle.packet_trailer.specs.Trailer.{trailer_of, trailer_word_of};
+
+use words::Refusal;
 
 // A trailer word's parts.
 #[derive(Clone, Copy)]
@@ -25,28 +28,21 @@ pub fn trailer_parts(word: u32) -> Trailer
     }
 }
 
-// What making a trailer word answers: the word, or VALUE.
-#[derive(Clone, Copy)]
-pub enum TrailerWord {
-    Accepted(u32),
-    Refused(u32),
-}
-
 // The trailer word of enables, indicators, E and associated count; VALUE where one does not fit its bits.
-pub fn trailer_word(enables: u32, indicators: u32, e: u32, associated: u32) -> TrailerWord
-    ensures { trailer_paper result ≡ trailer_word_of enables indicators e associated }
+pub fn trailer_word(enables: u32, indicators: u32, e: u32, associated: u32) -> Result<u32, Refusal>
+    ensures { on_paper result ≡ trailer_word_of enables indicators e associated }
 {
     if 0x1000 <= enables {
-        return TrailerWord::Refused(words::VALUE);
+        return Err(Refusal::Value);
     }
     if 0x1000 <= indicators {
-        return TrailerWord::Refused(words::VALUE);
+        return Err(Refusal::Value);
     }
     if 2 <= e {
-        return TrailerWord::Refused(words::VALUE);
+        return Err(Refusal::Value);
     }
     if 0x80 <= associated {
-        return TrailerWord::Refused(words::VALUE);
+        return Err(Refusal::Value);
     }
-    TrailerWord::Accepted(enables * 0x10_0000 + indicators * 0x100 + e * 0x80 + associated)
+    Ok(enables * 0x10_0000 + indicators * 0x100 + e * 0x80 + associated)
 }

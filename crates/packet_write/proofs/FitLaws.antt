@@ -73,7 +73,7 @@ module _ (survey : Bool) (pad : ℕ) (p : Parts) (g : governs survey p ≡ false
   unfolding pad_fits
   any_count = rw g
 
-  pub no_payload : (body : List ℕ) → pad_checks survey pad p body ≡ accepted tt
+  pub no_payload : (body : List ℕ) → accepted tt ≡ pad_checks survey pad p body
   unfolding pad_checks
   no_payload body = rw g
 

@@ -1,5 +1,6 @@
 -- The parts of a packet as fifteen words. The idea: a part is a word of its own, or a flag that is the lowest bit of one, or the fraction, which is two;
 -- so what the program computes of the words is what the definitions say of the parts.
+use Rattle.std.specs.Prelude.{Result}
 use Rattle.words.proofs.Kit.{◌≡◌, refl, sym, ap, ◌∙◌, Bool, true, false, List, [], ◌∷◌, ◌++◌, ⊎_elim, ℕ, ◌+◌, ◌*◌, ◌/◌, ◌%◌, ◌^◌, ◌≤◌, ◌<◌, arith}
 use Rattle.words.proofs.Kit.{eqb, length, take, drop, get_or}
 use native.Mathlib.Nat.{div-add-mod'}
@@ -7,8 +8,9 @@ use lib.Dec.{lit<}
 use lib.Pow.{high, low}
 use Rattle.words.specs.Tests.{when}
 use Rattle.words.specs.Word.{join}
-use Rattle.words.specs.declared.Length.{Length}
-use Rattle.words.specs.Outcome.{measured, Meets}
+use Rattle.words.specs.declared.refusals.Refusal.{Refusal}
+use Rattle.words.specs.Listed.{on_paper}
+use Rattle.words.specs.Outcome.{Meets}
 use Rattle.words.specs.Laid.{Laid}
 use Rattle.words.proofs.Cases.{le_or_lt}
 use Rattle.packet.specs.Header.{classed, trailed}
@@ -40,8 +42,8 @@ unfolding parts_in
 parts_again p c t m e f g = rw (e, f, g, bit_back p.classed, bit_back p.trailed, bit_back p.tsm, div-add-mod' p.fraction (2 ^ 32))
 
 -- so a packet that is written of these words is written of the parts
-pub written : (survey : Bool) (pad : ℕ) (p : Parts) (q body out left : List ℕ) (at : ℕ) (r : Length) → parts_in q ≡ p
-    → Meets measured (write_by survey pad (parts_in q) body out at) out r left → Meets measured (write_by survey pad p body out at) out r left
+pub written : (survey : Bool) (pad : ℕ) (p : Parts) (q body out left : List ℕ) (at : ℕ) (r : Result ℕ Refusal) → parts_in q ≡ p
+    → Meets on_paper (write_by survey pad (parts_in q) body out at) out r left → Meets on_paper (write_by survey pad p body out at) out r left
 written survey pad p q body out left at r e w = rw e at w
 
 -- ---- the fraction

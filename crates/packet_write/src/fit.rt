@@ -3,7 +3,7 @@
 ghost use Rattle.std.specs.Prelude.{◌≡◌, true, ◌+◌, ◌^◌, ◌≤◌, ◌<◌, eqb, length};
 ghost use Rattle.words.specs.Numbers.{SHORT, TIME};
 ghost use Rattle.words.specs.Tests.{pick, both};
-ghost use Rattle.words.specs.Outcome.{checked};
+ghost use Rattle.words.specs.Listed.{list_number, on_paper};
 ghost use Rattle.packet_survey.specs.Payload.{pad_bad};
 ghost use Rattle.packet.specs.Header.{type_of};
 ghost use Rattle.packet.specs.Read.{time_over};
@@ -13,6 +13,7 @@ ghost use Rattle.packet_write.specs.AsWords.{parts_in};
 ghost use Rattle.packet_write.specs.inner.Given.{Governed};
 
 use crate::parts;
+use words::Refusal;
 
 // Whether TSI, TSF and the count fit their bits.
 fn codes_fit(tsi: u32, tsf: u32, count: u32) -> bool
@@ -43,12 +44,12 @@ fn class_fits(classed: bool, oui: u32, information: u32, code: u32) -> bool
 }
 
 // TYPE and VALUE.
-pub fn check_parts(q: &[u32]) -> words::Check
+pub fn check_parts(q: &[u32]) -> Result<(), Refusal>
     requires { length q.now ≡ 15 }
-    ensures { checked result ≡ plain_checks (parts_in q.now) }
+    ensures { on_paper result ≡ plain_checks (parts_in q.now) }
 {
     if 5 < q[parts::KIND] {
-        return words::Check::Refused(words::TYPE);
+        return Err(Refusal::Kind);
     }
     let codes = codes_fit(q[parts::TSI], q[parts::TSF], q[parts::COUNT]);
     let flags = flags_fit(
@@ -57,7 +58,7 @@ pub fn check_parts(q: &[u32]) -> words::Check
         q[parts::TSM] % 2 == 1,
     );
     if !words::inner::both_of(codes, flags) {
-        return words::Check::Refused(words::VALUE);
+        return Err(Refusal::Value);
     }
     if class_fits(
         q[parts::CLASSED] % 2 == 1,
@@ -65,9 +66,9 @@ pub fn check_parts(q: &[u32]) -> words::Check
         q[parts::INFORMATION],
         q[parts::CODE],
     ) {
-        return words::Check::Fine;
+        return Ok(());
     }
-    words::Check::Refused(words::VALUE)
+    Err(Refusal::Value)
 }
 
 // Whether the fraction is TIME.
@@ -82,50 +83,50 @@ fn time_over(q: &[u32]) -> bool
 }
 
 // The refusal of a packet of a type whose fraction is TIME, with a body of n words: SHORT comes first.
-fn short_or_time(kind: u32, n: usize) -> u32
-    ensures { result ≡ pick (both (eqb kind 4) (eqb n 0)) SHORT TIME }
+fn short_or_time(kind: u32, n: usize) -> Refusal
+    ensures { list_number result ≡ pick (both (eqb kind 4) (eqb n 0)) SHORT TIME }
 {
     if words::inner::both_of(kind == 4, n == 0) {
-        return words::SHORT;
+        return Refusal::Short;
     }
-    words::TIME
+    Refusal::Time
 }
 
 // SHORT, SIZE, TIME, INDICATOR, LAYOUT and FIELD, of a packet of a size. SHORT is asked late, so that it costs nothing where the type is not 4: a packet that
 // is SHORT is not SIZE, and where TIME is found, SHORT comes first.
-pub fn check_content(q: &[u32], body: &[u32], size: usize) -> words::Check
+pub fn check_content(q: &[u32], body: &[u32], size: usize) -> Result<(), Refusal>
     requires parts_given { length q.now ≡ 15 }
     requires size_told { (size ≡ size_for (parts_in q.now) (length body.now)) × (size ≤ length body.now + 8) }
     requires type_kept { type_of (header_word (parts_in q.now) 0) ≡ (parts_in q.now).kind }
-    ensures { checked result ≡ content_checks (parts_in q.now) body.now }
+    ensures { on_paper result ≡ content_checks (parts_in q.now) body.now }
 {
     if 65535 < size {
-        return words::Check::Refused(words::SIZE);
+        return Err(Refusal::Size);
     }
     if time_over(q) {
-        return words::Check::Refused(short_or_time(q[parts::KIND], body.len()));
+        return Err(short_or_time(q[parts::KIND], body.len()));
     }
     if q[parts::KIND] != 4 {
-        return words::Check::Fine;
+        return Ok(());
     }
     if body.len() == 0 {
-        return words::Check::Refused(words::SHORT);
+        return Err(Refusal::Short);
     }
     fields::check_body(body)
 }
 
 // ROOM, of a packet of a size in a buffer with room words.
-pub fn check_room(room: usize, at: usize, size: usize) -> words::Check
+pub fn check_room(room: usize, at: usize, size: usize) -> Result<(), Refusal>
     requires { 1 ≤ size }
-    ensures { checked result ≡ room_checks room at size }
+    ensures { on_paper result ≡ room_checks room at size }
 {
     if room < at {
-        return words::Check::Refused(words::ROOM);
+        return Err(Refusal::Room);
     }
     if room - at < size {
-        return words::Check::Refused(words::ROOM);
+        return Err(Refusal::Room);
     }
-    words::Check::Fine
+    Ok(())
 }
 
 // Whether the pad count fits its five bits, where there is a class.
@@ -145,21 +146,22 @@ fn pad_bad(pad: u32, q: &[u32], n: usize) -> bool
     ensures { result ≡ pad_bad (parts_in q.now).classed (parts_in q.now).trailed (class_first pad (parts_in q.now).oui) (class_word (parts_in q.now).information (parts_in q.now).code) n }
 {
     if q[parts::CLASSED] % 2 == 1 {
-        let first = crate::laying::class_first(pad, q[parts::OUI]);
-        let second = crate::laying::class_word(q[parts::INFORMATION], q[parts::CODE]);
-        let trailed = q[parts::TRAILED] % 2 == 1;
-        return packet_survey::inner::pad_bad(true, trailed, first, second, n);
+        let class = packet_survey::inner::Class {
+            high: crate::laying::class_first(pad, q[parts::OUI]),
+            low: crate::laying::class_word(q[parts::INFORMATION], q[parts::CODE]),
+        };
+        return class.pad_bad(true, q[parts::TRAILED] % 2 == 1, n);
     }
     true
 }
 
 // PAD, of the parts and the body.
-pub fn check_pad(pad: u32, q: &[u32], body: &[u32]) -> words::Check
+pub fn check_pad(pad: u32, q: &[u32], body: &[u32]) -> Result<(), Refusal>
     requires { (length q.now ≡ 15) × Governed pad (parts_in q.now) × (length body.now ≤ 65535) }
-    ensures { checked result ≡ pad_checks true pad (parts_in q.now) body.now }
+    ensures { on_paper result ≡ pad_checks true pad (parts_in q.now) body.now }
 {
     if pad_bad(pad, q, body.len()) {
-        return words::Check::Refused(words::PAD);
+        return Err(Refusal::Pad);
     }
-    words::Check::Fine
+    Ok(())
 }

@@ -10,9 +10,12 @@ mod survey;
 mod writing;
 
 ghost use Rattle.std.specs.Prelude.{◌≡◌};
-ghost use Rattle.words.specs.Outcome.{measured, Meets};
+ghost use Rattle.words.specs.Listed.{on_paper};
+ghost use Rattle.words.specs.Outcome.{Meets};
 ghost use Rattle.packet_write.specs.Write.{flag_bit, write_of, write_survey_of};
 ghost use Rattle.packet_write.specs.AsWords.{parts_in};
+
+use words::Refusal;
 
 // 1 for a flag that is set.
 fn bit_of(flag: bool) -> u32
@@ -47,8 +50,13 @@ fn words_of(parts: packet::Parts) -> [u32; 15]
 
 // Writes a packet, its body given as words, into the part of a buffer that starts at a word of the caller's choice, and answers how many words
 // it has; or answers the first of TYPE, VALUE, SHORT, SIZE, TIME, INDICATOR, LAYOUT, FIELD and ROOM that applies, and leaves the buffer as it was.
-pub fn write(parts: packet::Parts, body: &[u32], out: &mut [u32], at: usize) -> words::Length
-    ensures { Meets measured (write_of parts body.now out.old at) out.old result out.new }
+pub fn write(
+    parts: packet::Parts,
+    body: &[u32],
+    out: &mut [u32],
+    at: usize,
+) -> Result<usize, Refusal>
+    ensures { Meets on_paper (write_of parts body.now out.old at) out.old result out.new }
 {
     let q = words_of(parts);
     writing::write_parts(&q, body, out, at)
@@ -62,8 +70,8 @@ pub fn write_survey(
     body: &[u32],
     out: &mut [u32],
     at: usize,
-) -> words::Length
-    ensures { Meets measured (write_survey_of pad parts body.now out.old at) out.old result out.new }
+) -> Result<usize, Refusal>
+    ensures { Meets on_paper (write_survey_of pad parts body.now out.old at) out.old result out.new }
 {
     let q = words_of(parts);
     survey::write_padded(pad, &q, body, out, at)

@@ -1,20 +1,22 @@
 -- How putting back goes. The idea: a body's first words and its held words are put into zeroed words (`filled_record`), and the records are pieces laid one
 -- after the other behind S (`Putting`).
+use Rattle.std.specs.Prelude.{Ok, Err}
 use Rattle.words.proofs.Kit.{◌≡◌, refl, sym, ap, ap₂, ◌∙◌, Bool, true, false, not, List, [], ◌∷◌, ◌++◌, ℕ, ◌+◌, ◌-◌, ◌^◌, ◌≤◌, ◌<◌, arith, lt-ltb}
 use Rattle.words.proofs.Kit.{le-ltb, not-true, not-false, length, take, drop, set}
 use mathlib.Core.List.{append-nil}
 use lib.Bits.{bit_and}
 use lib.ListN.{replicate, length-replicate, length-set}
 use Rattle.words.specs.Numbers.{PAGE, ROOM}
-use Rattle.words.specs.declared.Length.TheVariants.{Accepted, Refused}
-use Rattle.words.specs.Outcome.{measured, Meets}
+use Rattle.words.specs.declared.refusals.Refusal.TheVariants as refusals
+use Rattle.words.specs.Listed.{on_paper}
+use Rattle.words.specs.Outcome.{Meets}
 use Rattle.words.specs.Tests.{pick}
 use Rattle.words.specs.Word.{has}
 use Rattle.words.specs.SetBits.{bits_of}
 use Rattle.words.specs.Part.{part, put}
 use Rattle.words.specs.Laid.{Laid}
 use Rattle.words.proofs.LaidLaws.{then, laid_length}
-use Rattle.words.proofs.MeetLaws.{meets_refused, meets_length}
+use Rattle.words.proofs.MeetLaws.{meets_err, meets_ok}
 use Rattle.words.proofs.PartLaws.{seen, lent_to, put_at, part_length, part_past, part_whole}
 use Rattle.fields.specs.Sizes.{field_size, sizes_of}
 use Rattle.record.specs.Held.{slot_mask, slotted, slot_bits}
@@ -185,9 +187,9 @@ module _ (p t after : List ℕ) (n s : ℕ) (w : page_ok p ≡ true) (l : layout
 -- ---- the answers: k is the answer to the page, n is S, and m the words of the layout
 
 module _ (p t : List ℕ) (k : Bool) (c : k ≡ page_ok p) where
-  pub back_ill : not k ≡ true → Meets measured (put_back_of p t) t (Refused PAGE) t
+  pub back_ill : not k ≡ true → Meets on_paper (put_back_of p t) t (Err refusals.Page) t
   unfolding put_back_of
-  back_ill i = meets_refused (rw (← page_tested p, ← c, not-true k i))
+  back_ill i = meets_err (rw (← page_tested p, ← c, not-true k i))
 
   module _ (i : not k ≡ false) where
     pub back_well : page_ok p ≡ true
@@ -197,13 +199,13 @@ module _ (p t : List ℕ) (k : Bool) (c : k ≡ page_ok p) where
       pub back_room : m ≤ length t → layout_words (bodies_in p) ≤ length t
       back_room h = omega arith
 
-      pub back_short : length t < m → Meets measured (put_back_of p t) t (Refused ROOM) t
+      pub back_short : length t < m → Meets on_paper (put_back_of p t) t (Err refusals.Room) t
       unfolding put_back_of
-      back_short h = meets_refused (rw (← page_tested p, back_well, ← e, ← f, lt-ltb (length t) m h))
+      back_short h = meets_err (rw (← page_tested p, back_well, ← e, ← f, lt-ltb (length t) m h))
 
       pub back_made : (after : List ℕ) → m ≤ length t → after ≡ table_of p ++ drop (layout_words (bodies_in p)) t
-          → Meets measured (put_back_of p t) t (Accepted m) after
+          → Meets on_paper (put_back_of p t) t (Ok m) after
       unfolding put_back_of
       back_made after h g =
           let r : layout_words (bodies_in p) ≡ m = ap layout_words (sym e) ∙ sym f in
-          meets_length {left = table_of p ++ drop (layout_words (bodies_in p)) t} (rw (← page_tested p, back_well, r, le-ltb (length t) m h)) g
+          meets_ok {left = table_of p ++ drop (layout_words (bodies_in p)) t} (rw (← page_tested p, back_well, r, le-ltb (length t) m h)) g

@@ -1,21 +1,23 @@
 -- How saving goes. The idea: after s streams the length is the offset of body s (`Summing`), and a body's length is that of the held indicator in its record;
 -- the pairs and the bodies are pieces laid one after the other (`Pairing`, `Laying`), in one pass: a pair stands before the bodies, so writing it leaves them
 -- (`Saving`).
+use Rattle.std.specs.Prelude.{Ok, Err}
 use Rattle.words.proofs.Kit.{◌≡◌, refl, sym, ap, ap₂, ◌∙◌, Bool, true, false, not, List, [], ◌∷◌, ◌++◌, ℕ, ◌+◌, ◌-◌, ◌^◌, ◌≤◌, ◌<◌, arith, lt-ltb}
 use Rattle.words.proofs.Kit.{le-ltb, not-true, not-false, ltb, length, get_or, take, drop, set}
 use native.Mathlib.Numerals.{add-one}
 use lib.Bits.{bit_and}
 use lib.ListN.{length-set}
 use Rattle.words.specs.Numbers.{TABLE, SIZE, ROOM}
-use Rattle.words.specs.declared.Length.{Length}
-use Rattle.words.specs.declared.Length.TheVariants.{Accepted, Refused}
-use Rattle.words.specs.Outcome.{refused, accepted, measured, Meets}
+use Rattle.words.specs.declared.refusals.Refusal.{Refusal}
+use Rattle.words.specs.declared.refusals.Refusal.TheVariants as refusals
+use Rattle.words.specs.Listed.{list_number, on_paper}
+use Rattle.words.specs.Outcome.{refused, accepted, Meets}
 use Rattle.words.specs.Part.{part, put}
 use Rattle.words.specs.SetBits.{bits_of}
 use Rattle.words.specs.Laid.{Laid}
 use Rattle.words.proofs.Cases.{accepted_same}
 use Rattle.words.proofs.RefusalLaws.{first_passed, first_refused}
-use Rattle.words.proofs.MeetLaws.{meets_refused, meets_length}
+use Rattle.words.proofs.MeetLaws.{meets_err, meets_ok}
 use Rattle.words.proofs.LaidLaws.{then, laid_length}
 use Rattle.words.proofs.PartLaws.{seen, get_d_part, part_length}
 use Rattle.fields.specs.Sizes.{sizes_of}
@@ -167,27 +169,21 @@ module _ (t before : List ℕ) (w : well_made t ≡ true) (h : page_length t ≤
   laying_start : (n at : ℕ) → n ≡ streams_of t → at ≡ contents_words n → Laying t before before n 0 at
   laying_start n at e f = record { most = omega arith; laid = rw (f, e) (laid_none before (bodies_from t) (saved_body t)) }
 
-  module _ (after : List ℕ) (n s at from : ℕ) (p : Laying t before after n s at) (e : n ≡ streams_of t) (g : s < n) (a : from ≡ base s) where
-    record_seen : take (from + record_words - from) (drop from t) ≡ record_at s t
-    unfolding record_at
-    record_seen = seen from (from + record_words) record_words t refl ∙ ap (λ (b : ℕ). part b record_words t) a
-
-    laying_asks : (length (take (from + record_words - from) (drop from t)) ≡ record_words)
-        × (record_good (take (from + record_words - from) (drop from t)) ≡ true)
-        × (at + length (page_body (take (from + record_words - from) (drop from t))) ≤ length after)
+  -- r is the record of stream s
+  module _ (after : List ℕ) (n s at : ℕ) (r : List ℕ) (p : Laying t before after n s at) (e : n ≡ streams_of t) (g : s < n) (a : r ≡ record_at s t) where
+    laying_asks : (length r ≡ record_words) × (record_good r ≡ true) × (at + length (page_body r) ≤ length after)
     unfolding saved_body page_length offset_of
     laying_asks =
         let i : s < streams_of t = omega arith in
-        rw record_seen (
+        rw a (
           Records.record_length s t (layout_has t s (well_whole t w) i),
           well_record t w s i,
           omega (arith, h, p.laid.past, laid_length p.laid, offset_inside (streams_of t) (saved_body t) s i),
         )
 
-    laying_turn : (after' : List ℕ) (to : ℕ) → Laid after at (page_body (take (from + record_words - from) (drop from t))) to after'
-        → Laying t before after' n (s + 1) to
+    laying_turn : (after' : List ℕ) (to : ℕ) → Laid after at (page_body r) to after' → Laying t before after' n (s + 1) to
     unfolding saved_body
-    laying_turn after' to q = record { most = omega arith; laid = laid_next s (saved_body t) p.laid (rw record_seen at q) }
+    laying_turn after' to q = record { most = omega arith; laid = laid_next s (saved_body t) p.laid (rw a at q) }
 
   laying_end : (after : List ℕ) (n s at : ℕ) → n ≡ streams_of t → Laying t before after n s at → n ≤ s
       → Laid before (bodies_from t) (bodies_of t) (page_length t) after
@@ -201,44 +197,42 @@ module _ (t before : List ℕ) (w : well_made t ≡ true) (h : page_length t ≤
   pub saving_start : (n at : ℕ) → n ≡ streams_of t → at ≡ contents_words n → Saving t before before n 0 at
   saving_start n at e f = record { mid = before; pairs = pairing_start t before w h n at e f; bodies = laying_start t before w h n at e f }
 
-  module _ (after : List ℕ) (n s at from : ℕ) (p : Saving t before after n s at) (e : n ≡ streams_of t) (g : s < n) (a : from ≡ base s) where
+  -- r is the record of stream s
+  module _ (after : List ℕ) (n s at : ℕ) (r : List ℕ) (p : Saving t before after n s at) (e : n ≡ streams_of t) (g : s < n) (a : r ≡ record_at s t) where
     mid_room : page_length t ≤ length p.mid
     mid_room = omega (arith, laid_length p.pairs.laid)
 
-    pub record_long : length (take (from + record_words - from) (drop from t)) ≡ record_words
-    record_long = (laying_asks t p.mid w mid_room after n s at from p.bodies e g a).0
+    pub record_long : length r ≡ record_words
+    record_long = (laying_asks t p.mid w mid_room after n s at r p.bodies e g a).0
 
-    pub record_held : record_good (take (from + record_words - from) (drop from t)) ≡ true
-    record_held = (laying_asks t p.mid w mid_room after n s at from p.bodies e g a).1
+    pub record_held : record_good r ≡ true
+    record_held = (laying_asks t p.mid w mid_room after n s at r p.bodies e g a).1
 
-    pub body_placed : at + length (page_body (take (from + record_words - from) (drop from t))) ≤ length after
-    body_placed = (laying_asks t p.mid w mid_room after n s at from p.bodies e g a).2
+    pub body_placed : at + length (page_body r) ≤ length after
+    body_placed = (laying_asks t p.mid w mid_room after n s at r p.bodies e g a).2
 
     -- the body is written
-    module _ (after' : List ℕ) (to : ℕ) (q : Laid after at (page_body (take (from + record_words - from) (drop from t))) to after') where
-      length_is : to - at ≡ page_body_words (get_or t (from + 1) 0)
+    module _ (after' : List ℕ) (to : ℕ) (q : Laid after at (page_body r) to after') where
+      length_is : to - at ≡ page_body_words (get_or t (base s + 1) 0)
       unfolding saved_body
       length_is =
-          let l : length (page_body (take (from + record_words - from) (drop from t))) ≡ length (saved_body t s) =
-          ap (λ (r : List ℕ). length (page_body r)) (record_seen t p.mid w mid_room after n s at from p.bodies e g a) in
-          let m : page_body_words (get_or t (from + 1) 0) ≡ page_body_words (get_or t (base s + 1) 0) =
-          ap (λ (b : ℕ). page_body_words (get_or t (b + 1) 0)) a in
-          omega (arith, q.past, l, m, held_length t w s (omega arith))
+          let l : length (page_body r) ≡ length (saved_body t s) = ap (λ (x : List ℕ). length (page_body x)) a in
+          omega (arith, q.past, l, held_length t w s (omega arith))
 
       pub pair_asks : (s < 32) × (pair_at s + 1 < length after') × (at + (to - at) ≤ most_words)
       pair_asks = (
         omega (arith, well_few t w),
-        omega (arith, pairing_room t before w h p.mid n s at from p.pairs e g a, laid_length p.bodies.laid, laid_length q),
-        summing_most t w n s at from (to - at) p.pairs.sums e g a length_is,
+        omega (arith, pairing_room t before w h p.mid n s at (base s) p.pairs e g refl, laid_length p.bodies.laid, laid_length q),
+        summing_most t w n s at (base s) (to - at) p.pairs.sums e g refl length_is,
       )
 
       pub saving_turn : (after'' : List ℕ) → after'' ≡ set (set after' (pair_at s) at) (pair_at s + 1) (to - at) → Saving t before after'' n (s + 1) to
       saving_turn after'' f =
           let sum : at + (to - at) ≡ to = omega (arith, q.past) in
-          let next = laying_turn t p.mid w mid_room after n s at from p.bodies e g a after' to q in
+          let next = laying_turn t p.mid w mid_room after n s at r p.bodies e g a after' to q in
           rw f (record {
             mid = set (set p.mid (pair_at s) at) (pair_at s + 1) (to - at);
-            pairs = rw sum at (pairing_turn t before w h p.mid n s at from p.pairs e g a (to - at) length_is);
+            pairs = rw sum at (pairing_turn t before w h p.mid n s at (base s) p.pairs e g refl (to - at) length_is);
             bodies = record {
               most = next.most;
               laid = laid_before (pair_at s + 1) (to - at) (laid_before (pair_at s) at next.laid (omega arith))
@@ -317,27 +311,27 @@ length_well t n e =
 -- ---- the answers of saving
 
 -- what the length refuses, saving refuses
-pub save_refused : (t page : List ℕ) (r : Length) (n : ℕ) → measured r ≡ length_of t → r ≡ Refused n → Meets measured (save_of t page) page r page
+pub save_refused : (t page : List ℕ) (r : Refusal) → refused (list_number r) ≡ length_of t → Meets on_paper (save_of t page) page (Err r) page
 unfolding length_of save_of
-save_refused t page r n e k = rw k (meets_refused (first_refused (length_list t) (page_length t) n _ (sym e ∙ ap measured k)))
+save_refused t page r e = meets_err (first_refused (length_list t) (page_length t) (list_number r) _ (sym e))
 
-module _ (t : List ℕ) (r : Length) (n : ℕ) (e : measured r ≡ length_of t) (k : r ≡ Accepted n) where
+module _ (t : List ℕ) (n : ℕ) (e : accepted n ≡ length_of t) where
   pub save_well : well_made t ≡ true
-  save_well = (length_well t n (sym e ∙ ap measured k)).0
+  save_well = (length_well t n (sym e)).0
 
   pub save_length : n ≡ page_length t
-  save_length = (length_well t n (sym e ∙ ap measured k)).1
+  save_length = (length_well t n (sym e)).1
 
   fits_size : ltb size_limit (page_length t) ≡ false
   fits_size = le-ltb size_limit (page_length t) (omega (arith, page_small t save_well))
 
-  pub save_short : (page : List ℕ) → length page < n → Meets measured (save_of t page) page (Refused ROOM) page
+  pub save_short : (page : List ℕ) → length page < n → Meets on_paper (save_of t page) page (Err refusals.Room) page
   unfolding save_of
-  save_short page h = meets_refused (rw (save_well, fits_size, ← save_length, lt-ltb (length page) n h))
+  save_short page h = meets_err (rw (save_well, fits_size, ← save_length, lt-ltb (length page) n h))
 
   pub save_made : (page after : List ℕ) → n ≤ length page → after ≡ page_of t ++ drop (page_length t) page
-      → Meets measured (save_of t page) page (Accepted n) after
+      → Meets on_paper (save_of t page) page (Ok n) after
   unfolding save_of
   save_made page after h l =
       let q : ltb (length page) (page_length t) ≡ false = le-ltb (length page) (page_length t) (omega (arith, save_length)) in
-      meets_length (rw (save_well, fits_size, q, save_length)) l
+      meets_ok (rw (save_well, fits_size, q, save_length)) l

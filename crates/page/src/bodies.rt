@@ -28,11 +28,9 @@ pub fn page_words(table: &[u32]) -> usize
 {
     let n = table::inner::streams(table);
     let mut length = crate::contents::contents_words(n);
-    let mut s = 0;
-    while s < n {
+    for s in 0..n {
         let at = table::inner::record_at(s);
         length += body_words(table[at + 1]);
-        s += 1;
     }
     length
 }
@@ -50,17 +48,15 @@ fn squeeze_between(
     requires { (length slots.now ≡ slot_words) × (9 ≤ past) × (past ≤ first) × (first ≤ 30) × (at + length (held_between first past held slots.now) ≤ length page.old) }
     ensures { Laid page.old at (held_between first past held slots.now) result page.new }
 {
-    let mut bit = first;
     let mut slot = record::inner::slot_at(first);
     let mut to = at;
-    while past < bit {
+    for bit in (past + 1..first + 1).rev() {
         let n = fields::inner::field_size(bit);
         if (held >> bit) % 2 == 1 {
             record::inner::copy_field(page, to, slots, slot, n);
             to += n;
         }
         slot += n;
-        bit -= 1;
     }
     to
 }

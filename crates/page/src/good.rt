@@ -28,13 +28,11 @@ fn pairs_good(page: &[u32], n: usize) -> bool
     ensures { result ≡ pairs_good page.now n }
 {
     let mut at = crate::contents::contents_words(n);
-    let mut s = 0;
-    while s < n {
+    for s in 0..n {
         if !pair_good(page, s, at) {
             return false;
         }
         at += crate::contents::length_in(page, s);
-        s += 1;
     }
     at == page.len()
 }
@@ -61,11 +59,8 @@ fn gather(ids: &mut [u32], page: &[u32], n: usize)
     requires { (n ≤ 32) × (n ≤ length ids.old) }
     ensures { Gathered n page.now ids.new }
 {
-    let mut s = 0;
-    while s < n {
-        let at = crate::contents::offset_in(page, s);
-        ids[s] = words::inner::word_at(page, at);
-        s += 1;
+    for s in 0..n {
+        ids[s] = words::inner::word_at(page, crate::contents::offset_in(page, s));
     }
 }
 
@@ -119,12 +114,10 @@ fn records_good(page: &[u32], n: usize) -> bool
     requires { (contents_good page.now ≡ true) × (n ≡ bodies_in page.now) }
     ensures { result ≡ all n (record_good_in page.now) }
 {
-    let mut s = 0;
-    while s < n {
+    for s in 0..n {
         if !record_good_in(page, s) {
             return false;
         }
-        s += 1;
     }
     true
 }

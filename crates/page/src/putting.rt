@@ -39,9 +39,7 @@ pub fn write_table(table: &mut [u32], page: &[u32])
 {
     let n = words::inner::word_at(page, 0);
     table[0] = n;
-    let mut s = 0;
-    while s < n as usize {
+    for s in 0..n as usize {
         put_record(table, page, s);
-        s += 1;
     }
 }

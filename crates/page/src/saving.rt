@@ -21,14 +21,10 @@ fn write_streams(page: &mut [u32], table: &[u32])
 {
     let n = table::inner::streams(table);
     let mut at = crate::contents::contents_words(n);
-    let mut s = 0;
-    while s < n {
-        let from = table::inner::record_at(s);
-        let end = from + record::inner::RECORD_WORDS;
-        let past = crate::bodies::write_body(page, at, &table[from..end]);
+    for s in 0..n {
+        let past = crate::bodies::write_body(page, at, table::inner::record_in(table, s));
         write_pair(page, s, at, past - at);
         at = past;
-        s += 1;
     }
 }
 

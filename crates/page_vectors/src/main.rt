@@ -7,7 +7,6 @@ mod showing;
 
 use std::io;
 use std::io::{Read, Write};
-use words::Length;
 
 // A page to be put back: the answer, the table, and the page that is saved of it again.
 fn put_case(
@@ -19,7 +18,7 @@ fn put_case(
     lines::inner::pattern(table);
     lines::inner::pattern(page);
     match page::put_back(ws, table) {
-        Length::Accepted(length) => {
+        Ok(length) => {
             lines::inner::named(output, b"put", length as u64)?;
             showing::end_line(output)?;
             showing::show_words(output, b"table", table)?;
@@ -28,8 +27,8 @@ fn put_case(
             showing::show_saved(output, answer, page)?;
             showing::end_line(output)
         }
-        Length::Refused(n) => {
-            lines::inner::named(output, b"refused", n as u64)?;
+        Err(refusal) => {
+            lines::inner::named(output, b"refused", u32::from(refusal) as u64)?;
             showing::end_line(output)?;
             showing::show_words(output, b"table", table)
         }
@@ -40,15 +39,17 @@ fn put_case(
 fn save_case(output: &mut impl Write, ws: &[u32], page: &mut [u32]) -> io::Result<()> {
     lines::inner::pattern(page);
     match page::save(ws, page) {
-        Length::Accepted(length) => lines::inner::named(output, b"saved", length as u64)?,
-        Length::Refused(n) => lines::inner::named(output, b"refused", n as u64)?,
+        Ok(length) => lines::inner::named(output, b"saved", length as u64)?,
+        Err(refusal) => lines::inner::named(output, b"refused", u32::from(refusal) as u64)?,
     }
     showing::end_line(output)?;
     showing::show_words(output, b"page", page)?;
     lines::inner::text(output, b" ")?;
     match page::page_length(ws) {
-        Length::Accepted(length) => lines::inner::named(output, b"length", length as u64)?,
-        Length::Refused(n) => lines::inner::named(output, b"length refused", n as u64)?,
+        Ok(length) => lines::inner::named(output, b"length", length as u64)?,
+        Err(refusal) => {
+            lines::inner::named(output, b"length refused", u32::from(refusal) as u64)?
+        }
     }
     showing::end_line(output)
 }
@@ -126,8 +127,7 @@ fn one_case(
     page: &mut [u32],
     ws: &mut [u32],
 ) -> io::Result<bool> {
-    let next = lines::inner::next_word(input)?;
-    let lines::inner::Input::Word(kind) = next else {
+    let Some(kind) = lines::inner::next_word(input)? else {
         return Ok(false);
     };
     lines::inner::number(output, k)?;

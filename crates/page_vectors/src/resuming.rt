@@ -1,8 +1,8 @@
 // A recording that is stopped and resumed: played on one table up to a cut, saved, put back into a second table, and played on.
-use play::Played;
+use play::Heard;
 use std::io;
 use std::io::{Read, Write};
-use words::Length;
+use words::RefusedAt;
 
 // Where a walk over the packets stands, and the check number of their answers so far.
 #[derive(Clone, Copy)]
@@ -12,17 +12,20 @@ pub struct Walk {
 }
 
 // The check number after a packet: five words, 0, size, type, stream and missing, or of a refusal its number, 0, its word, its bit or 0, and 0.
-fn fold_answer(y: u32, answer: Played) -> u32 {
+fn fold_answer(y: u32, answer: Result<Heard, RefusedAt>) -> u32 {
     match answer {
-        Played::Accepted(h) => {
+        Ok(h) => {
             let size = lines::inner::folded(lines::inner::folded(y, 0), h.size as u64);
             let kind = lines::inner::folded(size, h.kind as u64);
             let stream = lines::inner::folded(kind, h.stream as u64);
             lines::inner::folded(stream, h.missing as u64)
         }
-        Played::Refused(r) => {
+        Err(r) => {
             let place = r.place;
-            let size = lines::inner::folded(lines::inner::folded(y, r.number as u64), 0);
+            let size = lines::inner::folded(
+                lines::inner::folded(y, u32::from(r.refusal) as u64),
+                0,
+            );
             let word = lines::inner::folded(size, words::inner::place_word(place) as u64);
             let bit = lines::inner::folded(word, words::inner::place_bit(place) as u64);
             lines::inner::folded(bit, 0)
@@ -67,13 +70,13 @@ fn resume(
     packets: u32,
 ) -> io::Result<()> {
     match page::put_back(page, table) {
-        Length::Accepted(length) => {
+        Ok(length) => {
             lines::inner::named(output, b"put", length as u64)?;
             let end = play_part(table, ws, walk, packets);
             lines::inner::named(output, b"answers", end.answers as u64)?;
             crate::showing::show_table(output, length, table)
         }
-        Length::Refused(n) => lines::inner::named(output, b"put refused", n as u64),
+        Err(refusal) => lines::inner::named(output, b"put refused", u32::from(refusal) as u64),
     }
 }
 
@@ -89,7 +92,7 @@ fn stop(
 ) -> io::Result<()> {
     let answer = page::save(first, page);
     crate::showing::show_saved(output, answer, page)?;
-    let Length::Accepted(length) = answer else {
+    let Ok(length) = answer else {
         return Ok(());
     };
     if page.len() < length {
@@ -134,7 +137,7 @@ fn one_cut(
     lines::inner::pattern(page);
     lines::inner::pattern(second);
     let n = list.len() / 2;
-    table::start(&list[0..n], &list[n..], first);
+    let _ = table::start(&list[0..n], &list[n..], first);
     play_cut(output, first, page, second, ws, cut, packets)?;
     crate::showing::end_line(output)
 }

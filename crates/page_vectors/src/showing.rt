@@ -1,7 +1,7 @@
 // What the lines of output say of buffers and pages.
 use std::io;
 use std::io::Write;
-use words::Length;
+use words::Refusal;
 
 // Ends a line.
 pub fn end_line(output: &mut impl Write) -> io::Result<()> {
@@ -35,10 +35,14 @@ fn show_page(output: &mut impl Write, length: usize, page: &[u32]) -> io::Result
 }
 
 // What saving answered, and the page.
-pub fn show_saved(output: &mut impl Write, answer: Length, page: &[u32]) -> io::Result<()> {
+pub fn show_saved(
+    output: &mut impl Write,
+    answer: Result<usize, Refusal>,
+    page: &[u32],
+) -> io::Result<()> {
     match answer {
-        Length::Accepted(length) => show_page(output, length, page),
-        Length::Refused(n) => lines::inner::named(output, b"saved refused", n as u64),
+        Ok(length) => show_page(output, length, page),
+        Err(refusal) => lines::inner::named(output, b"saved refused", u32::from(refusal) as u64),
     }
 }
 

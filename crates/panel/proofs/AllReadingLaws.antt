@@ -5,13 +5,11 @@ use mathlib.Core.List.{map}
 use lib.ListN.{replicate, length-set, length-map, length-replicate, get_or-replicate}
 use lib.Seq.{ext_get_or, get_or-set_same, get_or-set_other}
 use borrow.Author.Count.{below_none, below_more}
-use Rattle.words.specs.Outcome.{Outcome, refused, accepted, after, checked}
+use Rattle.words.specs.Outcome.{Outcome, refused, accepted, after}
 use Rattle.words.specs.All.{all}
 use Rattle.words.specs.SetBits.{bits_of}
 use Rattle.words.proofs.AllLaws.{tabled_at}
 use Rattle.words.proofs.RefusalLaws.{after_first}
-use Rattle.words.specs.declared.Check.{Check}
-use Rattle.words.specs.declared.Check.TheVariants as checks
 use Rattle.fields.specs.Sizes.{field_size}
 use Rattle.record.specs.Held.{slot_mask, slot_bits, slot_at}
 use Rattle.record.specs.Layout.{record_words}
@@ -20,8 +18,7 @@ use Rattle.record.proofs.HoldLaws.{slot_inside}
 use Rattle.table.specs.Layout.{base, record_at}
 use Rattle.table.specs.Stream.{stream_number_list}
 use Rattle.table.specs.inner.Checked.{stream_checks}
-use Rattle.table.proofs.StreamLaws.{checked_fine, checked_refused}
-use Rattle.panel.specs.Readings.{Reading, absent, record_shows, reading_of, reading_paper}
+use Rattle.panel.specs.Readings.{Reading, absent, record_shows, reading_of, shown_in}
 use Rattle.panel.specs.AllReadings.{record_readings, readings_of, in_each}
 use Rattle.panel.specs.declared.FieldReading.{FieldReading}
 use Rattle.panel.specs.declared.FieldReading.TheVariants as dial
@@ -70,21 +67,21 @@ module _ (i slot n : ℕ) (h : i < 21) (e : slot ≡ slot_at (30 - i)) (f : n �
 pub record Showing (r : List ℕ) (i : ℕ) (ds : List FieldReading) : Type 0 where
   pub many : length ds ≡ 21
   pub bound : i ≤ 21
-  pub each : (k : ℕ) → k < i → reading_paper (get_or ds k dial.Absent) ≡ accepted (record_shows (30 - k) r)
+  pub each : (k : ℕ) → k < i → shown_in (get_or ds k dial.Absent) ≡ record_shows (30 - k) r
 
 module _ (r : List ℕ) where
   pub showing_none : (ds : List FieldReading) → length ds ≡ 21 → Showing r 0 ds
   showing_none ds l = record { many = l; bound = omega arith; each = below_none _ }
 
-  pub showing_more : (i : ℕ) (ds : List FieldReading) (d : FieldReading) → i < 21 → Showing r i ds → reading_paper d ≡ accepted (record_shows (30 - i) r)
+  pub showing_more : (i : ℕ) (ds : List FieldReading) (d : FieldReading) → i < 21 → Showing r i ds → shown_in d ≡ record_shows (30 - i) r
       → Showing r (i + 1) (set ds i d)
   showing_more i ds d h f e = record {
     many = length-set ds i d ∙ f.many;
     bound = omega arith;
     each =
-        below_more (λ k. reading_paper (get_or (set ds i d) k dial.Absent) ≡ accepted (record_shows (30 - k) r)) i
-        (λ k l. ap reading_paper (get_or-set_other ds i k d dial.Absent (λ q. absurd (omega (arith, l, q)))) ∙ f.each k l)
-        (ap reading_paper (get_or-set_same ds i d dial.Absent (omega (arith, f.many, h))) ∙ e);
+        below_more (λ k. shown_in (get_or (set ds i d) k dial.Absent) ≡ record_shows (30 - k) r) i
+        (λ k l. ap shown_in (get_or-set_other ds i k d dial.Absent (λ q. absurd (omega (arith, l, q)))) ∙ f.each k l)
+        (ap shown_in (get_or-set_same ds i d dial.Absent (omega (arith, f.many, h))) ∙ e);
   }
 
   pub readings_many : length (record_readings r) ≡ 21
@@ -96,19 +93,19 @@ module _ (r : List ℕ) where
   readings_at i h =
       map_at (λ b. record_shows b r) slot_bits i 0 absent (omega (arith, fields_many, h)) ∙ ap (λ (b : ℕ). record_shows b r) (field_bit_lem i h)
 
-  pub showing_all : (i : ℕ) (ds : List FieldReading) → 21 ≤ i → Showing r i ds → map reading_paper ds ≡ map accepted (record_readings r)
+  pub showing_all : (i : ℕ) (ds : List FieldReading) → 21 ≤ i → Showing r i ds → map shown_in ds ≡ record_readings r
+  unfolding record_readings
   showing_all i ds h f =
-      map_both reading_paper accepted ds (record_readings r) dial.Absent absent (f.many ∙ sym readings_many)
+      map_both shown_in (λ b. record_shows b r) ds slot_bits dial.Absent 0 (f.many ∙ sym fields_many)
       (λ k l.
       let m : k < 21 = omega (arith, f.many, l) in
-      f.each k (omega (arith, h, m)) ∙ ap accepted (sym (readings_at k m)))
+      f.each k (omega (arith, h, m)) ∙ ap (λ (b : ℕ). record_shows b r) (sym (field_bit_lem k m)))
 
 pub all_lent : (t : List ℕ) (s at : ℕ) (ds : List FieldReading) → at ≡ base s
-    → map reading_paper ds ≡ map accepted (record_readings (take (at + record_words - at) (drop at t)))
-    → map reading_paper ds ≡ map accepted (record_readings (record_at s t))
-all_lent t s at ds e h = h ∙ ap (λ (r : List ℕ). map accepted (record_readings r)) (lent_record t s at e)
+    → map shown_in ds ≡ record_readings (take (at + record_words - at) (drop at t)) → map shown_in ds ≡ record_readings (record_at s t)
+all_lent t s at ds e h = h ∙ ap record_readings (lent_record t s at e)
 
--- the refusal in every entry, or the readings, one by one
+-- ---- a refusal in every entry, or the readings, one by one
 map_twice : {A B C : Type 0} (f : B → C) (g : A → B) (xs : List A) → map f (map g xs) ≡ map (λ x. f (g x)) xs
 map_twice f g [] = refl
 map_twice f g (x ∷ xs) = ap (◌∷◌ (f (g x))) (map_twice f g xs)
@@ -117,29 +114,21 @@ each_after : (o : Outcome Unit) (f : ℕ → Reading) → in_each (after o (acce
 each_after (refused n) f = refl
 each_after (accepted u) f = map_twice accepted f slot_bits
 
--- ---- the public answer, k being what the stream's number was found to be
+-- ---- the public answer
 module _ (t : List ℕ) (s : ℕ) where
   readings_asked : readings_of t s ≡ after (stream_checks t s) (accepted (record_readings (record_at s t)))
   unfolding readings_of stream_checks
   readings_asked = sym (after_first (stream_number_list t s) tt _)
 
-  module _ (k : Check) (e : checked k ≡ stream_checks t s) where
-    pub readings_refused : (n : ℕ) → k ≡ checks.Refused n → readings_of t s ≡ refused n
-    readings_refused n f = rw (readings_asked, checked_refused t s k e n f)
+  pub readings_refused : (n : ℕ) → refused n ≡ stream_checks t s → refused n ≡ readings_of t s
+  readings_refused n e = rw (readings_asked, ← e)
 
-    pub readings_accepted : k ≡ checks.Fine → readings_of t s ≡ accepted (record_readings (record_at s t))
-    readings_accepted f = rw (readings_asked, checked_fine t s k e f)
+  pub readings_accepted : accepted tt ≡ stream_checks t s → accepted (record_readings (record_at s t)) ≡ readings_of t s
+  readings_accepted e = rw (readings_asked, ← e)
 
-    pub all_refused : (n : ℕ) → k ≡ checks.Refused n → map reading_paper (replicate 21 (dial.Refused n)) ≡ in_each (readings_of t s)
-    all_refused n f =
-        rw (readings_refused n f)
-        (map_both reading_paper (λ b. refused n) (replicate 21 (dial.Refused n)) slot_bits dial.Absent 0
-        (length-replicate 21 (dial.Refused n) ∙ sym fields_many)
-        (λ i h. ap reading_paper (get_or-replicate 21 i (dial.Refused n) dial.Absent (omega (arith, length-replicate 21 (dial.Refused n), h)))))
-
-    pub all_shown : (ds : List FieldReading) → k ≡ checks.Fine → map reading_paper ds ≡ map accepted (record_readings (record_at s t))
-        → map reading_paper ds ≡ in_each (readings_of t s)
-    all_shown ds f h = rw (readings_accepted f) h
+  pub all_shown : (ds : List FieldReading) → accepted tt ≡ stream_checks t s → map shown_in ds ≡ record_readings (record_at s t)
+      → accepted (map shown_in ds) ≡ readings_of t s
+  all_shown ds e h = ap accepted h ∙ readings_accepted e
 
   -- ---- entry by entry a reading
 

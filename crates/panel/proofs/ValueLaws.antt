@@ -3,7 +3,9 @@
 use Rattle.words.proofs.Kit.{◌≡◌, refl, sym, ap, subst, ◌∙◌, true, false, ⊎_elim, ℕ, zero, suc, ◌+◌, ◌-◌, ◌*◌, ◌/◌, ◌%◌, ◌^◌, ◌≤◌, ◌<◌, arith, lt-ltb}
 use Rattle.words.proofs.Kit.{le-ltb, lt-leb}
 use native.Mathlib.Nat.{le_of_lt, lt_of_lt_of_le, lt_of_le_of_lt}
-use borrow.Author.Rules.{sfits_of}
+use borrow.Author.Rules.{rules, sfits_of}
+use Rattle.std.specs.Prelude.{Result, Ok, Err}
+use Rattle.std.specs.Result.{IsOk}
 use lib.Dec.{T, lit≤, le→leb, lt→ltb}
 use lib.IntN.{ℤ, pos, negsuc, neg_ℤ, ◌+ℤ◌, ◌-ℤ◌, ◌*ℤ◌}
 use lib.Ieee.{Float, binary32, in_float, div, of_int}
@@ -13,15 +15,14 @@ use mir.Syntax.{w64}
 use mir.Val.{SFits, to_z, of_z}
 use mir.ValLaws.{to_z-of_z}
 use Rattle.words.specs.Tests.{pick}
+use Rattle.words.specs.declared.refusals.Refusal.{Refusal}
+use Rattle.words.specs.Listed.{list_number, on_paper}
 use Rattle.words.specs.Outcome.{refused, accepted}
 use Rattle.words.specs.Word.{high_first}
 use Rattle.words.proofs.Cases.{le_or_lt, accepted_same}
 use Rattle.words.proofs.PowerLaws.{signed_low, signed_high, signed_mag}
 use Rattle.words.specs.Signed.{twos_complement}
 use Rattle.payload_format.specs.Signs.{signed_of}
-use Rattle.payload_format.specs.Answers.{shown_paper}
-use Rattle.payload_format.specs.declared.signs.Shown.{Shown}
-use Rattle.payload_format.specs.declared.signs.Shown.TheVariants as shown
 use Rattle.panel.specs.Values.{units_of, floor_div, floor_rem}
 
 -- ---- what the machine reads back from a signed number's bits
@@ -36,17 +37,14 @@ module _ (w x : ℕ) (lo : 1 ≤ w) (hi : w ≤ 64) (b : x < 2 ^ w) where
   unfolding signed_of
   value_fits = simp (le-ltb w 1 lo, le-ltb 64 w hi, lt-leb (2 ^ w) x b)
 
-  module _ (k : Shown) (e : shown_paper k ≡ signed_of w x) where
-    pub value_told : (z : ℤ) → k ≡ shown.Value z → to_z w64 (of_z w64 z) ≡ twos_complement w x
-    value_told z f =
-        let i : z ≡ twos_complement w x = accepted_same (sym (ap shown_paper f) ∙ e ∙ value_fits) in
-        let most : 2 ^ (w - 1) ≤ 2 ^ 63 = pow_mono {i = w - 1} {j = 63} (omega arith) in
-        back z (subst (λ (y : ℤ). mag y < 2 ^ 63) (sym i) (lt_of_lt_of_le (signed_mag w x lo b) most)) i
+  pub value_told : (k : Result ℤ Refusal) → on_paper k ≡ signed_of w x → IsOk k
+  value_told (Ok z) e = search rules
+  value_told (Err r) e =
+      let g : refused (list_number r) ≡ accepted (twos_complement w x) = e ∙ value_fits in
+      let z : ◌≡◌ {A = ℕ} 0 1 = cc in absurd (omega arith)
 
-    pub value_untold : (n : ℕ) (y : ℤ) → k ≡ shown.Refused n → y ≡ twos_complement w x
-    value_untold n y f =
-        let g : refused n ≡ accepted (twos_complement w x) = sym (ap shown_paper f) ∙ e ∙ value_fits in
-        let z : ◌≡◌ {A = ℕ} 0 1 = cc in absurd (omega arith)
+  pub value_read : (k : Result ℤ Refusal) → on_paper k ≡ signed_of w x → (z : ℤ) → mag z < 2 ^ 63 → k ≡ Ok z → to_z w64 (of_z w64 z) ≡ twos_complement w x
+  value_read k e z h f = back z h (accepted_same (sym (ap on_paper f) ∙ e ∙ value_fits))
 
 -- ---- a frequency's parts are the lower 20 bits of its second word
 pub parts_is : (h l : ℕ) → h < 2 ^ 32 → l < 2 ^ 32 → floor_rem (units_of h l) 1048576 ≡ l % 1048576

@@ -1,10 +1,12 @@
 -- Document 01, 'Readings for the panel': "A reading is a frequency, a level, a gain pair, a temperature, other (held, nothing more said), or absent"; and
 -- "Reading: TABLE, STREAM, VALUE".
-use Rattle.std.specs.Prelude.{ℕ, Bool, true, List, [], ◌∷◌, ◌++◌, eqb, ltb, leb, get_or, ℤ, Float}
+use Rattle.std.specs.Prelude.{ℕ, Bool, true, List, [], ◌∷◌, ◌++◌, eqb, ltb, leb, get_or, ℤ, Float, Result}
 use Rattle.words.specs.Numbers.{VALUE}
 use Rattle.words.specs.Tests.{pick, both, either}
-use Rattle.words.specs.Outcome.{Outcome, refused, accepted}
+use Rattle.words.specs.Outcome.{Outcome, accepted}
 use Rattle.words.specs.Refusals.{Refusals, first_given}
+use Rattle.words.specs.Listed.{on_paper_as}
+use Rattle.words.specs.declared.refusals.Refusal.{Refusal}
 use Rattle.record.specs.Layout.{slot_of, is_held}
 use Rattle.table.specs.Layout.{record_at}
 use Rattle.table.specs.Stream.{stream_number_list}
@@ -52,12 +54,15 @@ reading_list t stream bit = stream_number_list t stream ++ bit_list bit
 unfoldable pub reading_of : List ℕ → ℕ → ℕ → Outcome Reading
 reading_of t stream bit = first_given (reading_list t stream bit) (accepted (record_shows bit (record_at stream t)))
 
--- the number or the values of its answer
-abbrev pub reading_paper : FieldReading → Outcome Reading
-reading_paper (dial.Frequency hertz parts) = accepted (frequency hertz parts)
-reading_paper (dial.Level x) = accepted (level x)
-reading_paper (dial.Gain g) = accepted (gain g.stage1 g.stage2)
-reading_paper (dial.Temperature x) = accepted (temperature x)
-reading_paper dial.Other = accepted other
-reading_paper dial.Absent = accepted absent
-reading_paper (dial.Refused n) = refused n
+-- the values of its answer
+abbrev pub shown_in : FieldReading → Reading
+shown_in (dial.Frequency hertz parts) = frequency hertz parts
+shown_in (dial.Level x) = level x
+shown_in (dial.Gain g) = gain g.stage1 g.stage2
+shown_in (dial.Temperature x) = temperature x
+shown_in dial.Other = other
+shown_in dial.Absent = absent
+
+-- and the number of a refusal
+abbrev pub reading_paper : Result FieldReading Refusal → Outcome Reading
+reading_paper r = on_paper_as shown_in r

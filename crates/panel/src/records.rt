@@ -1,20 +1,24 @@
 // A field in the record of a stream: what it shows, and its words.
 ghost use Rattle.std.specs.Prelude.{map, ◌≡◌, ◌≤◌, ◌<◌, length};
-ghost use Rattle.words.specs.Outcome.{accepted, measured, Meets};
+ghost use Rattle.words.specs.Listed.{on_paper};
+ghost use Rattle.words.specs.Outcome.{Meets};
 ghost use Rattle.record.specs.Held.{slot_at};
 ghost use Rattle.record.specs.Layout.{record_words, held_words_in};
 ghost use Rattle.table.specs.Layout.{Has, record_at};
-ghost use Rattle.panel.specs.Readings.{record_shows, reading_paper};
+ghost use Rattle.panel.specs.Readings.{record_shows, shown_in};
 ghost use Rattle.panel.specs.AllReadings.{record_readings};
 ghost use Rattle.panel.specs.inner.Copied.{copy_of};
 
+use crate::FieldReading;
+use words::Refusal;
+
 // What the field of a bit shows in a record.
-fn read_record(rec: &[u32], bit: u32) -> crate::FieldReading
+fn read_record(rec: &[u32], bit: u32) -> FieldReading
     requires { (length rec.now ≡ record_words) × (10 ≤ bit) × (bit ≤ 30) }
-    ensures { reading_paper result ≡ accepted (record_shows bit rec.now) }
+    ensures { shown_in result ≡ record_shows bit rec.now }
 {
     if !record::inner::is_held(rec, bit) {
-        return crate::FieldReading::Absent;
+        return FieldReading::Absent;
     }
     let at = record::inner::HEAD_WORDS + record::inner::slot_at(bit);
     let end = at + fields::inner::field_size(bit);
@@ -22,11 +26,11 @@ fn read_record(rec: &[u32], bit: u32) -> crate::FieldReading
 }
 
 // What each field shows in a record: entry i is that of bit 30 - i. The place among the slots runs along.
-fn read_all(rec: &[u32]) -> [crate::FieldReading; 21]
+fn read_all(rec: &[u32]) -> [FieldReading; 21]
     requires { length rec.now ≡ record_words }
-    ensures { map reading_paper result ≡ map accepted (record_readings rec.now) }
+    ensures { map shown_in result ≡ record_readings rec.now }
 {
-    let mut dials = [crate::FieldReading::Absent; 21];
+    let mut dials = [FieldReading::Absent; 21];
     let mut slot = 0;
     let mut i = 0;
     while i < 21 {
@@ -39,24 +43,24 @@ fn read_all(rec: &[u32]) -> [crate::FieldReading; 21]
 }
 
 // The words of a field that a record holds, copied to the front of out.
-fn copy_record(rec: &[u32], bit: u32, out: &mut [u32]) -> words::Length
+fn copy_record(rec: &[u32], bit: u32, out: &mut [u32]) -> Result<usize, Refusal>
     requires { (length rec.now ≡ record_words) × (10 ≤ bit) × (bit ≤ 30) }
-    ensures { Meets measured (copy_of (held_words_in bit rec.now) out.old) out.old result out.new }
+    ensures { Meets on_paper (copy_of (held_words_in bit rec.now) out.old) out.old result out.new }
 {
     let held = record::inner::is_held(rec, bit);
     let n = words::inner::when_so(held, fields::inner::field_size(bit));
     if out.len() < n {
-        return words::Length::Refused(words::ROOM);
+        return Err(Refusal::Room);
     }
     let at = record::inner::HEAD_WORDS + record::inner::slot_at(bit);
     words::inner::copy_part(out, 0, rec, at, n);
-    words::Length::Accepted(n)
+    Ok(n)
 }
 
 // What the field of a bit shows in the record of a stream.
-pub fn read_at(table: &[u32], stream: usize, bit: u32) -> crate::FieldReading
+pub fn read_at(table: &[u32], stream: usize, bit: u32) -> FieldReading
     requires { (stream < 32) × Has stream table.now × (10 ≤ bit) × (bit ≤ 30) }
-    ensures { reading_paper result ≡ accepted (record_shows bit (record_at stream table.now)) }
+    ensures { shown_in result ≡ record_shows bit (record_at stream table.now) }
 {
     let at = table::inner::record_at(stream);
     let end = at + record::inner::RECORD_WORDS;
@@ -64,9 +68,9 @@ pub fn read_at(table: &[u32], stream: usize, bit: u32) -> crate::FieldReading
 }
 
 // What the field of a bit, whose slot is at a place among the slots, shows in the record of a stream, for a loop over all fields.
-pub fn show_at(table: &[u32], stream: usize, bit: u32, slot: usize) -> crate::FieldReading
+pub fn show_at(table: &[u32], stream: usize, bit: u32, slot: usize) -> FieldReading
     requires { (stream < 32) × Has stream table.now × (10 ≤ bit) × (bit ≤ 30) × (slot ≡ slot_at bit) }
-    ensures { reading_paper result ≡ accepted (record_shows bit (record_at stream table.now)) }
+    ensures { shown_in result ≡ record_shows bit (record_at stream table.now) }
 {
     let at = table::inner::record_at(stream);
     let end = at + record::inner::RECORD_WORDS;
@@ -74,9 +78,9 @@ pub fn show_at(table: &[u32], stream: usize, bit: u32, slot: usize) -> crate::Fi
 }
 
 // What each field shows in the record of a stream.
-pub fn read_all_at(table: &[u32], stream: usize) -> [crate::FieldReading; 21]
+pub fn read_all_at(table: &[u32], stream: usize) -> [FieldReading; 21]
     requires { (stream < 32) × Has stream table.now }
-    ensures { map reading_paper result ≡ map accepted (record_readings (record_at stream table.now)) }
+    ensures { map shown_in result ≡ record_readings (record_at stream table.now) }
 {
     let at = table::inner::record_at(stream);
     let end = at + record::inner::RECORD_WORDS;
@@ -84,9 +88,9 @@ pub fn read_all_at(table: &[u32], stream: usize) -> [crate::FieldReading; 21]
 }
 
 // The words of a field that a stream holds, copied to the front of out.
-pub fn copy_at(table: &[u32], stream: usize, bit: u32, out: &mut [u32]) -> words::Length
+pub fn copy_at(table: &[u32], stream: usize, bit: u32, out: &mut [u32]) -> Result<usize, Refusal>
     requires { (stream < 32) × Has stream table.now × (10 ≤ bit) × (bit ≤ 30) }
-    ensures { Meets measured (copy_of (held_words_in bit (record_at stream table.now)) out.old) out.old result out.new }
+    ensures { Meets on_paper (copy_of (held_words_in bit (record_at stream table.now)) out.old) out.old result out.new }
 {
     let at = table::inner::record_at(stream);
     let end = at + record::inner::RECORD_WORDS;

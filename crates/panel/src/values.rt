@@ -12,10 +12,7 @@ fn value_of(width: u32, bits: u64) -> i64
     requires { (1 ≤ width) × (width ≤ 64) × (bits < 2 ^ width) }
     ensures { result ≡ twos_complement width bits }
 {
-    match payload_format::signed(width, bits) {
-        payload_format::Shown::Value(z) => z,
-        payload_format::Shown::Refused(_) => 0,
-    }
+    payload_format::signed(width, bits).unwrap()
 }
 
 // A half of a word, signed, over `by`, rounded by the float's own rule.

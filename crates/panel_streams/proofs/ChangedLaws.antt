@@ -13,8 +13,8 @@ use Rattle.words.specs.Tests.{when, both, same_words}
 use Rattle.words.specs.Word.{has, marked}
 use Rattle.words.specs.Part.{part}
 use Rattle.words.specs.All.{all}
-use Rattle.words.specs.Outcome.{refused, accepted, checked}
-use Rattle.words.proofs.Cases.{answered, same_test, true_or_false, both_left, both_right, both_no, true_is_false, same_words_lem, words_same}
+use Rattle.words.specs.Outcome.{refused, accepted}
+use Rattle.words.proofs.Cases.{same_test, true_or_false, both_left, both_right, both_no, true_is_false, same_words_lem, words_same}
 use Rattle.words.proofs.RefusalLaws.{first_passed, first_refused, first_fine, either_passed}
 use Rattle.words.proofs.BitLaws.{marked_small, marked_has, marked_none}
 use Rattle.words.proofs.AllLaws.{all_at, all_intro, all_more, all_fails}
@@ -28,11 +28,8 @@ use Rattle.record.proofs.HeldWordsLaws.{held_most, held_part, held_length}
 use Rattle.table.specs.Layout.{streams_of, base, Has, record_at}
 use Rattle.table.specs.Well.{well_made}
 use Rattle.table.proofs.WellLaws.{layout_has, well_whole, well_few}
-use Rattle.panel_streams.specs.Changed.{differs, changed_in, changed_list, changed_of, changed_paper}
+use Rattle.panel_streams.specs.Changed.{differs, changed_in, changed_list, changed_of}
 use Rattle.panel_streams.specs.inner.Asked.{changed_checks}
-use Rattle.panel_streams.specs.declared.changes.Changed.{Changed}
-use Rattle.words.specs.declared.Check.{Check}
-use Rattle.words.specs.declared.Check.TheVariants as checks
 
 -- ---- what the bits say
 
@@ -176,12 +173,11 @@ module _ (r q : List ℕ) (b z n m : ℕ) (h g : Bool) (l : length r ≡ record_
 -- ---- records that are lent from their places on
 pub changed_lent : (t u : List ℕ) (s v at to word : ℕ) → at ≡ base s → to ≡ base v
     → word ≡ changed_in (take (at + record_words - at) (drop at t)) (take (to + record_words - to) (drop to u))
-    → answered word ≡ answered (changed_in (record_at s t) (record_at v u))
+    → word ≡ changed_in (record_at s t) (record_at v u)
 unfolding record_at
 changed_lent t u s v at to word e f h =
-    ap answered
-    (h ∙ ap₂ changed_in (seen at (at + record_words) record_words t refl ∙ ap (λ (a : ℕ). part a record_words t) e)
-    (seen to (to + record_words) record_words u refl ∙ ap (λ (a : ℕ). part a record_words u) f))
+    h ∙ ap₂ changed_in (seen at (at + record_words) record_words t refl ∙ ap (λ (a : ℕ). part a record_words t) e)
+    (seen to (to + record_words) record_words u refl ∙ ap (λ (a : ℕ). part a record_words u) f)
 
 -- ---- what is refused, as a program asks: w and x are the answers of `well_made`, and n and m are S
 module _ (t u : List ℕ) (s v : ℕ) (w : Bool) (e : w ≡ well_made t) where
@@ -208,39 +204,36 @@ module _ (t u : List ℕ) (s v : ℕ) (w : Bool) (e : w ≡ well_made t) where
       changed_fine m h em k = rw (← e, not-false w i, ← f, not-false x j, ← en, lt-leb n s h, ← em, lt-leb m v k)
 
 -- ---- the public answer, k being what the check found
-module _ (t u : List ℕ) (s v : ℕ) (k : Check) (e : checked k ≡ changed_checks t s u v) where
-  fine : k ≡ checks.Fine → changed_checks t s u v ≡ accepted tt
-  fine f = sym e ∙ ap checked f
+module _ (t u : List ℕ) (s v : ℕ) where
+  module _ (e : accepted tt ≡ changed_checks t s u v) where
+    facts : (s < 32) × Has s t × (v < 32) × Has v u
+    unfolding changed_checks
+    facts =
+        let a = (first_passed (changed_list t s u v) _ tt (sym e)).0 in
+        let w = either_passed (not (well_made t)) (not (well_made u)) a.0 in
+        let n = either_passed (leb (streams_of t) s) (leb (streams_of u) v) a.1.0 in
+        let one = not-false (well_made t) w.0 in
+        let other = not-false (well_made u) w.1 in
+        let below : s < streams_of t = leb-false (streams_of t) s n.0 in
+        let under : v < streams_of u = leb-false (streams_of u) v n.1 in
+        (omega (arith, well_few t one), layout_has t s (well_whole t one) below, omega (arith, well_few u other), layout_has u v (well_whole u other) under)
 
-  facts : k ≡ checks.Fine → (s < 32) × Has s t × (v < 32) × Has v u
-  unfolding changed_checks
-  facts f =
-      let a = (first_passed (changed_list t s u v) _ tt (fine f)).0 in
-      let w = either_passed (not (well_made t)) (not (well_made u)) a.0 in
-      let n = either_passed (leb (streams_of t) s) (leb (streams_of u) v) a.1.0 in
-      let one = not-false (well_made t) w.0 in
-      let other = not-false (well_made u) w.1 in
-      let below : s < streams_of t = leb-false (streams_of t) s n.0 in
-      let under : v < streams_of u = leb-false (streams_of u) v n.1 in
-      (omega (arith, well_few t one), layout_has t s (well_whole t one) below, omega (arith, well_few u other), layout_has u v (well_whole u other) under)
+    pub changed_few : s < 32
+    changed_few = facts.0
 
-  pub changed_few : k ≡ checks.Fine → s < 32
-  changed_few f = (facts f).0
+    pub changed_has : Has s t
+    changed_has = facts.1
 
-  pub changed_has : k ≡ checks.Fine → Has s t
-  changed_has f = (facts f).1
+    pub changed_other_few : v < 32
+    changed_other_few = facts.2
 
-  pub changed_other_few : k ≡ checks.Fine → v < 32
-  changed_other_few f = (facts f).2
+    pub changed_other_has : Has v u
+    changed_other_has = facts.3
 
-  pub changed_other_has : k ≡ checks.Fine → Has v u
-  changed_other_has f = (facts f).3
+    pub changed_said : (w : ℕ) → w ≡ changed_in (record_at s t) (record_at v u) → accepted w ≡ changed_of t s u v
+    unfolding changed_of changed_checks
+    changed_said w h = ap accepted h ∙ sym (first_fine (changed_list t s u v) tt tt _ (sym e))
 
-  pub changed_refused : (n : ℕ) → k ≡ checks.Refused n → refused n ≡ changed_of t s u v
+  pub changed_refused : (n : ℕ) → refused n ≡ changed_checks t s u v → refused n ≡ changed_of t s u v
   unfolding changed_of changed_checks
-  changed_refused n f = sym (first_refused (changed_list t s u v) tt n _ (sym e ∙ ap checked f))
-
-  pub changed_said : (r : Changed) → k ≡ checks.Fine → changed_paper r ≡ accepted (changed_in (record_at s t) (record_at v u))
-      → changed_paper r ≡ changed_of t s u v
-  unfolding changed_of changed_checks
-  changed_said r f h = h ∙ sym (first_fine (changed_list t s u v) tt tt _ (fine f))
+  changed_refused n e = sym (first_refused (changed_list t s u v) tt n _ (sym e))

@@ -4,14 +4,12 @@ use Rattle.std.specs.Prelude.{ℕ, Bool, not, List, [], ◌∷◌, leb}
 use Rattle.words.specs.Numbers.{TABLE, STREAM}
 use Rattle.words.specs.Tests.{both, either, same_words}
 use Rattle.words.specs.Word.{marked}
-use Rattle.words.specs.Outcome.{Outcome, refused, accepted}
+use Rattle.words.specs.Outcome.{Outcome, accepted}
 use Rattle.words.specs.Refusals.{Refusals, first_given}
 use Rattle.record.specs.Held.{slotted}
 use Rattle.record.specs.Layout.{held_words_in}
 use Rattle.table.specs.Layout.{streams_of, record_at}
 use Rattle.table.specs.Well.{well_made}
-use Rattle.panel_streams.specs.declared.changes.Changed.{Changed}
-use Rattle.panel_streams.specs.declared.changes.Changed.TheVariants as changes
 
 -- the field of bit b is one of bits 30 to 10, and the words held for it by the one record and by the other are not the same; an absent field holds no words
 unfoldable pub differs : List ℕ → List ℕ → ℕ → Bool
@@ -29,8 +27,3 @@ changed_list t s u v =
 -- what `changed` answers
 unfoldable pub changed_of : List ℕ → ℕ → List ℕ → ℕ → Outcome ℕ
 changed_of t s u v = first_given (changed_list t s u v) (accepted (changed_in (record_at s t) (record_at v u)))
-
--- the number or the value of its answer
-abbrev pub changed_paper : Changed → Outcome ℕ
-changed_paper (changes.Fields w) = accepted w
-changed_paper (changes.Refused n) = refused n

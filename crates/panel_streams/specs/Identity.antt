@@ -1,13 +1,14 @@
 -- Who a stream is, and what it holds: TABLE, STREAM. Its identifier, its choice (document 02, C-13), and its held indicator, of which bit b is set exactly
 -- where the field of bit b is held.
-use Rattle.std.specs.Prelude.{ℕ, List}
-use Rattle.words.specs.Outcome.{Outcome, refused, accepted}
+use Rattle.std.specs.Prelude.{ℕ, List, Result}
+use Rattle.words.specs.Outcome.{Outcome, accepted}
 use Rattle.words.specs.Refusals.{first_given}
+use Rattle.words.specs.Listed.{on_paper_as}
+use Rattle.words.specs.declared.refusals.Refusal.{Refusal}
 use Rattle.record.specs.Layout.{identifier_of, held_of, choice_of}
 use Rattle.table.specs.Layout.{record_at}
 use Rattle.table.specs.Stream.{stream_number_list}
 use Rattle.panel_streams.specs.declared.records.Identity.{Identity}
-use Rattle.panel_streams.specs.declared.records.Identity.TheVariants as named
 
 -- an identifier, a choice, and a held indicator
 pub record Declared : Type 0 where
@@ -23,7 +24,10 @@ declared_in r = record { identifier = identifier_of r; choice = choice_of r; hel
 unfoldable pub identity_of : List ℕ → ℕ → Outcome Declared
 identity_of t stream = first_given (stream_number_list t stream) (accepted (declared_in (record_at stream t)))
 
--- the number or the values of its answer
-abbrev pub identity_paper : Identity → Outcome Declared
-identity_paper (named.Declared identifier choice held) = accepted (record { identifier = identifier; choice = choice; held = held })
-identity_paper (named.Refused n) = refused n
+-- the values of its answer
+abbrev pub declared_as : Identity → Declared
+declared_as i = record { identifier = i.identifier; choice = i.choice; held = i.held }
+
+-- and the number of a refusal
+abbrev pub identity_paper : Result Identity Refusal → Outcome Declared
+identity_paper r = on_paper_as declared_as r

@@ -2,38 +2,33 @@
 ghost use Rattle.std.specs.Prelude.{◌≡◌, ◌+◌, ◌^◌, ◌≤◌, ◌<◌, length};
 ghost use Rattle.words.specs.Tests.{when, same_words};
 ghost use Rattle.words.specs.Part.{part};
-ghost use Rattle.words.specs.Outcome.{accepted, checked};
+ghost use Rattle.words.specs.Listed.{on_paper};
 ghost use Rattle.fields.specs.Sizes.{field_size};
 ghost use Rattle.record.specs.Held.{slot_at};
 ghost use Rattle.record.specs.Layout.{record_words};
 ghost use Rattle.table.specs.Layout.{Has, record_at};
-ghost use Rattle.panel_streams.specs.Changed.{differs, changed_in, changed_paper};
+ghost use Rattle.panel_streams.specs.Changed.{differs, changed_in};
 ghost use Rattle.panel_streams.specs.inner.Asked.{changed_checks};
 
-// The bits of the held fields that are not the same; or the number of the refusal.
-#[derive(Clone, Copy)]
-pub enum Changed {
-    Fields(u32),
-    Refused(u32),
-}
+use words::Refusal;
 
 // TABLE where either table is not well made, then STREAM where either number is not in its table.
-pub fn check(before: &[u32], stream: usize, after: &[u32], other: usize) -> words::Check
-    ensures { checked result ≡ changed_checks before.now stream after.now other }
+pub fn check(before: &[u32], stream: usize, after: &[u32], other: usize) -> Result<(), Refusal>
+    ensures { on_paper result ≡ changed_checks before.now stream after.now other }
 {
     if !table::well_made(before) {
-        return words::Check::Refused(words::TABLE);
+        return Err(Refusal::Table);
     }
     if !table::well_made(after) {
-        return words::Check::Refused(words::TABLE);
+        return Err(Refusal::Table);
     }
     if table::inner::streams(before) <= stream {
-        return words::Check::Refused(words::STREAM);
+        return Err(Refusal::Stream);
     }
     if table::inner::streams(after) <= other {
-        return words::Check::Refused(words::STREAM);
+        return Err(Refusal::Stream);
     }
-    words::Check::Fine
+    Ok(())
 }
 
 // Whether the n words from a place on are the same in both.
@@ -94,13 +89,13 @@ fn changed_fields(one: &[u32], other: &[u32]) -> u32
 }
 
 // The same of the records of two streams.
-pub fn changed_at(before: &[u32], stream: usize, after: &[u32], other: usize) -> Changed
+pub fn changed_at(before: &[u32], stream: usize, after: &[u32], other: usize) -> u32
     requires { (stream < 32) × Has stream before.now × (other < 32) × Has other after.now }
-    ensures { changed_paper result ≡ accepted (changed_in (record_at stream before.now) (record_at other after.now)) }
+    ensures { result ≡ changed_in (record_at stream before.now) (record_at other after.now) }
 {
     let at = table::inner::record_at(stream);
     let end = at + record::inner::RECORD_WORDS;
     let to = table::inner::record_at(other);
     let past = to + record::inner::RECORD_WORDS;
-    Changed::Fields(changed_fields(&before[at..end], &after[to..past]))
+    changed_fields(&before[at..end], &after[to..past])
 }

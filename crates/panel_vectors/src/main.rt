@@ -8,7 +8,7 @@ mod decimal;
 use panel::FieldReading;
 use std::io;
 use std::io::{Read, Write};
-use words::Length;
+use words::Refusal;
 
 // A frequency: whole hertz and parts of 2^20.
 fn show_frequency(output: &mut impl Write, hertz: i64, parts: u32) -> io::Result<()> {
@@ -37,7 +37,7 @@ fn show_temperature(output: &mut impl Write, x: f32) -> io::Result<()> {
     decimal::print(output, x, 6)
 }
 
-// What a reading answers.
+// What a reading shows.
 fn show(output: &mut impl Write, answer: FieldReading) -> io::Result<()> {
     match answer {
         FieldReading::Frequency { hertz, parts } => show_frequency(output, hertz, parts),
@@ -46,7 +46,19 @@ fn show(output: &mut impl Write, answer: FieldReading) -> io::Result<()> {
         FieldReading::Temperature(x) => show_temperature(output, x),
         FieldReading::Other => lines::inner::text(output, b" other"),
         FieldReading::Absent => lines::inner::text(output, b" absent"),
-        FieldReading::Refused(n) => lines::inner::named(output, b"refused", n as u64),
+    }
+}
+
+// A refusal.
+fn show_refusal(output: &mut impl Write, refusal: Refusal) -> io::Result<()> {
+    lines::inner::named(output, b"refused", u32::from(refusal) as u64)
+}
+
+// A reading, or its refusal.
+fn show_answer(output: &mut impl Write, answer: Result<FieldReading, Refusal>) -> io::Result<()> {
+    match answer {
+        Ok(reading) => show(output, reading),
+        Err(refusal) => show_refusal(output, refusal),
     }
 }
 
@@ -60,14 +72,26 @@ fn ask_reading(
     let stream = lines::inner::word(input)? as usize;
     let bit = lines::inner::word(input)?;
     lines::inner::number(output, k)?;
-    show(output, panel::reading(table, stream, bit))?;
+    show_answer(output, panel::reading(table, stream, bit))?;
     lines::inner::text(output, b"\n")
 }
 
-// What all readings answer, one after the other.
-fn show_all(output: &mut impl Write, answers: [FieldReading; 21]) -> io::Result<()> {
-    for answer in answers {
-        show(output, answer)?;
+// All readings, one after the other, or 21 times their refusal.
+fn show_all(
+    output: &mut impl Write,
+    answer: Result<[FieldReading; 21], Refusal>,
+) -> io::Result<()> {
+    match answer {
+        Ok(readings) => {
+            for reading in readings {
+                show(output, reading)?;
+            }
+        }
+        Err(refusal) => {
+            for _ in 0..21 {
+                show_refusal(output, refusal)?;
+            }
+        }
     }
     Ok(())
 }
@@ -86,11 +110,11 @@ fn ask_readings(
 }
 
 // The line of `held_words`: how many, or the refusal.
-fn show_copied(output: &mut impl Write, k: u64, answer: Length) -> io::Result<()> {
+fn show_copied(output: &mut impl Write, k: u64, answer: Result<usize, Refusal>) -> io::Result<()> {
     lines::inner::number(output, k)?;
     match answer {
-        Length::Accepted(n) => lines::inner::named(output, b"held", n as u64)?,
-        Length::Refused(n) => lines::inner::named(output, b"refused", n as u64)?,
+        Ok(n) => lines::inner::named(output, b"held", n as u64)?,
+        Err(refusal) => show_refusal(output, refusal)?,
     }
     lines::inner::text(output, b"\n")
 }
@@ -123,9 +147,9 @@ fn ask_words(
 // The line of a half in the sweep: the three readings of its table.
 fn show_half(output: &mut impl Write, h: u32, table: &[u32; 90]) -> io::Result<()> {
     lines::inner::number(output, h as u64)?;
-    show(output, panel::reading(table, 0, 24))?;
-    show(output, panel::reading(table, 0, 23))?;
-    show(output, panel::reading(table, 0, 18))?;
+    show_answer(output, panel::reading(table, 0, 24))?;
+    show_answer(output, panel::reading(table, 0, 23))?;
+    show_answer(output, panel::reading(table, 0, 18))?;
     lines::inner::text(output, b"\n")
 }
 
@@ -179,8 +203,7 @@ fn one_case(
     table: &mut [u32],
     out: &mut [u32],
 ) -> io::Result<bool> {
-    let next = lines::inner::next_word(input)?;
-    let lines::inner::Input::Word(asked) = next else {
+    let Some(asked) = lines::inner::next_word(input)? else {
         return Ok(false);
     };
     if asked == 3 {

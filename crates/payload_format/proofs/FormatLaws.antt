@@ -4,9 +4,7 @@ use Rattle.words.proofs.Kit.{ltb-false, eqb-true, not-false}
 use native.Mathlib.Nat.{div-mul-le_self, le-div_iff_mul-le, mul-le-mul_right, div-add-mod', zero-mod, mod-eq_of_lt}
 use borrow.Author.Tests.{leb-true}
 use Rattle.words.specs.Tests.{pick, either}
-use Rattle.words.specs.declared.Check.{Check}
-use Rattle.words.specs.declared.Check.TheVariants as found
-use Rattle.words.specs.Outcome.{Outcome, refused, accepted, after, checked}
+use Rattle.words.specs.Outcome.{Outcome, refused, accepted, after}
 use Rattle.words.specs.Refusals.{Refusals, first_given}
 use Rattle.words.specs.Numbers.{FORMAT, COUNT}
 use Rattle.words.specs.Word.{bits}
@@ -136,21 +134,21 @@ module _ (first second n : ℕ) where
       by_tests false true = refl
       by_tests false false = refl
 
-  module _ (answer : Check) (e : checked answer ≡ items_check first second n) where
-    -- what is let through: a legal format, and a number of items that is not too large
-    pub items_legal : answer ≡ found.Fine → Legal (packing_of first)
+  -- what is let through: a legal format, and a number of items that is not too large
+  module _ (fine : accepted tt ≡ items_check first second n) where
+    pub items_legal : Legal (packing_of first)
     unfolding items_check
-    items_legal fine = legal first (first_passed (needed_list first second n) _ tt (sym e ∙ ap checked fine)).0.0
+    items_legal = legal first (first_passed (needed_list first second n) _ tt (sym fine)).0.0
 
-    pub items_few : answer ≡ found.Fine → n ≤ 2097120
+    pub items_few : n ≤ 2097120
     unfolding items_check
-    items_few fine = count_few first second n (first_passed (needed_list first second n) _ tt (sym e ∙ ap checked fine)).0.1.0
+    items_few = count_few first second n (first_passed (needed_list first second n) _ tt (sym fine)).0.1.0
 
-    -- the answers of `words_needed`
-    pub needed_refused : (k : ℕ) → answer ≡ found.Refused k → refused k ≡ needed_of first second n
-    unfolding needed_of items_check
-    needed_refused k r = sym (first_refused (needed_list first second n) tt k _ (sym e ∙ ap checked r))
+  -- the answers of `words_needed`
+  pub needed_refused : (k : ℕ) → refused k ≡ items_check first second n → refused k ≡ needed_of first second n
+  unfolding needed_of items_check
+  needed_refused k r = sym (first_refused (needed_list first second n) tt k _ (sym r))
 
-    pub needed_accepted : (m : ℕ) → answer ≡ found.Fine → m ≡ words_for first n → accepted m ≡ needed_of first second n
-    unfolding needed_of items_check
-    needed_accepted m fine w = ap accepted w ∙ sym (first_fine (needed_list first second n) tt tt _ (sym e ∙ ap checked fine))
+  pub needed_accepted : (m : ℕ) → accepted tt ≡ items_check first second n → m ≡ words_for first n → accepted m ≡ needed_of first second n
+  unfolding needed_of items_check
+  needed_accepted m fine w = ap accepted w ∙ sym (first_fine (needed_list first second n) tt tt _ (sym fine))

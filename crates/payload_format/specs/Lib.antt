@@ -8,7 +8,5 @@ pub mod Count
 pub mod Field
 -- what `signed` answers
 pub mod Signs
--- each answer's number and values
-pub mod Answers
 -- what only the contracts inside cite
 pub mod inner

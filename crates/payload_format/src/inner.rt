@@ -1,6 +1,6 @@
 // The format's two words: the sizes that they give, FORMAT, COUNT, and the words that fields take.
 ghost use Rattle.std.specs.Prelude.{◌≡◌, ◌≤◌, ◌<◌};
-ghost use Rattle.words.specs.Outcome.{checked};
+ghost use Rattle.words.specs.Listed.{on_paper};
 ghost use Rattle.bitstream.specs.Carried.{needed};
 ghost use Rattle.payload_format.specs.Format.{link_efficient, component_repeat, repeat_size, vector_size, component_count, wide_processing};
 ghost use Rattle.payload_format.specs.Format.{format_bad, carried_bits, packing_of};
@@ -8,7 +8,7 @@ ghost use Rattle.payload_format.specs.Count.{group_of, count_bad, words_for};
 ghost use Rattle.payload_format.specs.inner.Checked.{items_check};
 
 use fields::inner::{channel_size, event_size, format_ok, item_size, packing_size, real_complex};
-use words::Check;
+use words::Refusal;
 
 // The sizes of a packing, in bits: how many of each word carry fields, and those of a field and its parts.
 #[derive(Clone, Copy)]
@@ -149,14 +149,15 @@ pub fn words_for(first: u32, n: usize) -> usize
 }
 
 // FORMAT, then COUNT of n items: what `words_needed`, packing, unpacking and the numbering of items ask first.
-pub fn items_check(first: u32, second: u32, n: usize) -> Check
-    ensures { checked result ≡ items_check first second n }
+#[tactic(auto, unfolding(crate::specs::inner::Checked::items_check))]
+pub fn items_check(first: u32, second: u32, n: usize) -> Result<(), Refusal>
+    ensures { on_paper result ≡ items_check first second n }
 {
     if format_bad(first) {
-        return Check::Refused(words::FORMAT);
+        return Err(Refusal::Format);
     }
     if count_bad(first, second, n) {
-        return Check::Refused(words::COUNT);
+        return Err(Refusal::Count);
     }
-    Check::Fine
+    Ok(())
 }

@@ -6,4 +6,4 @@ mod needed;
 mod signs;
 
 pub use needed::words_needed;
-pub use signs::{Shown, signed};
+pub use signs::signed;

@@ -2,10 +2,8 @@
 use Rattle.words.proofs.Kit.{◌≡◌, refl, sym, ◌∙◌, ap, Bool, true, false, [], ◌∷◌, ℕ, ◌/◌, ◌^◌, ◌≤◌, ◌<◌, arith, eqb, leb, le-leb, lt-leb}
 use native.Mathlib.Nat.{div-le_self}
 use borrow.Author.Tests.{leb-false}
-use Rattle.words.specs.declared.Check.{Check}
-use Rattle.words.specs.declared.Check.TheVariants as found
 use Rattle.words.specs.Tests.{pick}
-use Rattle.words.specs.Outcome.{Outcome, refused, accepted, after, checked}
+use Rattle.words.specs.Outcome.{Outcome, refused, accepted, after}
 use Rattle.words.specs.Refusals.{first_given}
 use Rattle.words.specs.Numbers.{FORMAT, COUNT, VALUE}
 use Rattle.words.proofs.RefusalLaws.{after_first, either_passed}
@@ -48,51 +46,46 @@ not_outside first second n at p =
     rw (lt-leb _ at.time p.time, lt-leb _ at.channel p.channel, lt-leb _ at.component p.component, lt-leb _ at.repeat p.repeat) refl
 
 -- ---- the answers
-module _ (first second n : ℕ) (asked : Check) (e : checked asked ≡ items_check first second n) where
+module _ (first second n : ℕ) where
   -- both lists: FORMAT and COUNT of n, which `items_check` asks, and then VALUE
   asked_first : {A : Type 0} (t : Bool) (answer : Outcome A)
       → first_given ((FORMAT, format_bad first) ∷ (COUNT, count_bad first second n) ∷ (VALUE, t) ∷ []) answer
-      ≡ after (checked asked) (pick t (refused VALUE) answer)
+      ≡ after (items_check first second n) (pick t (refused VALUE) answer)
   unfolding items_check
-  asked_first t answer =
-      let rest = pick t (refused VALUE) answer in
-      sym (after_first (needed_list first second n) tt rest) ∙ ap (λ (o : Outcome Unit). after o rest) (sym e)
+  asked_first t answer = sym (after_first (needed_list first second n) tt (pick t (refused VALUE) answer))
 
   -- ---- from an item
   module _ (item : ℕ) where
-    pub coordinates_asked : (k : ℕ) → asked ≡ found.Refused k → refused k ≡ coordinates_of first second n item
+    pub coordinates_asked : (k : ℕ) → refused k ≡ items_check first second n → refused k ≡ coordinates_of first second n item
     unfolding coordinates_of
-    coordinates_asked k r = rw (asked_first (leb n item), r)
+    coordinates_asked k r = rw (asked_first (leb n item), ← r)
 
-    module _ (fine : asked ≡ found.Fine) where
+    module _ (fine : accepted tt ≡ items_check first second n) where
       pub no_item : n ≤ item → refused VALUE ≡ coordinates_of first second n item
       unfolding coordinates_of
-      no_item h = rw (asked_first (leb n item), fine, le-leb n item h)
-
-      pub item_small : item < n → item < 2 ^ 32
-      item_small h = omega (arith, items_few first second n asked e fine)
+      no_item h = rw (asked_first (leb n item), ← fine, le-leb n item h)
 
       pub coordinates_found : item < n → (at : Coordinates) → at ≡ coordinates_under first second item → accepted at ≡ coordinates_of first second n item
       unfolding coordinates_of
-      coordinates_found h at is = rw (asked_first (leb n item), fine, lt-leb n item h, is)
+      coordinates_found h at is = rw (asked_first (leb n item), ← fine, lt-leb n item h, is)
 
   -- ---- and back
   module _ (at : Coordinates) where
-    pub item_asked : (k : ℕ) → asked ≡ found.Refused k → refused k ≡ item_of first second n at
+    pub item_asked : (k : ℕ) → refused k ≡ items_check first second n → refused k ≡ item_of first second n at
     unfolding item_of
-    item_asked k r = rw (asked_first (outside first second n at), r)
+    item_asked k r = rw (asked_first (outside first second n at), ← r)
 
-    module _ (fine : asked ≡ found.Fine) (out : Bool) (o : out ≡ outside first second n at) where
+    module _ (fine : accepted tt ≡ items_check first second n) (out : Bool) (o : out ≡ outside first second n at) where
       pub none_there : out ≡ true → refused VALUE ≡ item_of first second n at
       unfolding item_of
-      none_there h = rw (asked_first (outside first second n at), fine, ← o, h)
+      none_there h = rw (asked_first (outside first second n at), ← fine, ← o, h)
 
       module _ (h : out ≡ false) where
         box : InBox first second n at
         box = in_box first second n at (sym o ∙ h)
 
         pub time_small : at.time < 2097120
-        time_small = omega (arith, box.time, div-le_self n (group_of first second), items_few first second n asked e fine)
+        time_small = omega (arith, box.time, div-le_self n (group_of first second), items_few first second n fine)
 
         pub channel_small : at.channel < 65536
         channel_small = omega (arith, box.channel)
@@ -105,4 +98,4 @@ module _ (first second n : ℕ) (asked : Check) (e : checked asked ≡ items_che
 
         pub item_found : (item : ℕ) → item ≡ item_under first second at → accepted item ≡ item_of first second n at
         unfolding item_of
-        item_found item is = rw (asked_first (outside first second n at), fine, ← o, h, is)
+        item_found item is = rw (asked_first (outside first second n at), ← fine, ← o, h, is)

@@ -1,14 +1,12 @@
 -- Document 02, C-12: what the two calls of the numbering answer. Their order of refusals is that of packing, without ROOM: FORMAT, COUNT, VALUE.
 use Rattle.std.specs.Prelude.{ℕ, ◌/◌, Bool, [], ◌∷◌, leb}
 use Rattle.words.specs.Tests.{either}
-use Rattle.words.specs.Outcome.{Outcome, refused, accepted}
+use Rattle.words.specs.Outcome.{Outcome, accepted}
 use Rattle.words.specs.Refusals.{Refusals, first_given}
 use Rattle.words.specs.Numbers.{FORMAT, COUNT, VALUE}
 use Rattle.payload_format.specs.Format.{component_repeat, vector_size, repeat_size, component_count, format_bad}
 use Rattle.payload_format.specs.Count.{group_of, count_bad}
 use Rattle.payload_order.specs.declared.Coordinates.{Coordinates}
-use Rattle.payload_order.specs.declared.Located.{Located}
-use Rattle.payload_order.specs.declared.Located.TheVariants as located
 use Rattle.payload_order.specs.Order.{item_number, item_coordinates, Inside}
 
 -- ---- the numbering under a format
@@ -28,11 +26,6 @@ coordinates_list first second n item = (FORMAT, format_bad first) ∷ (COUNT, co
 -- what `coordinates_of` answers
 unfoldable pub coordinates_of : (first second n item : ℕ) → Outcome Coordinates
 coordinates_of first second n item = first_given (coordinates_list first second n item) (accepted (coordinates_under first second item))
-
--- Document 01: "Where an answer is an enum, a definition gives this paper's number and values for each of its cases."
-abbrev pub located_paper : Located → Outcome Coordinates
-located_paper (located.At at) = accepted at
-located_paper (located.Refused n) = refused n
 
 -- ---- and back
 

@@ -4,11 +4,11 @@
 mod order;
 
 ghost use Rattle.std.specs.Prelude.{◌≡◌};
-ghost use Rattle.words.specs.Outcome.{measured};
-ghost use Rattle.payload_order.specs.Numbering.{coordinates_of, located_paper, item_of};
+ghost use Rattle.words.specs.Listed.{on_paper};
+ghost use Rattle.payload_order.specs.Numbering.{coordinates_of, item_of};
 
 use payload_format::inner::items_check;
-use words::{Check, Length};
+use words::Refusal;
 
 // What an item of a payload is: the group that it stands in, counted from 0; the channel of the sample vector; the component of the sample, 0 for real, I or
 // amplitude, 1 for Q or phase; and which one it is of those that are repeated.
@@ -20,37 +20,31 @@ pub struct Coordinates {
     pub repeat: u32,
 }
 
-// What `coordinates_of` answers.
-#[derive(Clone, Copy)]
-pub enum Located {
-    At(Coordinates),
-    Refused(u32),
-}
-
 // The coordinates of an item among n; FORMAT and COUNT as in packing, then VALUE for an item that is not below n.
-pub fn coordinates_of(first: u32, second: u32, n: usize, item: usize) -> Located
-    ensures { located_paper result ≡ coordinates_of first second n item }
+#[tactic(auto, using(crate::proofs::NumberingLaws::coordinates_asked, crate::proofs::NumberingLaws::no_item, crate::proofs::NumberingLaws::coordinates_found))]
+pub fn coordinates_of(
+    first: u32,
+    second: u32,
+    n: usize,
+    item: usize,
+) -> Result<Coordinates, Refusal>
+    ensures { on_paper result ≡ coordinates_of first second n item }
 {
-    let asked = items_check(first, second, n);
-    if let Check::Refused(number) = asked {
-        return Located::Refused(number);
-    }
+    items_check(first, second, n)?; // FORMAT, then COUNT
     if n <= item {
-        return Located::Refused(words::VALUE);
+        return Err(Refusal::Value);
     }
-    Located::At(order::coordinates_under(first, second, item as u32))
+    Ok(order::coordinates_under(first, second, item as u32))
 }
 
 // The item among n that has these coordinates; FORMAT and COUNT as in packing, then VALUE for a coordinate outside its range.
-pub fn item_at(first: u32, second: u32, n: usize, at: Coordinates) -> Length
-    ensures { measured result ≡ item_of first second n at }
+#[tactic(auto, using(crate::proofs::NumberingLaws::item_asked, crate::proofs::NumberingLaws::none_there, crate::proofs::NumberingLaws::time_small, crate::proofs::NumberingLaws::channel_small, crate::proofs::NumberingLaws::component_small, crate::proofs::NumberingLaws::repeat_small, crate::proofs::NumberingLaws::item_found))]
+pub fn item_at(first: u32, second: u32, n: usize, at: Coordinates) -> Result<usize, Refusal>
+    ensures { on_paper result ≡ item_of first second n at }
 {
-    let asked = items_check(first, second, n);
-    if let Check::Refused(number) = asked {
-        return Length::Refused(number);
-    }
+    items_check(first, second, n)?; // the same two
     if order::is_outside(first, second, n, at) {
-        return Length::Refused(words::VALUE);
+        return Err(Refusal::Value);
     }
-    Length::Accepted(order::item_under(first, second, at))
+    Ok(order::item_under(first, second, at))
 }

@@ -1,6 +1,9 @@
 -- Numbers that fit, tested all at once. The idea: a number is at most the bits that any of them has, so all are below a power of two where those are.
-use Rattle.words.proofs.Kit.{◌≡◌, refl, sym, ap, ◌∙◌, Bool, true, ⊎_elim, List, ℕ, zero, suc, ◌+◌, ◌^◌, ◌≤◌, ◌<◌, arith, get_or, length, ltb, lt-ltb, le-ltb}
+use Rattle.words.proofs.Kit.{◌≡◌, refl, sym, ap, ◌∙◌, Bool, true, ⊎_elim, List, ℕ, zero, suc, ◌+◌, ◌^◌, ◌≤◌, ◌<◌, arith, get_or, length, take, ltb, lt-ltb, le-ltb}
 use native.Mathlib.Numerals.{add-one}
+use Rattle.std.specs.List.{fold}
+use Rattle.std.proofs.lemmas.List.{take_all}
+use Rattle.std.proofs.lemmas.List.Sums.{fold_more}
 use lib.Bits.{bit_or, or_lt, or_add_and, and_le_l, and_le_r}
 use lib.Pow.{pow_pos}
 use borrow.Author.Tests.{ltb-true}
@@ -14,13 +17,17 @@ use Rattle.payload_pack.specs.inner.AnyBits.{any_bits}
 or_over : (a b : ℕ) → (a ≤ bit_or a b) × (b ≤ bit_or a b)
 or_over a b = (omega (arith, or_add_and a b, and_le_r a b), omega (arith, or_add_and a b, and_le_l a b))
 
-pub joined_none : (l : List ℕ) → 0 ≡ any_bits 0 l
+-- of a whole list
+joined_front : (n : ℕ) (l : List ℕ) → n ≤ length l → fold bit_or 0 (take n l) ≡ any_bits n l
 unfolding any_bits
-joined_none l = refl
+joined_front zero l q = refl
+joined_front (suc n) l q =
+    ap (λ (k : ℕ). fold bit_or 0 (take k l)) (sym (add-one n))
+    ∙ fold_more bit_or 0 l n 0 (omega arith)
+    ∙ ap (λ (x : ℕ). bit_or x (get_or l n 0)) (joined_front n l (omega arith))
 
-pub joined_more : (n : ℕ) (l : List ℕ) (x : ℕ) → x ≡ any_bits n l → bit_or x (get_or l n 0) ≡ any_bits (n + 1) l
-unfolding any_bits
-joined_more n l x e = rw (add-one n, e)
+pub joined_all : (l : List ℕ) → fold bit_or 0 l ≡ any_bits (length l) l
+joined_all l = ap (fold bit_or 0) (sym (take_all (length l) l (omega arith))) ∙ joined_front (length l) l (omega arith)
 
 -- all fit w bits exactly when the bits that any of them has do
 joined_fit : (w n : ℕ) (l : List ℕ) → all n (λ k. ltb (get_or l k 0) (2 ^ w)) ≡ ltb (any_bits n l) (2 ^ w)

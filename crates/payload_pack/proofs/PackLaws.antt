@@ -1,18 +1,18 @@
 -- What is known where nothing of packing is refused, and the answers of `pack` by whether its checks pass.
 use Rattle.words.proofs.Kit.{◌≡◌, refl, sym, ap, true, false, not, List, [], ◌∷◌, ⊎_elim, ℕ, ◌+◌, ◌-◌, ◌*◌, ◌^◌, ◌≤◌, ◌<◌, arith, length, get_or, ltb}
-use Rattle.words.proofs.Kit.{eqb, ltb-false, eqb-true, not-false}
+use Rattle.words.proofs.Kit.{Bool, eqb, ltb-false, eqb-true, not-false, eq-eqb, ne_eqb, lt-ltb, le-ltb}
 use lib.ListN.{get_or-eq_default}
 use lib.Arith.{lt-one}
 use Rattle.words.specs.Tests.{either}
-use Rattle.words.specs.declared.Check.{Check}
-use Rattle.words.specs.declared.Check.TheVariants as found
-use Rattle.words.specs.declared.Length.TheVariants.{Accepted, Refused}
-use Rattle.words.specs.Outcome.{Outcome, refused, accepted, checked, measured, Meets}
+use Rattle.std.specs.Prelude.{Ok, Err}
+use Rattle.words.specs.declared.refusals.Refusal.{Refusal}
+use Rattle.words.specs.Listed.{list_number, on_paper}
+use Rattle.words.specs.Outcome.{Outcome, refused, accepted, Meets}
 use Rattle.words.specs.Refusals.{first_given}
 use Rattle.words.specs.Numbers.{COUNT, VALUE, ROOM}
 use Rattle.words.proofs.Cases.{le_or_lt}
 use Rattle.words.proofs.RefusalLaws.{first_passed, either_passed, first_refused, first_fine}
-use Rattle.words.proofs.MeetLaws.{meets_refused, meets_length}
+use Rattle.words.proofs.MeetLaws.{meets_err, meets_ok}
 use Rattle.fields.specs.Format.{event_size, channel_size, item_size}
 use Rattle.bitstream.specs.Carried.{needed, word_of}
 use Rattle.bitstream.specs.Filled.{filled}
@@ -23,7 +23,7 @@ use Rattle.payload_format.specs.inner.Checked.{items_check}
 use Rattle.payload_format.specs.Field.{fields_of}
 use Rattle.payload_pack.specs.Pack.{packed, fitting, value_bad, pack_list, pack_of}
 use Rattle.payload_pack.specs.inner.Packable.{pack_check, Packable, Fitting}
-use Rattle.payload_format.proofs.FormatLaws.{legal, count_few, items_first}
+use Rattle.payload_format.proofs.FormatLaws.{legal, count_few, items_first, items_few}
 use Rattle.payload_pack.proofs.FitLaws.{fitting_each}
 
 -- a list whose entries have no bits is 0 everywhere
@@ -50,13 +50,13 @@ untagged p n items events channels out z he hc =
         rw (e, c) (omega arith)
 
 -- ---- the answers of `pack_check`, by what `items_check` says
-module _ (first second : ℕ) (items events channels : List ℕ) (room : ℕ) (answer : Check) (e : checked answer ≡ items_check first second (length items)) where
-  pub asked_refused : (k : ℕ) → answer ≡ found.Refused k → refused k ≡ pack_check first second items events channels room
+module _ (first second : ℕ) (items events channels : List ℕ) (room : ℕ) where
+  pub asked_refused : (k : ℕ) → refused k ≡ items_check first second (length items) → refused k ≡ pack_check first second items events channels room
   unfolding pack_check
-  asked_refused k r = rw (items_first first second (length items), ← e, r)
+  asked_refused k r = rw (items_first first second (length items), ← r)
 
   -- the lines of `pack_check` that are left
-  pub asked_fine : answer ≡ found.Fine → pack_check first second items events channels room
+  pub asked_fine : accepted tt ≡ items_check first second (length items) → pack_check first second items events channels room
       ≡ first_given
       ((COUNT, either (not (eqb (length events) (length items))) (not (eqb (length channels) (length items))))
       ∷ (VALUE, value_bad first items events channels)
@@ -64,7 +64,59 @@ module _ (first second : ℕ) (items events channels : List ℕ) (room : ℕ) (a
       ∷ [])
       (accepted tt)
   unfolding pack_check
-  asked_fine r = rw (items_first first second (length items), ← e, r)
+  asked_fine r = rw (items_first first second (length items), ← r)
+
+module _ (first second : ℕ) (items events channels : List ℕ) (room : ℕ) (fine : accepted tt ≡ items_check first second (length items)) where
+  pub events_refused : (length events ≡ length items → ⊥) → refused COUNT ≡ pack_check first second items events channels room
+  events_refused d = rw (asked_fine first second items events channels room fine, ne_eqb (length events) (length items) d)
+
+  module _ (a : length events ≡ length items) where
+    pub channels_refused : (length channels ≡ length items → ⊥) → refused COUNT ≡ pack_check first second items events channels room
+    channels_refused d =
+        rw (
+          asked_fine first second items events channels room fine,
+          eq-eqb (length events) (length items) a,
+          ne_eqb (length channels) (length items) d,
+        )
+
+    module _ (b : length channels ≡ length items) (bad : Bool) (v : bad ≡ value_bad first items events channels) where
+      pub value_refused : bad ≡ true → refused VALUE ≡ pack_check first second items events channels room
+      value_refused set =
+          rw (
+            asked_fine first second items events channels room fine,
+            eq-eqb (length events) (length items) a,
+            eq-eqb (length channels) (length items) b,
+            ← v,
+            set,
+          )
+
+      module _ (good : bad ≡ false) (need : ℕ) (w : need ≡ words_for first (length items)) where
+        pub room_refused : room < need → refused ROOM ≡ pack_check first second items events channels room
+        room_refused h =
+            rw (
+              asked_fine first second items events channels room fine,
+              eq-eqb (length events) (length items) a,
+              eq-eqb (length channels) (length items) b,
+              ← v,
+              good,
+              ← w,
+              lt-ltb room need h,
+            )
+
+        pub all_fine : need ≤ room → accepted tt ≡ pack_check first second items events channels room
+        all_fine h =
+            rw (
+              asked_fine first second items events channels room fine,
+              eq-eqb (length events) (length items) a,
+              eq-eqb (length channels) (length items) b,
+              ← v,
+              good,
+              ← w,
+              le-ltb room need h,
+            )
+
+-- for `pack_check`
+pub ruleset lines = (asked_refused, items_few, events_refused, channels_refused, value_refused, room_refused, all_fine)
 
 -- ---- what `pack_check` lets through
 pub record PackPassed (first second : ℕ) (items events channels : List ℕ) (room : ℕ) : Type 0 where
@@ -113,12 +165,23 @@ module _ (first second : ℕ) (items events channels out : List ℕ) where
   check = pack_check first second items events channels (length out)
 
   -- a refusal, and an answer
-  pub pack_refused : (k : ℕ) → refused k ≡ check → Meets measured (pack_of first second items events channels out) out (Refused k) out
+  pub pack_refused : (r : Refusal) → refused (list_number r) ≡ check → Meets on_paper (pack_of first second items events channels out) out (Err r) out
   unfolding pack_of pack_check
-  pack_refused k e = meets_refused (first_refused (pack_list first second items events channels (length out)) tt k _ (sym e))
+  pack_refused r e = meets_err (first_refused (pack_list first second items events channels (length out)) tt (list_number r) _ (sym e))
 
-  pub pack_accepted : (m : ℕ) (after : List ℕ) → accepted tt ≡ check → m ≡ words_for first (length items)
-      → after ≡ packed (packing_of first) (length items) items events channels out
-      → Meets measured (pack_of first second items events channels out) out (Accepted m) after
-  unfolding pack_of pack_check
-  pack_accepted m after e w q = rw w (meets_length (first_fine (pack_list first second items events channels (length out)) tt tt _ (sym e)) q)
+  module _ (fine : accepted tt ≡ check) (p : Packing) (q : p ≡ packing_of first) where
+    passed : PackPassed first second items events channels (length out)
+    passed = pack_passed first second items events channels (length out) (sym fine)
+
+    pub few_items : length items ≤ 2097120
+    few_items = count_few first second (length items) passed.count
+
+    pub ready : Packable p (length items) (length out) × Fitting p.item (length items) items × Fitting p.event (length items) events
+        × Fitting p.channel (length items) channels
+    ready = rw q (packable first second items events channels (length out) passed)
+
+    pub pack_accepted : (m : ℕ) (after : List ℕ) → m ≡ words_for first (length items) → after ≡ packed p (length items) items events channels out
+        → Meets on_paper (pack_of first second items events channels out) out (Ok m) after
+    unfolding pack_of pack_check
+    pack_accepted m after w l =
+        rw w (meets_ok (first_fine (pack_list first second items events channels (length out)) tt tt _ (sym fine)) (rw q at l))

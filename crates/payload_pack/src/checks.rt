@@ -1,74 +1,34 @@
 // The refusals of packing: FORMAT, COUNT, VALUE, ROOM.
 ghost use Rattle.std.specs.Prelude.{◌≡◌, ◌≤◌, ◌<◌, length};
-ghost use Rattle.words.specs.Outcome.{checked};
+ghost use Rattle.words.specs.Listed.{on_paper};
 ghost use Rattle.payload_pack.specs.Pack.{fitting, value_bad};
-ghost use Rattle.payload_pack.specs.inner.AnyBits.{any_bits};
 ghost use Rattle.payload_pack.specs.inner.Packable.{pack_check};
 
 use payload_format::inner::{items_check, words_for};
-use words::Check;
+use words::Refusal;
 
-// The bits that any of the items has.
-fn join_items(items: &[u64]) -> u64
-    ensures { result ≡ any_bits (length items.now) items.now }
-{
-    let mut all: u64 = 0;
-    let mut k = 0;
-    while k < items.len() {
-        all = all | items[k];
-        k += 1;
-    }
-    all
-}
-
-// The bits that any of the event tags has.
-fn join_events(events: &[u8]) -> u8
-    ensures { result ≡ any_bits (length events.now) events.now }
-{
-    let mut all: u8 = 0;
-    let mut k = 0;
-    while k < events.len() {
-        all = all | events[k];
-        k += 1;
-    }
-    all
-}
-
-// The bits that any of the channel tags has.
-fn join_channels(channels: &[u16]) -> u16
-    ensures { result ≡ any_bits (length channels.now) channels.now }
-{
-    let mut all: u16 = 0;
-    let mut k = 0;
-    while k < channels.len() {
-        all = all | channels[k];
-        k += 1;
-    }
-    all
-}
-
-// Whether all items fit w bits.
+// Whether all items fit w bits, by the bits that any of them has.
 fn items_fit(w: usize, items: &[u64]) -> bool
     requires { (1 ≤ w) × (w ≤ 64) }
     ensures { result ≡ fitting w items.now }
 {
-    join_items(items) <= words::inner::ones(w)
+    items.iter().fold(0, |all, item| all | *item) <= words::inner::ones(w)
 }
 
-// Whether all event tags fit w bits.
+// The same of the event tags.
 fn events_fit(w: usize, events: &[u8]) -> bool
     requires { w < 64 }
     ensures { result ≡ fitting w events.now }
 {
-    (join_events(events) as u64) < words::inner::power(w)
+    (events.iter().fold(0, |all, tag| all | *tag) as u64) < words::inner::power(w)
 }
 
-// Whether all channel tags fit w bits.
+// The same of the channel tags.
 fn channels_fit(w: usize, channels: &[u16]) -> bool
     requires { w < 64 }
     ensures { result ≡ fitting w channels.now }
 {
-    (join_channels(channels) as u64) < words::inner::power(w)
+    (channels.iter().fold(0, |all, tag| all | *tag) as u64) < words::inner::power(w)
 }
 
 // Whether an item or a tag does not fit its size.
@@ -85,6 +45,7 @@ fn value_bad(first: u32, items: &[u64], events: &[u8], channels: &[u16]) -> bool
 }
 
 // The first refusal of packing, by the inputs and how many places there are.
+#[tactic(auto, using(crate::proofs::PackLaws::lines))]
 pub fn pack_check(
     first: u32,
     second: u32,
@@ -92,25 +53,22 @@ pub fn pack_check(
     events: &[u8],
     channels: &[u16],
     room: usize,
-) -> Check
-    ensures { checked result ≡ pack_check first second items.now events.now channels.now room }
+) -> Result<(), Refusal>
+    ensures { on_paper result ≡ pack_check first second items.now events.now channels.now room }
 {
     let n = items.len();
-    let asked = items_check(first, second, n);
-    if let Check::Refused(number) = asked {
-        return Check::Refused(number);
-    }
+    items_check(first, second, n)?;
     if events.len() != n {
-        return Check::Refused(words::COUNT);
+        return Err(Refusal::Count);
     }
     if channels.len() != n {
-        return Check::Refused(words::COUNT);
+        return Err(Refusal::Count);
     }
     if value_bad(first, items, events, channels) {
-        return Check::Refused(words::VALUE);
+        return Err(Refusal::Value);
     }
     if room < words_for(first, n) {
-        return Check::Refused(words::ROOM);
+        return Err(Refusal::Room);
     }
-    Check::Fine
+    Ok(())
 }

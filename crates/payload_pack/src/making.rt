@@ -7,7 +7,7 @@ ghost use Rattle.payload_format.specs.Field.{made};
 ghost use Rattle.payload_pack.specs.Pack.{packed};
 ghost use Rattle.payload_pack.specs.inner.Packable.{Packable, Fitting};
 
-use bitstream::inner::accumulator::{empty, finish, push_field};
+use bitstream::inner::accumulator::Accumulator;
 use payload_format::inner::Packing;
 
 // The field of an item and its tags.
@@ -28,13 +28,11 @@ fn pack_items(p: Packing, n: usize, items: &[u64], out: &mut [u32])
     let c = p.carry;
     let f = p.field;
     let up = p.field - p.item;
-    let mut s = empty(0);
-    let mut k: usize = 0;
-    while k < n {
-        s = push_field(c, f, s, items[k] << up, out);
-        k += 1;
+    let mut s = Accumulator::empty(0);
+    for k in 0..n {
+        s.push_field(c, f, items[k] << up, out);
     }
-    finish(s, out);
+    s.finish(out);
 }
 
 // The words of n fields.
@@ -51,14 +49,12 @@ fn pack_tagged(
 {
     let c = p.carry;
     let f = p.field;
-    let mut s = empty(0);
-    let mut k: usize = 0;
-    while k < n {
+    let mut s = Accumulator::empty(0);
+    for k in 0..n {
         let v = make(p, items[k], events[k], channels[k]);
-        s = push_field(c, f, s, v, out);
-        k += 1;
+        s.push_field(c, f, v, out);
     }
-    finish(s, out);
+    s.finish(out);
 }
 
 // The words of n fields: where a format has no tags, the fields hold items alone.

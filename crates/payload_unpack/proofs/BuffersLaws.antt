@@ -2,7 +2,7 @@
 -- comes by the field.
 use Rattle.words.proofs.Kit.{◌≡◌, ap, ◌∙◌, List, ℕ, ◌+◌, ◌-◌, ◌/◌, ◌^◌, ◌≤◌, ◌<◌, length, set}
 use Rattle.bitstream.specs.Filled.{filled}
-use Rattle.bitstream.proofs.FilledLaws.{Fills, fills_none, fills_start, fills_turn, fills_end, fills_all, fills_on}
+use Rattle.bitstream.proofs.FilledLaws.{Fills, fills_none, fills_start, fills_turn, fills_end, fills_all, filled_twice}
 use Rattle.payload_format.specs.declared.inner.Packing.{Packing}
 use Rattle.payload_format.specs.Field.{field_in, item_in, event_in, channel_in}
 use Rattle.payload_unpack.specs.Unpack.{buffers, unpacked}
@@ -45,11 +45,14 @@ module _ {p : Packing} {ws : List ℕ} {n k : ℕ} {items events channels items'
       let z = fills_all f.channel q in
       cc
 
-  -- and another loop, from k on
-  pub parts_on : (items'' events'' channels'' : List ℕ) → UnpackedOn p k n ws (buffers items' events' channels') (buffers items'' events'' channels'')
+-- the fields up to a, and then another loop from a on
+module _ (p : Packing) (ws : List ℕ) (a n : ℕ) (items events channels items' events' channels' items'' events'' channels'' : List ℕ) where
+  pub parts_twice : a ≤ n → n ≤ length items → n ≤ length events → n ≤ length channels
+      → UnpackedOn p 0 a ws (buffers items events channels) (buffers items' events' channels')
+      → UnpackedOn p a n ws (buffers items' events' channels') (buffers items'' events'' channels'')
       → buffers items'' events'' channels'' ≡ unpacked p n ws (buffers items events channels)
-  parts_on items'' events'' channels'' e =
-      let x : items'' ≡ filled n (λ j. item_in p (field_in p ws j)) items = fills_on f.item e.items in
-      let y : events'' ≡ filled n (λ j. event_in p (field_in p ws j)) events = fills_on f.event e.events in
-      let z : channels'' ≡ filled n (λ j. channel_in p (field_in p ws j)) channels = fills_on f.channel e.channels in
+  parts_twice q i e c f g =
+      let x = filled_twice a n (λ j. item_in p (field_in p ws j)) items items' items'' q i f.items g.items in
+      let y = filled_twice a n (λ j. event_in p (field_in p ws j)) events events' events'' q e f.events g.events in
+      let z = filled_twice a n (λ j. channel_in p (field_in p ws j)) channels channels' channels'' q c f.channels g.channels in
       cc

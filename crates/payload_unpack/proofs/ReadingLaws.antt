@@ -56,8 +56,8 @@ field_can p n room ws s k u l r =
     }
 
 -- what is taken, and then one more is
-module _ {c f u : ℕ} {ws : List ℕ} {s t : Accumulator} {k : ℕ} (r : Reading c f u ws s k) (h : Took c f u s ws t) where
-  pub reading_item : t.value ≡ packing_field c f ws k / 2 ^ u
+module _ {c f u : ℕ} {ws : List ℕ} {s t : Accumulator} {k v : ℕ} (r : Reading c f u ws s k) (h : Took c f u s ws v t) where
+  pub reading_item : v ≡ packing_field c f ws k / 2 ^ u
   unfolding packing_field
   reading_item = (h.keeps (f * k) r.few r.ahead).0
 
@@ -66,5 +66,5 @@ module _ {c f u : ℕ} {ws : List ℕ} {s t : Accumulator} {k : ℕ} (r : Readin
       let e : f * k + f ≡ f * (k + 1) = omega (arith, mul-add f k 1) in
       record { few = h.few; ahead = rw e at (h.keeps (f * k) r.few r.ahead).1 }
 
-pub reading_field : {c f : ℕ} {ws : List ℕ} {s t : Accumulator} {k : ℕ} → Reading c f 0 ws s k → Took c f 0 s ws t → t.value ≡ packing_field c f ws k
+pub reading_field : {c f : ℕ} {ws : List ℕ} {s t : Accumulator} {k v : ℕ} → Reading c f 0 ws s k → Took c f 0 s ws v t → v ≡ packing_field c f ws k
 reading_field {c} {f} {ws} {k = k} r h = reading_item r h ∙ div-one (packing_field c f ws k)

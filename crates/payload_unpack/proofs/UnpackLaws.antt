@@ -1,15 +1,16 @@
 -- What is known where nothing of unpacking is refused, what fields without tags hold, and the answers of `unpack`.
 use Rattle.words.proofs.Kit.{◌≡◌, refl, sym, ap, ◌∙◌, false, not, List, ℕ, ◌+◌, ◌*◌, ◌/◌, ◌%◌, ◌^◌, ◌≤◌, ◌<◌, arith, length, get_or, ltb, eqb}
-use Rattle.words.proofs.Kit.{ltb-false, eqb-true, not-false}
+use Rattle.words.proofs.Kit.{ltb-false, eqb-true, not-false, eq-eqb, ne_eqb, lt-ltb, le-ltb}
 use native.Mathlib.Nat.{mod-one, div-one}
-use Rattle.words.specs.declared.Check.{Check}
-use Rattle.words.specs.declared.Check.TheVariants as found
-use Rattle.words.specs.declared.Length.TheVariants.{Accepted, Refused}
-use Rattle.words.specs.Outcome.{Outcome, accepted, checked, measured, Meets}
+use Rattle.std.specs.Prelude.{Ok, Err}
+use Rattle.words.specs.declared.refusals.Refusal.{Refusal}
+use Rattle.words.specs.Listed.{list_number, on_paper}
+use Rattle.words.specs.Numbers.{COUNT, ROOM}
+use Rattle.words.specs.Outcome.{Outcome, refused, accepted, Meets}
 use Rattle.words.specs.Refusals.{Refusals, first_given}
 use Rattle.words.specs.Word.{high_first}
 use Rattle.words.proofs.RefusalLaws.{first_passed, either_passed, first_refused, first_fine}
-use Rattle.words.proofs.MeetLaws.{meets_refused, meets_length}
+use Rattle.words.proofs.MeetLaws.{meets_err, meets_ok}
 use Rattle.bitstream.specs.Carried.{needed}
 use Rattle.bitstream.specs.Filled.{list_of, filled}
 use Rattle.bitstream.proofs.CarriedLaws.{enough, none_over, field_word, field_words}
@@ -115,62 +116,89 @@ unpack_passed first second n m i e c h =
       channels = ltb-false c n tags.1;
     }
 
+-- ---- the answers of `fit_check`
+module _ (need words n given items events channels : ℕ) (w : words ≡ need) where
+  pub other_words : (given ≡ words → ⊥) → refused COUNT ≡ fit_check need n given items events channels
+  unfolding fit_check
+  other_words d = rw (← w, ne_eqb given words d)
+
+  module _ (a : given ≡ words) where
+    pub items_short : items < n → refused ROOM ≡ fit_check need n given items events channels
+    unfolding fit_check
+    items_short h = rw (← w, eq-eqb given words a, lt-ltb items n h)
+
+    module _ (i : n ≤ items) where
+      pub events_short : events < n → refused ROOM ≡ fit_check need n given items events channels
+      unfolding fit_check
+      events_short h = rw (← w, eq-eqb given words a, le-ltb items n i, lt-ltb events n h)
+
+      module _ (e : n ≤ events) where
+        pub channels_short : channels < n → refused ROOM ≡ fit_check need n given items events channels
+        unfolding fit_check
+        channels_short h = rw (← w, eq-eqb given words a, le-ltb items n i, le-ltb events n e, lt-ltb channels n h)
+
+        pub all_fit : n ≤ channels → accepted tt ≡ fit_check need n given items events channels
+        unfolding fit_check
+        all_fit h = rw (← w, eq-eqb given words a, le-ltb items n i, le-ltb events n e, le-ltb channels n h)
+
+-- for `fit_check`
+pub ruleset lines = (other_words, items_short, events_short, channels_short, all_fit)
+
 -- ---- the answers of `unpack`, by what `items_check` found of the format and n, and `fit_check` of the words and the places
-module _ (first second n : ℕ) (ws items events channels : List ℕ) (asked : Check) (e : checked asked ≡ items_check first second n) where
+module _ (first second n : ℕ) (ws items events channels : List ℕ) where
   abbrev lent : Buffers
   lent = buffers items events channels
 
-  pub unpack_asked : (k : ℕ) → asked ≡ found.Refused k → Meets measured (unpack_of first second n ws lent) lent (Refused k) lent
+  pub unpack_asked : (r : Refusal) → refused (list_number r) ≡ items_check first second n → Meets on_paper (unpack_of first second n ws lent) lent (Err r) lent
   unfolding unpack_of
-  unpack_asked k r = meets_refused (rw (items_first first second n, ← e, r))
+  unpack_asked r e = meets_err (rw (items_first first second n, ← e))
 
-  module _ (fine : asked ≡ found.Fine) (p : Packing) (q : p ≡ packing_of first) where
-    pub packing_legal : Legal p
-    packing_legal = rw q (items_legal first second n asked e fine)
+  module _ (fine : accepted tt ≡ items_check first second n) (p : Packing) (q : p ≡ packing_of first) where
+    packing_legal : Legal p
+    packing_legal = rw q (items_legal first second n fine)
 
-    pub items_small : n ≤ 2097120
-    items_small = items_few first second n asked e fine
+    items_small : n ≤ 2097120
+    items_small = items_few first second n fine
 
     -- the words that are needed, by the sizes
     words_here : needed p.carry p.field n ≡ words_for first n
     words_here = words_for_lem first n _ p q refl
 
-    module _ (fit : Check) (f : checked fit ≡ fit_check (needed p.carry p.field n) n (length ws) (length items) (length events) (length channels)) where
-      abbrev list : Refusals
-      list = fit_list (needed p.carry p.field n) n (length ws) (length items) (length events) (length channels)
+    abbrev list : Refusals
+    list = fit_list (needed p.carry p.field n) n (length ws) (length items) (length events) (length channels)
 
-      -- the lines of the definition that are left
-      left : unpack_of first second n ws lent ≡ first_given list (accepted (record { says = n; leaves = unpacked p n ws lent }))
-      unfolding unpack_of
-      left = rw (items_first first second n, ← e, fine, words_here, q)
+    abbrev fit : Outcome Unit
+    fit = fit_check (needed p.carry p.field n) n (length ws) (length items) (length events) (length channels)
 
-      pub unpack_unfit : (k : ℕ) → fit ≡ found.Refused k → Meets measured (unpack_of first second n ws lent) lent (Refused k) lent
+    -- the lines of the definition that are left
+    left : unpack_of first second n ws lent ≡ first_given list (accepted (record { says = n; leaves = unpacked p n ws lent }))
+    unfolding unpack_of
+    left = rw (items_first first second n, ← fine, words_here, q)
+
+    pub unpack_unfit : (r : Refusal) → refused (list_number r) ≡ fit → Meets on_paper (unpack_of first second n ws lent) lent (Err r) lent
+    unfolding fit_check
+    unpack_unfit r e = meets_err (left ∙ first_refused list tt (list_number r) _ (sym e))
+
+    module _ (fits : accepted tt ≡ fit) where
+      through : UnpackPassed first second n (length ws) (length items) (length events) (length channels)
       unfolding fit_check
-      unpack_unfit k r = meets_refused (left ∙ first_refused list tt k _ (sym f ∙ ap checked r))
+      through =
+          unpack_passed first second n (length ws) (length items) (length events) (length channels)
+          (rw (items_first first second n, ← fine, ← words_here) (sym fits))
 
-      module _ (fits : fit ≡ found.Fine) where
-        through : UnpackPassed first second n (length ws) (length items) (length events) (length channels)
-        unfolding fit_check
-        through =
-            unpack_passed first second n (length ws) (length items) (length events) (length channels)
-            (rw (items_first first second n, ← e, fine, ← words_here) (sym f ∙ ap checked fits))
+      unpackable : Unpackable p n ws (length items)
+      unpackable =
+          record {
+            legal = packing_legal;
+            few = items_small;
+            there = rw q (fields_there first n (length ws) through.there);
+            none_over = rw q (fields_fill first n (length ws) through.there);
+            places = through.items;
+          }
 
-        pub unpackable : Unpackable p n ws (length items)
-        unpackable =
-            record {
-              legal = packing_legal;
-              few = items_small;
-              there = rw q (fields_there first n (length ws) through.there);
-              none_over = rw q (fields_fill first n (length ws) through.there);
-              places = through.items;
-            }
+      pub lent_rightly : Unpackable p n ws (length items) × (n ≤ length events) × (n ≤ length channels)
+      lent_rightly = (unpackable, through.events, through.channels)
 
-        pub events_room : n ≤ length events
-        events_room = through.events
-
-        pub channels_room : n ≤ length channels
-        channels_room = through.channels
-
-        pub unpack_accepted : (after : Buffers) → after ≡ unpacked p n ws lent → Meets measured (unpack_of first second n ws lent) lent (Accepted n) after
-        unfolding fit_check
-        unpack_accepted after done = meets_length (left ∙ first_fine list tt tt _ (sym f ∙ ap checked fits)) done
+      pub unpack_accepted : (after : Buffers) → after ≡ unpacked p n ws lent → Meets on_paper (unpack_of first second n ws lent) lent (Ok n) after
+      unfolding fit_check
+      unpack_accepted after done = meets_ok (left ∙ first_fine list tt tt _ (sym fits)) done

@@ -1,9 +1,11 @@
 -- Fields read by their places. The idea: n bits from bit o of a word on are those of the words that hold n bits, without their first o, and then the
 -- first o bits of the next word (`window`); a field is the front of such bits, and its item is the front of the field (`item_here`, `field_here`).
 use Rattle.words.proofs.Kit.{◌≡◌, refl, sym, ap, ap₂, ◌∙◌, subst, List, ℕ, ◌+◌, ◌-◌, ◌*◌, ◌/◌, ◌%◌, ◌^◌, ◌≤◌, ◌<◌, arith, get_or, length, set}
-use native.Mathlib.Nat.{div-one, zero-div, add-zero, div-add-mod', mod-eq_of_lt, add-mul, mul_comm, mul-le-mul_left, mul-le-mul_right, lt_of_mul-lt-mul_right}
+use native.Mathlib.Nat.{div-one, zero-div, add-zero, div-add-mod', mod-eq_of_lt, add-mul, mul_comm, mod-lt, mul-le-mul_left, mul-le-mul_right, lt_of_mul-lt-mul_right}
 use lib.ListN.{get_or-eq_default}
 use lib.Pow.{shr_le, shr_lt, shr-shr}
+use Rattle.words.proofs.Kit.{⊎_elim}
+use Rattle.words.proofs.Cases.{le_or_lt}
 use Rattle.words.specs.Word.{high_first}
 use Rattle.bitstream.specs.Stream.{span}
 use Rattle.bitstream.specs.Carried.{stream_bits, packing_field}
@@ -11,7 +13,7 @@ use Rattle.bitstream.specs.Filled.{filled}
 use Rattle.bitstream.specs.inner.FilledOn.{FilledOn}
 use Rattle.bitstream.proofs.SpanLaws.{split, first, below, whole}
 use Rattle.bitstream.proofs.AccumulatorLaws.{append_below, appended, left}
-use Rattle.bitstream.proofs.FilledLaws.{filled_same, filled_more, Fills, fills_as, fills_all}
+use Rattle.bitstream.proofs.FilledLaws.{filled_more, filled_whole}
 use Rattle.payload_format.specs.declared.inner.Packing.{Packing}
 use Rattle.payload_format.specs.Field.{field_in, item_in}
 use Rattle.payload_unpack.specs.inner.Unpackable.{Unpackable, Placed}
@@ -149,13 +151,35 @@ module _ {p : Packing} {n room : ℕ} {ws : List ℕ} (u : Placed p n ws room) w
   pub words_some : 0 < length ws
   words_some = omega (arith, all_there, mul-le-mul_left p.field u.some, mul_comm p.field n, u.given.legal.item, u.given.legal.parts)
 
-  -- a field that begins before the last word
-  module _ (k : ℕ) (before : k * p.field < 32 * (length ws - 1)) where
-    pub before_end : k < n
-    before_end = lt_of_mul-lt-mul_right p.field (omega (arith, none_past))
+  -- the fields that begin before the last word
+  module _ (before : ℕ) (b : before ≡ (32 * (length ws - 1) + (p.field - 1)) / p.field) where
+    field_bits : 0 < p.field
+    field_bits = omega (arith, u.given.legal.item, u.given.legal.parts)
 
-    pub word_behind : k * p.field + 32 < length ws * 32
-    word_behind = omega arith
+    -- their bits, and less than a field more
+    before_bits : before * p.field + (32 * (length ws - 1) + (p.field - 1)) % p.field ≡ 32 * (length ws - 1) + (p.field - 1)
+    before_bits = rw b (div-add-mod' (32 * (length ws - 1) + (p.field - 1)) p.field)
+
+    over : (32 * (length ws - 1) + (p.field - 1)) % p.field < p.field
+    over = mod-lt _ field_bits
+
+    before_end : (k : ℕ) → k < before → k * p.field < 32 * (length ws - 1)
+    before_end k q =
+        let m : (k + 1) * p.field ≤ before * p.field = mul-le-mul_right p.field (omega arith) in
+        omega (arith, m, field_bits, before_bits, add-mul k 1 p.field)
+
+    pub word_behind : (k : ℕ) → k < before → k * p.field + 32 < length ws * 32
+    word_behind k q = omega (arith, before_end k q)
+
+    pub last_reached : length ws * 32 ≤ before * p.field + 32
+    last_reached = omega (arith, words_some, field_bits, before_bits, over)
+
+    pub before_most : before ≤ n
+    before_most =
+        ⊎_elim
+        (λ (l : before ≤ n). l)
+        (λ (l : n < before). absurd (omega (arith, before_end n l, all_there, none_past)))
+        (le_or_lt before n)
 
   module _ (k v : ℕ) (e : v ≡ span 32 (stream_bits 32 ws) (k * p.field) 32) where
     pub field_here : v / 2 ^ (32 - p.field) ≡ field_in p ws k
@@ -176,13 +200,8 @@ module _ {p : Packing} {n room : ℕ} {ws : List ℕ} (u : Placed p n ws room) w
       pub field_last : v / 2 ^ (32 - p.field) ≡ field_in p ws k
       field_last = field_here k v in_last
 
-      item_last : v / 2 ^ (32 - p.item) ≡ item_in p (field_in p ws k)
+      pub item_last : v / 2 ^ (32 - p.item) ≡ item_in p (field_in p ws k)
       item_last = item_here k v in_last
-
-  pub items_last : {a k : ℕ} {l l' : List ℕ} → ((j : ℕ) → get_or ws j 0 < 2 ^ 32) → length ws * 32 ≤ a * p.field + 32
-      → Fills a n k (λ j. get_or ws (length ws - 1) 0 * 2 ^ (j * p.field % 32) % 2 ^ 32 / 2 ^ (32 - p.item)) l l' → n ≤ k
-      → FilledOn a n (λ j. item_in p (field_in p ws j)) l l'
-  items_last {a} small last f q = fills_as f q (λ j from turn. item_last small a j _ last from turn refl)
 
   -- the same with places for the items that are another list, as long
   pub placed_still : {other : ℕ} → other ≡ room → Placed p n ws other
@@ -190,7 +209,7 @@ module _ {p : Packing} {n room : ℕ} {ws : List ℕ} (u : Placed p n ws room) w
 
 -- ---- fields of more than 32 bits
 module _ {p : Packing} {n room : ℕ} {ws : List ℕ} (u : Unpackable p n ws room) (wide : 32 < p.field) where
-  item_wide : (k v : ℕ) → v ≡ span 32 (stream_bits 32 ws) (k * p.field) 64 → v / 2 ^ (64 - p.item) ≡ item_in p (field_in p ws k)
+  pub item_wide : (k v : ℕ) → v ≡ span 32 (stream_bits 32 ws) (k * p.field) 64 → v / 2 ^ (64 - p.item) ≡ item_in p (field_in p ws k)
   item_wide k v e = front_item p ws 64 k v (u.legal.wide wide) e (omega (arith, u.legal.parts)) u.legal.few
 
   wide_there : (k : ℕ) → k ≤ n → k * p.field ≤ length ws * 32
@@ -211,12 +230,9 @@ module _ {p : Packing} {n room : ℕ} {ws : List ℕ} (u : Unpackable p n ws roo
       omega (arith, wide_there (n - 1 + 1) (omega arith), add-mul (n - 1) 1 p.field)
 
   -- the items of the fields before the last, and then the last
-  pub items_wide : {k v : ℕ} {l l' : List ℕ} → 0 < n → n ≤ length l
-      → Fills 0 (n - 1) k (λ j. span 32 (stream_bits 32 ws) (j * p.field) 64 / 2 ^ (64 - p.item)) l l'
-      → n - 1 ≤ k → v ≡ span 32 (stream_bits 32 ws) ((n - 1) * p.field) 64
-      → set l' (n - 1) (v / 2 ^ (64 - p.item)) ≡ filled n (λ j. item_in p (field_in p ws j)) l
-  items_wide {v = v} {l} {l'} some room f q e =
+  pub items_wide : {v : ℕ} {l l' : List ℕ} → 0 < n → n ≤ length l → FilledOn 0 (n - 1) (λ j. item_in p (field_in p ws j)) l l'
+      → v ≡ span 32 (stream_bits 32 ws) ((n - 1) * p.field) 64 → set l' (n - 1) (v / 2 ^ (64 - p.item)) ≡ filled n (λ j. item_in p (field_in p ws j)) l
+  items_wide {v} {l} {l'} some room f e =
       let z : n - 1 + 1 ≡ n = omega arith in
-      filled_more (n - 1) _ l l' _ (omega arith) (fills_all f q) (ap (λ (x : ℕ). x / 2 ^ (64 - p.item)) e)
-      ∙ ap (λ (x : ℕ). filled x (λ j. span 32 (stream_bits 32 ws) (j * p.field) 64 / 2 ^ (64 - p.item)) l) z
-      ∙ filled_same n _ _ l (λ j r. item_wide j _ refl)
+      filled_more (n - 1) _ l l' _ (omega arith) (filled_whole (n - 1) _ l l' (omega arith) f) (item_wide (n - 1) v e)
+      ∙ ap (λ (x : ℕ). filled x (λ j. item_in p (field_in p ws j)) l) z

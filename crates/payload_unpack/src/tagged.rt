@@ -1,12 +1,12 @@
 // Fields with tags: the item, the event tags and the channel tag of each.
-ghost use Rattle.std.specs.Prelude.{◌≡◌, ◌+◌, ◌*◌, ◌≤◌, ◌<◌, length};
+ghost use Rattle.std.specs.Prelude.{◌≡◌, ℕ, List, ◌+◌, ◌*◌, ◌≤◌, ◌<◌, length};
 ghost use Rattle.payload_format.specs.inner.Legal.{Legal};
-ghost use Rattle.payload_format.specs.Field.{event_in, channel_in};
+ghost use Rattle.payload_format.specs.Field.{event_in, channel_in, field_in};
 ghost use Rattle.payload_unpack.specs.Unpack.{buffers, unpacked};
 ghost use Rattle.payload_unpack.specs.inner.Unpackable.{Unpackable, Placed, UnpackedOn};
 
 use crate::window;
-use bitstream::inner::accumulator::{empty, take_field};
+use bitstream::inner::accumulator::Accumulator;
 use payload_format::inner::Packing;
 
 // The event tags of a field.
@@ -41,15 +41,37 @@ fn unpack_parts(
     let c = p.carry;
     let f = p.field;
     let up = p.field - p.item;
-    let mut s = empty(0);
-    let mut k: usize = 0;
-    while k < n {
-        s = take_field(c, f, s, payload);
-        let v = s.value;
+    let mut s = Accumulator::empty(0);
+    for k in 0..n {
+        let v = s.take_field(c, f, payload);
         items[k] = v >> up;
         channels[k] = channel_of(p, v);
         events[k] = event_of(p, v);
-        k += 1;
+    }
+}
+
+// Writes the parts of the fields from one on, as `field` gives them.
+fn write_parts<F: Fn(usize) -> u64>(
+    p: Packing,
+    from: usize,
+    n: usize,
+    items: &mut [u64],
+    events: &mut [u8],
+    channels: &mut [u16],
+    field: F,
+)
+    requires legal { Legal p }
+    requires places { (from ≤ n) × (n ≤ length items.old) × (n ≤ length events.old) × (n ≤ length channels.old) }
+    requires callable { (k : ℕ) → from ≤ k → k < n → F.pre field k }
+    ensures { (ws : List ℕ) → ((k v : ℕ) → from ≤ k → k < n → F.post field k v → v ≡ field_in p ws k)
+        → UnpackedOn p from n ws (buffers items.old events.old channels.old) (buffers items.new events.new channels.new) }
+{
+    let up = p.field - p.item;
+    for k in from..n {
+        let v = field(k);
+        items[k] = v >> up;
+        channels[k] = channel_of(p, v);
+        events[k] = event_of(p, v);
     }
 }
 
@@ -69,17 +91,17 @@ fn unpack_parts_last(
         (buffers items.new events.new channels.new) }
 {
     let f = p.field;
-    let up = p.field - p.item;
     let down = 32 - p.field;
     let word = payload[payload.len() - 1];
-    let mut k = from;
-    while k < n {
-        let v = (window::bits_last(word, k * f) >> down) as u64;
-        items[k] = v >> up;
-        channels[k] = channel_of(p, v);
-        events[k] = event_of(p, v);
-        k += 1;
-    }
+    write_parts(
+        p,
+        from,
+        n,
+        items,
+        events,
+        channels,
+        |k| (window::bits_last(word, k * f) >> down) as u64,
+    );
 }
 
 // The parts of the first n fields, read by their places.
@@ -96,18 +118,18 @@ fn unpack_parts_narrow(
         ≡ unpacked p n payload.now (buffers items.old events.old channels.old) }
 {
     let f = p.field;
-    let up = p.field - p.item;
     let down = 32 - p.field;
-    let last_begins = 32 * (payload.len() - 1);
-    let mut k: usize = 0;
-    while k * f < last_begins {
-        let v = (window::bits(payload, k * f) >> down) as u64;
-        items[k] = v >> up;
-        channels[k] = channel_of(p, v);
-        events[k] = event_of(p, v);
-        k += 1;
-    }
-    unpack_parts_last(p, k, n, payload, items, events, channels);
+    let before = window::fields_before_last(payload, f);
+    write_parts(
+        p,
+        0,
+        before,
+        items,
+        events,
+        channels,
+        |k| (window::bits(payload, k * f) >> down) as u64,
+    );
+    unpack_parts_last(p, before, n, payload, items, events, channels);
 }
 
 // The parts of the first n fields.

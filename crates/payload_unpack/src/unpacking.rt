@@ -1,6 +1,7 @@
 // Unpacking: items and their tags from words.
 ghost use Rattle.std.specs.Prelude.{◌≡◌, ◌≤◌, length};
-ghost use Rattle.words.specs.Outcome.{checked, measured, Meets};
+ghost use Rattle.words.specs.Listed.{on_paper};
+ghost use Rattle.words.specs.Outcome.{Meets};
 ghost use Rattle.payload_unpack.specs.Unpack.{buffers, unpacked, unpack_of};
 ghost use Rattle.bitstream.specs.Carried.{needed};
 ghost use Rattle.payload_format.specs.inner.Legal.{Legal};
@@ -9,9 +10,10 @@ ghost use Rattle.payload_unpack.specs.inner.Unpackable.{fit_check, Unpackable};
 use crate::plain::{clear_tags, unpack_plain};
 use crate::tagged::unpack_tagged;
 use payload_format::inner::{Packing, items_check, packing_of, words_of};
-use words::{Check, Length};
+use words::Refusal;
 
 // COUNT of the words that are given, then ROOM by how many places there are: the refusals of unpacking behind those of a format and n.
+#[tactic(auto, using(crate::proofs::UnpackLaws::lines))]
 fn fit_check(
     p: Packing,
     n: usize,
@@ -19,23 +21,23 @@ fn fit_check(
     items: usize,
     events: usize,
     channels: usize,
-) -> Check
+) -> Result<(), Refusal>
     requires { Legal p × (n ≤ 2097120) }
-    ensures { checked result ≡ fit_check (needed p.carry p.field n) n given items events channels }
+    ensures { on_paper result ≡ fit_check (needed p.carry p.field n) n given items events channels }
 {
     if given != words_of(p.carry, p.field, n) {
-        return Check::Refused(words::COUNT);
+        return Err(Refusal::Count);
     }
     if items < n {
-        return Check::Refused(words::ROOM);
+        return Err(Refusal::Room);
     }
     if events < n {
-        return Check::Refused(words::ROOM);
+        return Err(Refusal::Room);
     }
     if channels < n {
-        return Check::Refused(words::ROOM);
+        return Err(Refusal::Room);
     }
-    Check::Fine
+    Ok(())
 }
 
 // The items and tags of the first n fields: where a format has no tags, the items alone, and all tags 0.
@@ -62,7 +64,7 @@ fn unpack_fields(
     unpack_tagged(p, n, payload, items, events, channels);
 }
 
-// The n items in the words, with their event and channel tags, under a format: how many there are, or the number of the first refusal of FORMAT,
+// The n items in the words, with their event and channel tags, under a format: how many there are, or the first refusal of FORMAT,
 // COUNT and ROOM. They fill the first n places of the buffers; the other places stay, and after a refusal all do.
 pub fn unpack(
     first: u32,
@@ -72,22 +74,16 @@ pub fn unpack(
     items: &mut [u64],
     events: &mut [u8],
     channels: &mut [u16],
-) -> Length
-    ensures { Meets measured
+) -> Result<usize, Refusal>
+    ensures { Meets on_paper
         (unpack_of first second n payload.now (buffers items.old events.old channels.old))
         (buffers items.old events.old channels.old) result
         (buffers items.new events.new channels.new) }
 {
-    let asked = items_check(first, second, n);
-    if let Check::Refused(number) = asked {
-        return Length::Refused(number);
-    }
+    items_check(first, second, n)?;
     let p = packing_of(first);
     let given = payload.len();
-    let fit = fit_check(p, n, given, items.len(), events.len(), channels.len());
-    if let Check::Refused(number) = fit {
-        return Length::Refused(number);
-    }
+    fit_check(p, n, given, items.len(), events.len(), channels.len())?;
     unpack_fields(p, n, payload, items, events, channels);
-    Length::Accepted(n)
+    Ok(n)
 }

@@ -13,7 +13,7 @@
 // enough for a field of up to 32 (`bits`), and three words hold 64 (`bits_wide`). The last fields are read otherwise, since no word stands behind them:
 // a field of up to 32 bits that begins in the last word lies in it whole (`bits_last`), and a longer one may end in the second of its words
 // (`bits_wide_last`).
-ghost use Rattle.std.specs.Prelude.{◌≡◌, ◌+◌, ◌*◌, ◌/◌, ◌%◌, ◌-◌, ◌^◌, ◌<◌, length};
+ghost use Rattle.std.specs.Prelude.{◌≡◌, ◌+◌, ◌*◌, ◌/◌, ◌%◌, ◌-◌, ◌^◌, ◌<◌, ◌≤◌, length};
 ghost use Rattle.bitstream.specs.Stream.{span};
 ghost use Rattle.bitstream.specs.Carried.{stream_bits};
 
@@ -40,6 +40,15 @@ pub fn bits(payload: &[u32], b: usize) -> u32
 {
     let i = (b as u32 / 32) as usize;
     join(payload[i], payload[i + 1], b % 32)
+}
+
+// How many fields of f bits begin before the last word.
+pub fn fields_before_last(payload: &[u32], f: usize) -> usize
+    requires { (0 < length payload.now) × (length payload.now < 2 ^ 26) × (0 < f) × (f ≤ 32) }
+    ensures { result ≡ (32 * (length payload.now - 1) + (f - 1)) / f }
+{
+    let last_begins = 32 * (payload.len() - 1) as u32;
+    ((last_begins + (f as u32 - 1)) / f as u32) as usize
 }
 
 // The 32 bits from bit b on, which lies in this word, the last; those past it are 0.

@@ -9,11 +9,9 @@ use output::{
     blank_channels, blank_events, blank_items, blank_words, print_accepted, print_channels,
     print_coordinates, print_events, print_items, print_refused, print_signed, print_words,
 };
-use payload_format::Shown;
-use payload_order::{Coordinates, Located};
+use payload_order::Coordinates;
 use std::io;
 use std::io::{Read, Write};
-use words::Length;
 
 // Op 1: first, second, n, the room of each buffer, m, then m words.
 fn unpack_case(input: &mut impl Read, output: &mut impl Write, k: u64) -> io::Result<()> {
@@ -38,8 +36,8 @@ fn unpack_case(input: &mut impl Read, output: &mut impl Write, k: u64) -> io::Re
         &mut channels[..room_channels],
     );
     match r {
-        Length::Accepted(v) => print_accepted(output, k, b" unpacked ", v as u64)?,
-        Length::Refused(e) => print_refused(output, k, e)?,
+        Ok(v) => print_accepted(output, k, b" unpacked ", v as u64)?,
+        Err(e) => print_refused(output, k, u32::from(e))?,
     }
     print_items(output, room_items, &items)?;
     print_events(output, room_events, &events)?;
@@ -67,8 +65,8 @@ fn pack_case(input: &mut impl Read, output: &mut impl Write, k: u64) -> io::Resu
         &mut out[..room],
     );
     match r {
-        Length::Accepted(w) => print_accepted(output, k, b" packed ", w as u64)?,
-        Length::Refused(e) => print_refused(output, k, e)?,
+        Ok(w) => print_accepted(output, k, b" packed ", w as u64)?,
+        Err(e) => print_refused(output, k, u32::from(e))?,
     }
     print_words(output, room, &out)
 }
@@ -80,8 +78,8 @@ fn signed_case(input: &mut impl Read, output: &mut impl Write, k: u64) -> io::Re
     let low = lines::inner::word(input)?;
     let r = payload_format::signed(width, words::inner::high_first(high, low));
     match r {
-        Shown::Value(v) => print_signed(output, k, v),
-        Shown::Refused(e) => print_refused(output, k, e),
+        Ok(v) => print_signed(output, k, v),
+        Err(e) => print_refused(output, k, u32::from(e)),
     }
 }
 
@@ -92,8 +90,8 @@ fn needed_case(input: &mut impl Read, output: &mut impl Write, k: u64) -> io::Re
     let n = lines::inner::word(input)? as usize;
     let r = payload_format::words_needed(first, second, n);
     match r {
-        Length::Accepted(w) => print_accepted(output, k, b" words ", w as u64),
-        Length::Refused(e) => print_refused(output, k, e),
+        Ok(w) => print_accepted(output, k, b" words ", w as u64),
+        Err(e) => print_refused(output, k, u32::from(e)),
     }
 }
 
@@ -105,8 +103,8 @@ fn coordinates_case(input: &mut impl Read, output: &mut impl Write, k: u64) -> i
     let item = lines::inner::word(input)? as usize;
     let r = payload_order::coordinates_of(first, second, n, item);
     match r {
-        Located::At(at) => print_coordinates(output, k, at),
-        Located::Refused(e) => print_refused(output, k, e),
+        Ok(at) => print_coordinates(output, k, at),
+        Err(e) => print_refused(output, k, u32::from(e)),
     }
 }
 
@@ -127,8 +125,8 @@ fn item_case(input: &mut impl Read, output: &mut impl Write, k: u64) -> io::Resu
     };
     let r = payload_order::item_at(first, second, n, at);
     match r {
-        Length::Accepted(i) => print_accepted(output, k, b" item ", i as u64),
-        Length::Refused(e) => print_refused(output, k, e),
+        Ok(i) => print_accepted(output, k, b" item ", i as u64),
+        Err(e) => print_refused(output, k, u32::from(e)),
     }
 }
 
@@ -155,8 +153,7 @@ fn main(rt: HostRuntime) -> io::Result<()> {
     let mut input = rt.stdin();
     let mut output = rt.stdout();
     for k in 0..0x1_0000_0000 {
-        let got = lines::inner::next_word(&mut input)?;
-        let lines::inner::Input::Word(op) = got else {
+        let Some(op) = lines::inner::next_word(&mut input)? else {
             return Ok(());
         };
         run_case(&mut input, &mut output, op, k)?;

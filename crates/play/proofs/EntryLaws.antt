@@ -1,18 +1,20 @@
 -- The entry of one packet. The idea: what is refused or heard of a packet, as an entry's numbers, is `entry_of` of what play says; and it says no less, since a
--- refusal has a number (`read_some`), and a walk goes on behind a packet that was read, which has a word (`Whole`, `step_whole`).
+-- refusal has a number (`read_listed`), and a walk goes on behind a packet that was read, which has a word (`Whole`, `step_whole`).
+use Rattle.std.specs.Prelude.{Result, Err}
 use Rattle.words.proofs.Kit.{◌≡◌, refl, sym, ap, subst, ◌∙◌, Bool, true, false, not, ⊎_elim, List, ℕ, ◌+◌, ◌-◌, ◌^◌, ◌<◌, arith, rules, eq-eqb, ne_eqb}
 use Rattle.words.proofs.Kit.{eqb-true, eqb, length, take, drop, get_or}
 use native.Mathlib.Nat.{mod-lt}
-use Rattle.words.specs.declared.Check.{Check}
+use Rattle.words.specs.declared.refusals.Refusal.TheVariants as refusals
+use Rattle.words.specs.declared.RefusedAt.{RefusedAt}
 use Rattle.words.specs.declared.Where.{Where}
 use Rattle.words.specs.declared.Where.TheVariants.{Nowhere, Word}
-use Rattle.words.specs.Numbers.{STREAM, TABLE}
+use Rattle.words.specs.Numbers.{STREAM}
 use Rattle.words.specs.Tests.{when}
-use Rattle.words.specs.Outcome.{Outcome, refused, accepted, onward, number_of, checked, Done, said_of, left_of, Meets}
-use Rattle.words.specs.Refusals.{first_given}
-use Rattle.words.specs.Told.{Told, told, refusal, place_word, place_bit}
+use Rattle.words.specs.Outcome.{Outcome, refused, accepted, onward, Done, said_of, left_of, Meets}
+use Rattle.words.specs.Listed.{IsListed}
+use Rattle.words.specs.Told.{Told, told, told_paper, refusal, place_word, place_bit}
+use Rattle.words.proofs.ListedLaws.{listed_some}
 use Rattle.words.proofs.Cases.{true_or_false, same_or_not}
-use Rattle.words.proofs.RefusalLaws.{Numbered, number_among, first_refused, row_given}
 use Rattle.words.proofs.ToldLaws.{told_said}
 use Rattle.fields.proofs.PlaceLaws.{rest_whole, first_word}
 use Rattle.packet.specs.declared.Packet.{Packet}
@@ -21,31 +23,22 @@ use Rattle.packet.specs.Parts.{parts_of, packet_of}
 use Rattle.packet.specs.Read.{list_by, read_by}
 use Rattle.packet.specs.Told.{where_of}
 use Rattle.packet.specs.inner.Steps.{Placeable}
-use Rattle.packet.proofs.ReadLaws.{size_some, size_said, read_number}
+use Rattle.packet.proofs.ReadLaws.{size_some, size_said, read_number, read_listed}
 use Rattle.packet.proofs.InsideLaws.{PlaceTold, placeable, place_told, stream_told, stream_place, table_place}
 use Rattle.table.specs.Well.{well_made}
 use Rattle.play.specs.declared.Heard.{Heard}
-use Rattle.play.specs.declared.Played.{Played}
 use Rattle.play.specs.declared.run.Entry.{Entry}
-use Rattle.play.specs.declared.streams.Sought.{Sought}
-use Rattle.play.specs.declared.streams.Sought.TheVariants.{Unknown}
-use Rattle.play.specs.Play.{table_list, heard_of, table_after, chosen, step_of, play_of, play_told, played_paper}
-use Rattle.play.specs.inner.Steps.{sought_of, made_of, sought_paper}
+use Rattle.play.specs.Play.{heard_of, table_after, chosen, step_of, play_of, play_told}
+use Rattle.play.specs.inner.Steps.{sought_of}
 use Rattle.play.specs.Run.{goes_on, said_at, left_at, next_of, Stepped, entry_of, entry_at, words_of_entry}
-use Rattle.play.specs.inner.Entered.{Headed, sought_in, HeardAs, Entered, noted_of, Noted, said_by, unread_note, unread_entry, undeclared_entry}
+use Rattle.play.specs.inner.Entered.{Headed, sought_in, HeardAs, Entered, noted_of, Noted, Sayable, said_by, unread_note, unread_entry, undeclared_entry}
 use Rattle.play.proofs.StreamLaws.{sought_number}
-use Rattle.play.proofs.PlayLaws.{made_well, step_read, play_step, step_unheard}
-
--- ---- a refusal of reading has a number
-
-read_some : (survey : Bool) (ws : List ℕ) (n : ℕ) → read_by survey ws ≡ refused n → 0 < n
-unfolding read_by
-read_some survey ws n e = subst (Numbered (λ k. 0 < k)) e (number_among (λ k. 0 < k) (list_by survey (get_or ws 0 0) ws) _ (search rules) tt)
+use Rattle.play.proofs.PlayLaws.{step_read, play_step, step_unheard}
 
 -- ---- what is said of a packet of a size: a refusal has a number and a place, and where a walk goes on the packet has a word
 
 abbrev Whole : Told Heard → ℕ → Type 0
-Whole (refused r) size = (0 < r.number) × (r.number ≡ STREAM → 0 < size) × PlaceTold r.number r.place
+Whole (refused r) size = IsListed r.number × (r.number ≡ STREAM → 0 < size) × PlaceTold r.number r.place
 Whole (accepted h) size = (h.size ≡ size) × (0 < size)
 
 module _ (t ws : List ℕ) where
@@ -60,12 +53,12 @@ module _ (t ws : List ℕ) where
   unfolding heard_of
   whole_sought p e (refused n) f =
       let i : n ≡ STREAM = sought_number p.parts.kind p.parts.identifier t n f in
-      (omega (arith, i), (λ _. omega (arith, size_some choice ws p e, size_said choice ws p e)), rw i (stream_told ws))
+      ((refusals.Stream, sym i), (λ _. omega (arith, size_some choice ws p e, size_said choice ws p e)), rw i (stream_told ws))
   whole_sought p e (accepted s) f = (size_said choice ws p e, omega (arith, size_some choice ws p e, size_said choice ws p e))
 
   whole_read : (o : Outcome Packet) → read_by choice ws ≡ o
       → Whole (told (where_of ws) (said_of (onward o (λ p. onward (sought_of p.parts.kind p.parts.identifier t) (done p))))) (size_of (get_or ws 0 0))
-  whole_read (refused n) e = (read_some choice ws n e, (λ i. absurd (read_number choice ws n e i)), place_told ws choice n e)
+  whole_read (refused n) e = (read_listed choice ws n e, (λ i. absurd (read_number choice ws n e i)), place_told ws choice n e)
   whole_read (accepted p) e = whole_sought p e (sought_of p.parts.kind p.parts.identifier t) refl
 
   step_whole : Whole (told (where_of ws) (said_of (step_of t ws))) (size_of (get_or ws 0 0))
@@ -90,7 +83,7 @@ module _ (size : ℕ) (x : Entry) where
       let i : x.number ≡ r.number = cc in
       let a : x.what ≡ place_word r.place = cc in
       let b : x.which ≡ place_bit r.place = cc in
-      rw (i, a, b, ne_eqb r.number 0 (λ z. omega arith)) (ap (λ (p : Where). refused (refusal r.number p)) (sym h.2))
+      rw (i, a, b, ne_eqb r.number 0 (λ z. omega (arith, listed_some r.number h.0))) (ap (λ (p : Where). refused (refusal r.number p)) (sym h.2))
   entry_said (accepted a) h e =
       let i : x.number ≡ 0 = cc in
       let z : x.size ≡ a.size = cc in
@@ -105,6 +98,13 @@ module _ (size : ℕ) (x : Entry) where
       let n : ℕ = r.number in
       ⊎_elim (λ i. rw (z, eq-eqb n STREAM i, ne_eqb size 0 (λ j. omega (arith, h.1 i)))) (λ i. rw (z, ne_eqb n STREAM i)) (same_or_not n STREAM)
   entry_on (accepted a) h e = rw (entry_size (accepted a) e, ne_eqb size 0 (λ j. omega arith))
+
+-- its number is 0, or one of the list
+module _ (size : ℕ) (x : Entry) where
+  entry_sayable : (o : Told Heard) → Whole o size → words_of_entry x ≡ entry_of o size → Sayable x.number
+  unfolding entry_of
+  entry_sayable (refused r) h e = λ _. let i : x.number ≡ r.number = cc in (h.0.0, h.0.1 ∙ sym i)
+  entry_sayable (accepted a) h e = λ n. let i : x.number ≡ 0 = cc in absurd (n i)
 
 -- ---- the entry of the packet at the front, on a table that is well made
 
@@ -126,30 +126,24 @@ module _ (t ws : List ℕ) (w : well_made t ≡ true) where
   unread n e = entered_refused n 0 (rw (step_read, e)) (rw (ne_eqb n STREAM (read_number (chosen t ws) ws n e)))
 
   -- of a packet that a check refused
-  pub noted_unread : (answer : Check) (n m : ℕ) (r : Entry) → answer ≡ Check.Refused n → m ≡ number_of (checked answer)
-      → read_by (chosen t ws) ws ≡ refused n → r ≡ unread_note m → Noted t ws r t
-  noted_unread answer n m r f u e i = let k : m ≡ n = cc in rw (i, k) (noted_unread_by n e)
+  pub noted_unread : (n : ℕ) (r : Entry) → read_by (chosen t ws) ws ≡ refused n → r ≡ unread_note n → Noted t ws r t
+  noted_unread n r e i = rw i (noted_unread_by n e)
 
   -- of one that was read, with the header h: of no stream, and heard
   module _ (h : ℕ) (p : Headed h ws t) where
-    pub noted_undeclared : (sought : Sought) (n m : ℕ) (r : Entry) → sought_paper sought ≡ sought_in h ws t → sought ≡ Unknown n
-        → m ≡ number_of (sought_paper sought) → r ≡ undeclared_entry m h → Noted t ws r t
+    pub noted_undeclared : (r : Entry) → refused STREAM ≡ sought_in h ws t → r ≡ undeclared_entry STREAM h → Noted t ws r t
     unfolding said_at left_at play_told
-    noted_undeclared sought n m r e f u i =
-        let k : m ≡ n = cc in
-        let g : sought_in h ws t ≡ refused n = cc in
-        let j : n ≡ STREAM = sought_number (packet_of h ws).parts.kind (packet_of h ws).parts.identifier t n g in
-        record {
-          note = rw (i, k, play_step t ws w, step_read, p.reads, g, j, stream_place ws, p.header);
-          table = rw (play_step t ws w, step_read, p.reads, g);
-        }
+    noted_undeclared r g i = record {
+      note = rw (i, play_step t ws w, step_read, p.reads, ← g, stream_place ws, p.header);
+      table = rw (play_step t ws w, step_read, p.reads, ← g);
+    }
 
-    pub noted_heard : (s more : ℕ) (r : Entry) (left : List ℕ) → sought_in h ws t ≡ accepted s → HeardAs h s ws t more left
+    pub noted_heard : (s more : ℕ) (r : Entry) (left : List ℕ) → accepted s ≡ sought_in h ws t → HeardAs h s ws t more left
         → r ≡ record { number = 0; size = size_of h; what = type_of h; which = s; missing = more } → Noted t ws r left
     unfolding said_at left_at heard_of packet_of parts_of play_told
     noted_heard s more r left f a i = record {
-      note = rw (i, play_step t ws w, step_read, p.reads, f, a.adds, p.header);
-      table = rw (play_step t ws w, step_read, p.reads, f) a.leaves;
+      note = rw (i, play_step t ws w, step_read, p.reads, ← f, a.adds, p.header);
+      table = rw (play_step t ws w, step_read, p.reads, ← f) a.leaves;
     }
 
 -- ---- the entry, by what was noted
@@ -250,25 +244,23 @@ module _ {t ws left : List ℕ} {at : ℕ} {x : Entry} (w : well_made t ≡ true
   unfolding entry_at
   size_on = entry_on (size_of (get_or ws at 0)) x (said_at t ws at) (said_whole t ws at w) y.entry
 
--- ---- what play answers, by what the test of the table found, and what a step of a walk gives
+  pub entered_sayable : Sayable x.number
+  unfolding entry_at
+  entered_sayable = entry_sayable (size_of (get_or ws at 0)) x (said_at t ws at) (said_whole t ws at w) y.entry
 
-module _ (t ws : List ℕ) (made : Check) (e : checked made ≡ made_of t) where
-  pub play_unmade : (n m : ℕ) → made ≡ Check.Refused n → m ≡ number_of (checked made)
-      → Meets played_paper (play_told t ws) t (Played.Refused (refusal m Nowhere)) t
-  unfolding play_told play_of made_of
-  play_unmade n m f i =
-      let k : first_given (table_list t) (accepted (tt {0})) ≡ refused n = cc in
-      let g : play_of t ws ≡ refused n = first_refused (table_list t) tt n _ k in
-      let j : m ≡ n = cc in
-      let z : n ≡ TABLE = row_given (λ (x : ℕ). x ≡ TABLE) (table_list t) tt n ((λ _. refl), λ _. tt) k in
-      record { answer = rw (g, j, z, table_place ws); buffer = rw g }
+-- ---- what play answers, by whether the table is well made, and what a step of a walk gives
 
-  pub play_made : (x : Entry) (r : Played) (left : List ℕ) → made ≡ Check.Fine → Entered t ws 0 x left → played_paper r ≡ said_by x
-      → Meets played_paper (play_told t ws) t r left
+module _ (t ws : List ℕ) where
+  pub play_unmade : well_made t ≡ false → Meets told_paper (play_told t ws) t (Err (record { refusal = refusals.Table; place = Nowhere })) t
+  unfolding play_told play_of
+  play_unmade e = record { answer = rw (e, table_place ws); buffer = rw e }
+
+  pub play_made : (x : Entry) (r : Result Heard RefusedAt) (left : List ℕ) → well_made t ≡ true → Entered t ws 0 x left → told_paper r ≡ said_by x
+      → Meets told_paper (play_told t ws) t r left
   unfolding said_at left_at
-  play_made x r left f y i = record { answer = i ∙ said_by_lem (made_well t (cc)) y; buffer = y.table }
+  play_made x r left w y i = record { answer = i ∙ said_by_lem w y; buffer = y.table }
 
-pub entered_stepped : (t ws left : List ℕ) (at : ℕ) (x : Entry) (answer : Played) → well_made t ≡ true → Entered t ws at x left → played_paper answer
-    ≡ said_by x
+pub entered_stepped : (t ws left : List ℕ) (at : ℕ) (x : Entry) (answer : Result Heard RefusedAt) → well_made t ≡ true → Entered t ws at x left
+    → told_paper answer ≡ said_by x
     → Stepped t ws at (record { answer = answer; continues = not (eqb x.size 0); next = at + x.size }) left
 entered_stepped t ws left at x answer w y i = record { answer = i ∙ said_by_lem w y; on = size_on w y; next = size_next w y; table = y.table }

@@ -10,7 +10,7 @@ pub mod KeepLaws
 pub mod AloneLaws
 -- words behind a packet
 pub mod BeyondLaws
--- what the checks of the table and of a packet found
+-- what the checks of a packet found
 pub mod CheckedLaws
 -- the entry of one packet, and the answers that are made of it
 pub mod EntryLaws

@@ -25,7 +25,7 @@ use Rattle.table.specs.Identifiers.{stream_of}
 use Rattle.table.specs.Well.{well_made}
 use Rattle.table.proofs.WellLaws.{well_whole, well_record, layout_has}
 use Rattle.play.specs.Play.{table_after, heard_done, table_list, stream_list, chosen, step_of, play_of}
-use Rattle.play.specs.inner.Steps.{sought_of, made_of}
+use Rattle.play.specs.inner.Steps.{sought_of}
 use Rattle.play.specs.inner.Entered.{Headed, HeardAs}
 use Rattle.play.proofs.StreamLaws.{sought_number}
 
@@ -110,10 +110,6 @@ step_read t ws =
     sym (onward_first list p _ ∙ ap (first_given list) (onward_first streams (stream_of p.parts.identifier t) _))
 
 -- ---- a packet on any table
-
-pub made_well : (t : List ℕ) → made_of t ≡ accepted tt → well_made t ≡ true
-unfolding made_of
-made_well t e = not-false (well_made t) (first_passed (table_list t) _ tt e).0.0
 
 module _ (t ws : List ℕ) where
   pub play_refuses : well_made t ≡ false → play_of t ws ≡ refused TABLE

@@ -1,20 +1,20 @@
 -- A run of packets. The idea: after n turns of the run the entries so far, then the walk that is left, are the whole walk (`Running`), and a turn takes one
 -- packet of it (`turned`, `stopped`). A run with room for one entry has that of the packet at its place, and EMPTY's where no word is left (`one_entered`).
+use Rattle.std.specs.Prelude.{Ok, Err}
 use Rattle.words.proofs.Kit.{◌≡◌, refl, sym, ap, ◌∙◌, Bool, true, false, ⊎_elim, List, [], ◌∷◌, ◌++◌, ℕ, zero, suc, ◌+◌, ◌-◌, ◌*◌, ◌/◌, ◌≤◌, ◌<◌}
 use Rattle.words.proofs.Kit.{arith, ne_eqb, le-leb, lt-leb, length, take, drop, get_or, set}
 use mathlib.Core.List.{append_assoc, append-nil}
 use native.Mathlib.Nat.{zero-add, add-zero}
 use lib.ListN.{length-append, length-drop}
 use lib.Seq.{drop-drop}
-use Rattle.words.specs.declared.Check.{Check}
+use Rattle.words.specs.declared.refusals.Refusal.TheVariants as refusals
 use Rattle.words.specs.Numbers.{EMPTY}
 use Rattle.words.specs.Tests.{pick}
 use Rattle.words.specs.Part.{put}
-use Rattle.words.specs.Outcome.{refused, accepted, number_of, checked, Meets}
+use Rattle.words.specs.Outcome.{refused, accepted, Meets}
 use Rattle.words.specs.Told.{Told}
-use Rattle.words.specs.Refusals.{first_given}
+use Rattle.words.specs.Listed.{on_paper}
 use Rattle.words.proofs.Cases.{le_or_lt}
-use Rattle.words.proofs.RefusalLaws.{first_refused}
 use Rattle.words.proofs.LaidLaws.{sets_all}
 use Rattle.words.proofs.PartLaws.{lent, put_at, put_length}
 use Rattle.fields.proofs.WalkLaws.{none_left}
@@ -26,14 +26,10 @@ use Rattle.table.specs.Well.{well_made}
 use Rattle.play.specs.declared.Heard.{Heard}
 use Rattle.play.specs.declared.run.Entry.{Entry}
 use Rattle.play.specs.declared.run.Reached.{Reached}
-use Rattle.play.specs.declared.run.Ran.TheVariants as Ran
-use Rattle.play.specs.Play.{table_list}
-use Rattle.play.specs.inner.Steps.{made_of}
 use Rattle.play.specs.Run.{goes_on, said_at, left_at, next_of, entry_words, entry_of, entry_at, words_of_entry}
-use Rattle.play.specs.Run.{Walk, ended, before, walk_of, whole_walk, reached_of, answers_of, WalkDone, run_of, run_paper}
+use Rattle.play.specs.Run.{Walk, ended, before, walk_of, whole_walk, reached_of, answers_of, WalkDone, run_of}
 use Rattle.packet.specs.inner.Steps.{Placeable}
 use Rattle.play.specs.inner.Entered.{Entered, Noted, unread_entry}
-use Rattle.play.proofs.PlayLaws.{made_well}
 use Rattle.play.proofs.KeepLaws.{Kept, nothing_changed, kept_at}
 use Rattle.play.proofs.EntryLaws.{unread, noted_on, noted_placeable, noted_stopped, entered_rest, entered_lent, size_next, size_on}
 
@@ -241,28 +237,22 @@ module _ (t ws : List ℕ) (at : ℕ) where
         let o = walk_one h in
         record { entry = d.answers ∙ rw (o, append-nil (entry_at t ws at), at_length t ws at) (append-nil (entry_at t ws at)); table = d.table ∙ rw o }
 
-    pub one_entered : (written : List ℕ) → WalkDone (whole_walk t ws at (EMPTY ∷ 0 ∷ 0 ∷ 0 ∷ 0 ∷ [])) (EMPTY ∷ 0 ∷ 0 ∷ 0 ∷ 0 ∷ []) r left written
-        → words_of_entry x ≡ written → Entered t ws at x left
-    one_entered written d e = let d' = rw (← e) at d in ⊎_elim (λ h. one_over h d') (λ h. one_more h d') (le_or_lt (length ws) at)
+    pub one_entered : (empty : ℕ) (written : List ℕ) → empty ≡ EMPTY
+        → WalkDone (whole_walk t ws at (empty ∷ 0 ∷ 0 ∷ 0 ∷ 0 ∷ [])) (empty ∷ 0 ∷ 0 ∷ 0 ∷ 0 ∷ []) r left written → words_of_entry x ≡ written
+        → Entered t ws at x left
+    one_entered empty written f d e = let d' = rw (f, ← e) at d in ⊎_elim (λ h. one_over h d') (λ h. one_more h d') (le_or_lt (length ws) at)
 
--- ---- the answers of a run, by what the test of the table found
+-- ---- the answers of a run, by whether the table is well made
 
-module _ (t ws : List ℕ) (from : ℕ) (answers : List ℕ) (made : Check) (e : checked made ≡ made_of t) where
-  pub run_unmade : (n m : ℕ) → made ≡ Check.Refused n → m ≡ number_of (checked made)
-      → Meets run_paper (run_of t ws from answers) (t, answers) (Ran.Refused m) (t, answers)
-  unfolding run_of made_of
-  run_unmade n m f i =
-      let k : first_given (table_list t) (accepted (tt {0})) ≡ refused n = cc in
-      let g : run_of t ws from answers ≡ refused n = first_refused (table_list t) tt n _ k in
-      let j : m ≡ n = cc in
-      record { answer = rw (g, j); buffer = rw g }
-
-  pub run_made : (r : Reached) (left written : List ℕ) → made ≡ Check.Fine → WalkDone (whole_walk t ws from answers) answers r left written
-      → Meets run_paper (run_of t ws from answers) (t, answers) (Ran.Accepted r) (left, written)
+module _ (t ws : List ℕ) (from : ℕ) (answers : List ℕ) where
+  pub run_unmade : well_made t ≡ false → Meets on_paper (run_of t ws from answers) (t, answers) (Err refusals.Table) (t, answers)
   unfolding run_of
-  run_made r left written f d =
-      let w : well_made t ≡ true = made_well t (cc) in
-      record { answer = rw (w, d.reached); buffer = rw (w, d.table, d.answers) }
+  run_unmade e = record { answer = rw e; buffer = rw e }
+
+  pub run_made : (r : Reached) (left written : List ℕ) → well_made t ≡ true → WalkDone (whole_walk t ws from answers) answers r left written
+      → Meets on_paper (run_of t ws from answers) (t, answers) (Ok r) (left, written)
+  unfolding run_of
+  run_made r left written w d = record { answer = rw (w, d.reached); buffer = rw (w, d.table, d.answers) }
 
 -- ---- what a run keeps
 

@@ -24,10 +24,8 @@ use Rattle.table.proofs.RecordLaws.{record_choice}
 use Rattle.table.proofs.ListLaws.{none_more, stream_found, stream_none}
 use Rattle.table.proofs.WellLaws.{well_whole, well_few, well_of}
 use Rattle.table.proofs.StreamLaws.{surveyed_at, surveyed_other}
-use Rattle.play.specs.declared.streams.Sought.{Sought}
-use Rattle.play.specs.declared.streams.Sought.TheVariants.{At}
 use Rattle.play.specs.Play.{stream_list, chosen}
-use Rattle.play.specs.inner.Steps.{sought_of, sought_paper}
+use Rattle.play.specs.inner.Steps.{sought_of}
 use Rattle.play.specs.inner.Entered.{declared_of, Sized, Headed, sought_in, chosen_at}
 
 -- ---- the stream of an identifier
@@ -146,22 +144,6 @@ module _ (w : ℕ) (ws : List ℕ) (p : Sized w ws) where
         → o ≡ pick flag (declared_of identifier t) (refused STREAM) → o ≡ sought_in w ws t
     unfolding streamed packet_of parts_of
     sought_in_lem flag identifier o f i e = e ∙ rw (f, i) (sought_streamed (type_of w) (word_if (streamed w) 1 ws) t sized_kind)
-
-    -- what `seek` found: stream s
-    module _ (sought : Sought) (e : sought_paper sought ≡ sought_in w ws t) where
-      module _ (s : ℕ) (f : sought ≡ At s) where
-        pub found : sought_in w ws t ≡ accepted s
-        found = cc
-
-        pub found_below : s < streams_of t
-        found_below = sought_below (packet_of w ws).parts.kind (packet_of w ws).parts.identifier t s found
-
-        pub found_few : well_made t ≡ true → s < 32
-        found_few v = omega (arith, found_below, well_few t v)
-
-        pub found_data : (type_of w ≡ 4 → ⊥) → among (type_of w) (1 ∷ 3 ∷ 5 ∷ []) ≡ true
-        unfolding packet_of parts_of
-        found_data n = sought_data (type_of w) (packet_of w ws).parts.identifier t s sized_kind n found
 
     -- of a stream that is known to be the packet's
     module _ (s : ℕ) (f : sought_in w ws t ≡ accepted s) where

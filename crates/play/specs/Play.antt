@@ -4,7 +4,7 @@ use Rattle.std.specs.Prelude.{ℕ, Bool, not, List, [], ◌∷◌, ◌++◌, leb
 use Rattle.words.specs.Numbers.{STREAM, TABLE}
 use Rattle.words.specs.Tests.{among, either}
 use Rattle.words.specs.Part.{part}
-use Rattle.words.specs.Outcome.{Outcome, refused, accepted, Done}
+use Rattle.words.specs.Outcome.{Outcome, accepted, Done}
 use Rattle.words.specs.Refusals.{Refusals, first_given}
 use Rattle.words.specs.Told.{Told, told}
 use Rattle.packet.specs.declared.Packet.{Packet}
@@ -16,8 +16,6 @@ use Rattle.table.specs.Layout.{streams_of, record_at, with_record}
 use Rattle.table.specs.Identifiers.{stream_of, surveyed}
 use Rattle.table.specs.Well.{well_made}
 use Rattle.play.specs.declared.Heard.{Heard}
-use Rattle.play.specs.declared.Played.{Played}
-use Rattle.play.specs.declared.Played.TheVariants.{Accepted, Refused}
 
 -- what an accepted packet of stream s says, played on the table t
 unfoldable pub heard_of : Packet → ℕ → List ℕ → Heard
@@ -67,9 +65,3 @@ play_of t ws = let p = packet_of (get_or ws 0 0) ws in first_given (play_list t 
 -- with the place of each refusal
 unfoldable pub play_told : List ℕ → List ℕ → Told (Done Heard (List ℕ))
 play_told t ws = told (where_of ws) (play_of t ws)
-
--- ---- the refusals and values of answers
-
-abbrev pub played_paper : Played → Told Heard
-played_paper (Refused n) = refused n
-played_paper (Accepted h) = accepted h

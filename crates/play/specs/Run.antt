@@ -5,15 +5,13 @@ use Rattle.words.specs.Numbers.{STREAM}
 use Rattle.words.specs.Tests.{pick, when}
 use Rattle.words.specs.Outcome.{Outcome, refused, accepted, Done, said_of, left_of}
 use Rattle.words.specs.Refusals.{first_given}
-use Rattle.words.specs.Told.{Told, place_word, place_bit}
+use Rattle.words.specs.Told.{Told, told_paper, place_word, place_bit}
 use Rattle.packet.specs.Header.{size_of}
 use Rattle.play.specs.declared.Heard.{Heard}
 use Rattle.play.specs.declared.step.Happened.{Happened}
 use Rattle.play.specs.declared.run.Entry.{Entry}
 use Rattle.play.specs.declared.run.Reached.{Reached}
-use Rattle.play.specs.declared.run.Ran.{Ran}
-use Rattle.play.specs.declared.run.Ran.TheVariants.{Accepted, Refused}
-use Rattle.play.specs.Play.{table_list, play_told, played_paper}
+use Rattle.play.specs.Play.{table_list, play_told}
 
 -- ---- one step
 
@@ -35,7 +33,7 @@ next_of t ws at = at + when (goes_on (said_at t ws at)) (size_of (get_or ws at 0
 
 -- a step's answer r, and the table afterwards
 pub record Stepped (t ws : List ℕ) (at : ℕ) (r : Happened) (left : List ℕ) : Type 0 where
-  pub answer : played_paper r.answer ≡ said_at t ws at
+  pub answer : told_paper r.answer ≡ said_at t ws at
   pub on : r.continues ≡ goes_on (said_at t ws at)
   pub next : r.next ≡ next_of t ws at
   pub table : left ≡ left_at t ws at
@@ -102,7 +100,3 @@ unfoldable pub run_of : List ℕ → List ℕ → ℕ → List ℕ → Outcome (
 run_of t ws from answers =
     let w = whole_walk t ws from answers in
     first_given (table_list t) (accepted (record { says = reached_of w; leaves = (w.table, answers_of w answers) }))
-
-abbrev pub run_paper : Ran → Outcome Reached
-run_paper (Refused n) = refused n
-run_paper (Accepted r) = accepted r

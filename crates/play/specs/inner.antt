@@ -1,6 +1,6 @@
 -- Definitions that only the contracts inside cite.
 
--- whether the table is well made, and the stream of a packet
+-- the stream of a packet
 pub mod Steps
 -- what the functions inside promise of one packet
 pub mod Entered

@@ -2,23 +2,27 @@
 // 4, so that a data packet pays for no body. Data and Context packets have a function each, so that the compiler puts both in line where a run calls `enter`.
 ghost use Rattle.std.specs.Prelude.{◌≡◌, true, ◌<◌, eqb};
 ghost use Rattle.words.specs.declared.Where.TheVariants.{Word, Field};
-ghost use Rattle.words.specs.Numbers.{FIELD};
+ghost use Rattle.words.specs.Numbers.{FIELD, STREAM};
 ghost use Rattle.words.specs.Tests.{pick};
+ghost use Rattle.words.specs.Listed.{list_number};
 ghost use Rattle.words.specs.Outcome.{accepted};
+ghost use Rattle.words.specs.Told.{told_paper};
 ghost use Rattle.packet.specs.Header.{type_of, size_of};
-ghost use Rattle.packet.specs.inner.Steps.{Placeable};
+ghost use Rattle.packet.specs.Told.{where_of};
+ghost use Rattle.packet.specs.inner.Steps.{FieldFits, Placeable};
 ghost use Rattle.table.specs.Well.{well_made};
-ghost use Rattle.play.specs.Play.{played_paper};
-ghost use Rattle.play.specs.inner.Entered.{Sized, sought_in, chosen_at, Noted, said_by, unread_note, unread_entry, undeclared_entry};
+ghost use Rattle.play.specs.inner.Entered.{Sized, sought_in, chosen_at, Noted, Sayable, said_by, unread_note, unread_entry, undeclared_entry};
 
+use crate::Heard;
 use crate::run::Entry;
+use words::{Refusal, RefusedAt, Where};
 
 // What is noted of words that reading refuses: the number. A walk does not go on behind it.
-fn note_unread(number: u32) -> Entry
-    ensures { result ≡ unread_note number }
+fn note_unread(refusal: Refusal) -> Entry
+    ensures { result ≡ unread_note (list_number refusal) }
 {
     Entry {
-        number,
+        number: u32::from(refusal),
         size: 0,
         what: 0,
         which: 0,
@@ -28,11 +32,11 @@ fn note_unread(number: u32) -> Entry
 
 // The entry of a packet with the header w that is of no stream: STREAM, told at the identifier, or at the header where there is none. It looks at no other word,
 // so that none is kept at hand while a stream is sought.
-fn entry_undeclared(number: u32, w: u32) -> Entry
-    ensures { result ≡ undeclared_entry number w }
+fn entry_undeclared(w: u32) -> Entry
+    ensures { result ≡ undeclared_entry STREAM w }
 {
     Entry {
-        number,
+        number: u32::from(Refusal::Stream),
         size: packet::inner::size_of(w),
         what: words::inner::when_so(packet::inner::has_stream(w), 1) as u32,
         which: 0,
@@ -61,8 +65,8 @@ fn enter_survey(table: &mut [u32], given: &[u32], w: u32, s: usize) -> Entry
     ensures { Noted table.old given.now result table.new }
 {
     let rest = packet::inner::check_survey(w, given);
-    let words::Check::Fine = rest else {
-        return note_unread(crate::streams::number_of_check(rest));
+    let Ok(()) = rest else {
+        return note_unread(rest.unwrap_err());
     };
     let missing = crate::streams::hear_data(table, s, w);
     entry_heard(w, s, missing)
@@ -74,20 +78,19 @@ fn enter_data(table: &mut [u32], given: &[u32], w: u32) -> Entry
     requires { (well_made table.old ≡ true) × Sized w given.now × (type_of w ≡ 4 → ⊥) }
     ensures { Noted table.old given.now result table.new }
 {
-    let sought = crate::streams::seek(table, given, w);
-    let crate::streams::Sought::At(s) = sought else {
+    let Some(s) = crate::streams::seek(table, given, w) else {
         let prologue = packet::inner::check_prologue(false, w, given);
-        let words::Check::Fine = prologue else {
-            return note_unread(crate::streams::number_of_check(prologue));
+        let Ok(()) = prologue else {
+            return note_unread(prologue.unwrap_err());
         };
-        return entry_undeclared(crate::streams::number_of_sought(sought), w);
+        return entry_undeclared(w);
     };
     if crate::streams::is_survey(table, s) {
         return enter_survey(table, given, w, s);
     }
     let prologue = packet::inner::check_prologue(false, w, given);
-    let words::Check::Fine = prologue else {
-        return note_unread(crate::streams::number_of_check(prologue));
+    let Ok(()) = prologue else {
+        return note_unread(prologue.unwrap_err());
     };
     let missing = crate::streams::hear_data(table, s, w);
     entry_heard(w, s, missing)
@@ -99,19 +102,29 @@ fn enter_context(table: &mut [u32], given: &[u32], w: u32) -> Entry
     ensures { Noted table.old given.now result table.new }
 {
     let prologue = packet::inner::check_prologue(false, w, given);
-    let words::Check::Fine = prologue else {
-        return note_unread(crate::streams::number_of_check(prologue));
+    let Ok(()) = prologue else {
+        return note_unread(prologue.unwrap_err());
     };
     let body = packet::inner::check_body(w, given);
-    let words::Check::Fine = body else {
-        return note_unread(crate::streams::number_of_check(body));
+    let Ok(()) = body else {
+        return note_unread(body.unwrap_err());
     };
-    let sought = crate::streams::seek(table, given, w);
-    let crate::streams::Sought::At(s) = sought else {
-        return entry_undeclared(crate::streams::number_of_sought(sought), w);
+    let Some(s) = crate::streams::seek(table, given, w) else {
+        return entry_undeclared(w);
     };
     let missing = crate::streams::hear_context(table, s, given, w);
     entry_heard(w, s, missing)
+}
+
+// Where words are refused with a number.
+fn where_numbered(number: u32, given: &[u32]) -> Where
+    requires { FieldFits number given.now }
+    ensures { result ≡ where_of given.now number }
+{
+    match Refusal::try_from(number) {
+        Ok(refusal) => packet::inner::where_of(refusal, given),
+        Err(_) => Where::Nowhere,
+    }
 }
 
 // The entry of words that reading refuses with a number: the number, and where. It is made once, where a run ends, and so away from the packets that are heard.
@@ -119,7 +132,7 @@ pub fn entry_unread(number: u32, given: &[u32]) -> Entry
     requires { Placeable number given.now }
     ensures { result ≡ unread_entry number given.now }
 {
-    let place = packet::inner::where_of(number, given);
+    let place = where_numbered(number, given);
     Entry {
         number,
         size: 0,
@@ -135,8 +148,8 @@ pub fn enter(table: &mut [u32], given: &[u32]) -> Entry
     ensures { Noted table.old given.now result table.new }
 {
     let sized = packet::inner::check_sized(given);
-    let words::Check::Fine = sized else {
-        return note_unread(crate::streams::number_of_check(sized));
+    let Ok(()) = sized else {
+        return note_unread(sized.unwrap_err());
     };
     let w = given[0];
     if packet::inner::type_of(w) != 4 {
@@ -146,29 +159,30 @@ pub fn enter(table: &mut [u32], given: &[u32]) -> Entry
 }
 
 // Where an entry's packet is refused: at a field with FIELD, and at a word with another number.
-fn place_of(e: Entry) -> words::Where
-    ensures { result ≡ pick (eqb e.number FIELD) (Field e.what e.which) (Word e.what) }
+fn place_of(refusal: Refusal, e: Entry) -> Where
+    ensures { result ≡ pick (eqb (list_number refusal) FIELD) (Field e.what e.which) (Word e.what) }
 {
-    if e.number == words::FIELD {
-        return words::Where::Field(e.what as usize, e.which);
+    match refusal {
+        Refusal::Field => Where::Field(e.what as usize, e.which),
+        _ => Where::Word(e.what as usize),
     }
-    words::Where::Word(e.what as usize)
 }
 
-// What play answers, from an entry: the packet is heard where the number is 0.
-pub fn answer_of(e: Entry) -> crate::Played
-    ensures { played_paper result ≡ said_by e }
+// What play answers, from an entry: the packet is refused where the number is in the list, and heard where it is 0.
+pub fn answer_of(e: Entry) -> Result<Heard, RefusedAt>
+    requires { Sayable e.number }
+    ensures { told_paper result ≡ said_by e }
 {
-    if e.number != 0 {
-        return crate::Played::Refused(words::Refusal {
-            number: e.number,
-            place: place_of(e),
-        });
+    match Refusal::try_from(e.number) {
+        Ok(refusal) => Err(RefusedAt {
+            refusal,
+            place: place_of(refusal, e),
+        }),
+        Err(_) => Ok(Heard {
+            size: e.size,
+            kind: e.what,
+            stream: e.which as usize,
+            missing: e.missing,
+        }),
     }
-    crate::Played::Accepted(crate::Heard {
-        size: e.size,
-        kind: e.what,
-        stream: e.which as usize,
-        missing: e.missing,
-    })
 }

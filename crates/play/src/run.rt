@@ -31,13 +31,6 @@ pub struct Reached {
     pub next: usize,
 }
 
-// What a run answers: how far it went, or the number of the refusal.
-#[derive(Clone, Copy)]
-pub enum Ran {
-    Accepted(Reached),
-    Refused(u32),
-}
-
 // Stores an entry.
 fn store(place: &mut [u32], e: Entry)
     requires { (length place.old ≡ entry_words) × (e.size < 2 ^ 16) }
@@ -112,7 +105,7 @@ pub fn run_one(table: &mut [u32], recording: &[u32], at: usize) -> Entry
     requires { well_made table.old ≡ true }
     ensures { Entered table.old recording.now at result table.new }
 {
-    let mut entry = [words::EMPTY, 0, 0, 0, 0];
+    let mut entry = [u32::from(words::Refusal::Empty), 0, 0, 0, 0];
     run_on(table, recording, at, &mut entry);
     load(entry)
 }

@@ -6,7 +6,7 @@ ghost use Rattle.play.specs.Run.{Stepped};
 // What a step gives: play's answer, whether the walk goes on, and the place of the next packet.
 #[derive(Clone, Copy)]
 pub struct Happened {
-    pub answer: crate::Played,
+    pub answer: Result<crate::Heard, words::RefusedAt>,
     pub continues: bool,
     pub next: usize,
 }

@@ -2,53 +2,16 @@
 ghost use Rattle.std.specs.Prelude.{◌≡◌, true, [], ◌∷◌, ◌<◌};
 ghost use Rattle.words.specs.Numbers.{STREAM};
 ghost use Rattle.words.specs.Tests.{pick, among};
-ghost use Rattle.words.specs.Outcome.{number_of, checked, refused};
+ghost use Rattle.words.specs.Outcome.{refused};
 ghost use Rattle.packet.specs.Header.{type_of, count_of};
 ghost use Rattle.record.specs.After.{record_after, added_by};
 ghost use Rattle.table.specs.Layout.{streams_of, record_at, with_record};
 ghost use Rattle.table.specs.Well.{well_made};
-ghost use Rattle.play.specs.inner.Steps.{made_of, sought_paper};
+ghost use Rattle.play.specs.inner.Steps.{sought_paper};
 ghost use Rattle.play.specs.inner.Entered.{declared_of, Sized, Headed, sought_in, chosen_at, HeardAs};
 
-// The stream of a packet: its number, or the number of the refusal.
-#[derive(Clone, Copy)]
-pub enum Sought {
-    At(usize),
-    Unknown(u32),
-}
-
-// The number of the refusal that a check found, and 0 where it found none: `let .. else` does not bind what it refuses.
-pub fn number_of_check(answer: words::Check) -> u32
-    ensures { result ≡ number_of (checked answer) }
-{
-    match answer {
-        words::Check::Refused(n) => n,
-        words::Check::Fine => 0,
-    }
-}
-
-// The number of the refusal of a packet of no stream, and 0 where there is a stream.
-pub fn number_of_sought(answer: Sought) -> u32
-    ensures { result ≡ number_of (sought_paper answer) }
-{
-    match answer {
-        Sought::Unknown(n) => n,
-        Sought::At(_) => 0,
-    }
-}
-
-// TABLE, of a table that is not well made.
-pub fn check_table(table: &[u32]) -> words::Check
-    ensures { checked result ≡ made_of table.now }
-{
-    if table::well_made(table) {
-        return words::Check::Fine;
-    }
-    words::Check::Refused(words::TABLE)
-}
-
 // The stream of an identifier; STREAM where it is not declared.
-fn seek_stream(table: &[u32], identifier: u32) -> Sought
+fn seek_stream(table: &[u32], identifier: u32) -> Option<usize>
     requires { well_made table.now ≡ true }
     ensures { sought_paper result ≡ declared_of identifier table.now }
 {
@@ -56,28 +19,28 @@ fn seek_stream(table: &[u32], identifier: u32) -> Sought
     let mut s = 0;
     loop {
         if table[table::inner::record_at(s)] == identifier {
-            return Sought::At(s);
+            return Some(s);
         }
         s += 1;
         if s == n {
-            return Sought::Unknown(words::STREAM);
+            return None;
         }
     }
 }
 
 // STREAM: a packet may have no identifier, and one that it has may not be declared.
-fn seek_streamed(table: &[u32], streamed: bool, identifier: u32) -> Sought
+fn seek_streamed(table: &[u32], streamed: bool, identifier: u32) -> Option<usize>
     requires { well_made table.now ≡ true }
     ensures { sought_paper result ≡ pick streamed (declared_of identifier table.now) (refused STREAM) }
 {
     if streamed {
         return seek_stream(table, identifier);
     }
-    Sought::Unknown(words::STREAM)
+    None
 }
 
 // The stream of a packet whose header and size are right; STREAM where the table has none for it.
-pub fn seek(table: &[u32], given: &[u32], w: u32) -> Sought
+pub fn seek(table: &[u32], given: &[u32], w: u32) -> Option<usize>
     requires { (well_made table.now ≡ true) × Sized w given.now }
     ensures { sought_paper result ≡ sought_in w given.now table.now }
 {

@@ -2,10 +2,10 @@
 // A recording is the room of the table, S and S identifiers, C and C choices, D and D stores (place, word) after the start, P, and P packets (n, and n words).
 #![tactic(auto)]
 
-use play::Played;
+use play::Heard;
 use std::io;
 use std::io::{Read, Write};
-use words::Length;
+use words::RefusedAt;
 
 // The line of a table that was played on: the words of its layout.
 fn show_table(output: &mut impl Write, table: &[u32], length: usize) -> io::Result<()> {
@@ -28,17 +28,21 @@ fn show_past(output: &mut impl Write, table: &[u32], from: usize) -> io::Result<
 }
 
 // The line of packet j.
-fn show_played(output: &mut impl Write, j: u64, answer: Played) -> io::Result<()> {
+fn show_played(
+    output: &mut impl Write,
+    j: u64,
+    answer: Result<Heard, RefusedAt>,
+) -> io::Result<()> {
     lines::inner::text(output, b"  ")?;
     lines::inner::number(output, j)?;
     match answer {
-        Played::Accepted(h) => {
+        Ok(h) => {
             lines::inner::named(output, b"type", h.kind as u64)?;
             lines::inner::named(output, b"stream", h.stream as u64)?;
             lines::inner::named(output, b"missing", h.missing as u64)?;
             lines::inner::named(output, b"size", h.size as u64)?;
         }
-        Played::Refused(r) => lines::inner::show_refusal(output, r)?,
+        Err(r) => lines::inner::show_refusal(output, r)?,
     }
     lines::inner::text(output, b"\n")
 }
@@ -153,8 +157,8 @@ fn recording(
 ) -> io::Result<()> {
     lines::inner::pattern(table);
     match table::start(ids, choices, table) {
-        Length::Accepted(length) => play_recording(input, output, length, table, ws),
-        Length::Refused(number) => pass_over(input, output, number, table),
+        Ok(length) => play_recording(input, output, length, table, ws),
+        Err(refusal) => pass_over(input, output, u32::from(refusal), table),
     }
 }
 
@@ -190,8 +194,7 @@ fn one_case(
     choices: &mut [u32],
     ws: &mut [u32],
 ) -> io::Result<bool> {
-    let next = lines::inner::next_word(input)?;
-    let lines::inner::Input::Word(w) = next else {
+    let Some(w) = lines::inner::next_word(input)? else {
         return Ok(false);
     };
     let room = w as usize;

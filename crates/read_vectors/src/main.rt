@@ -4,20 +4,19 @@
 
 ghost use Rattle.std.specs.Prelude.{◌+◌, ◌≤◌, length};
 
-use packet::{Packet, Parsed, ParsedSurvey};
+use packet::Packet;
 use std::io;
 use std::io::{Read, Write};
 
 // The line of a field of a type 4 body, where the body has it.
 fn show_field(output: &mut impl Write, body: &[u32], bit: u32) -> io::Result<()> {
-    let found = fields::find(body, bit);
-    let fields::Found::At(at, n) = found else {
+    let Some(found) = fields::find(body, bit) else {
         return Ok(());
     };
     lines::inner::text(output, b"  field ")?;
     lines::inner::number(output, bit as u64)?;
-    lines::inner::named(output, b"at", at as u64)?;
-    lines::inner::named(output, b"words", n as u64)?;
+    lines::inner::named(output, b"at", found.at as u64)?;
+    lines::inner::named(output, b"words", found.words as u64)?;
     lines::inner::text(output, b"\n")
 }
 
@@ -43,32 +42,30 @@ fn show_context(output: &mut impl Write, p: Packet, ws: &[u32]) -> io::Result<()
 }
 
 // The line of a refusal.
-fn show_refused(output: &mut impl Write, r: words::Refusal) -> io::Result<()> {
+fn show_refused(output: &mut impl Write, r: words::RefusedAt) -> io::Result<()> {
     lines::inner::show_refusal(output, r)?;
     lines::inner::text(output, b"\n")
 }
 
 // The lines of words that are read plainly.
 fn show_plain(output: &mut impl Write, ws: &[u32]) -> io::Result<()> {
-    let answer = packet::read(ws);
-    match answer {
-        Parsed::Accepted(p) => {
+    match packet::read(ws) {
+        Ok(p) => {
             lines::inner::show_packet(output, p)?;
             show_context(output, p, ws)
         }
-        Parsed::Refused(r) => show_refused(output, r),
+        Err(r) => show_refused(output, r),
     }
 }
 
 // The lines of words that are read as a survey packet.
 fn show_survey(output: &mut impl Write, ws: &[u32]) -> io::Result<()> {
-    let answer = packet::read_survey(ws);
-    match answer {
-        ParsedSurvey::Accepted(s) => {
+    match packet::read_survey(ws) {
+        Ok(s) => {
             lines::inner::show_survey(output, s)?;
             show_context(output, s.packet, ws)
         }
-        ParsedSurvey::Refused(r) => show_refused(output, r),
+        Err(r) => show_refused(output, r),
     }
 }
 
@@ -89,8 +86,7 @@ fn one_case(
     k: u64,
     buffer: &mut [u32],
 ) -> io::Result<bool> {
-    let next = lines::inner::next_word(input)?;
-    let lines::inner::Input::Word(choice) = next else {
+    let Some(choice) = lines::inner::next_word(input)? else {
         return Ok(false);
     };
     let n = lines::inner::word(input)? as usize;

@@ -3,34 +3,29 @@
 // the stream and the room of the buffer; 4, changed fields, by two tables, each with its stream.
 #![tactic(auto)]
 
-use panel_streams::{Changed, Identity, TypeCounts};
+use panel_streams::{Identity, TypeCounts};
 use std::io;
 use std::io::{Read, Write};
-use words::Length;
+use words::Refusal;
 
 // The refusal of a case.
-fn show_refusal(output: &mut impl Write, n: u32) -> io::Result<()> {
-    lines::inner::named(output, b"refused", n as u64)
+fn show_refusal(output: &mut impl Write, refusal: Refusal) -> io::Result<()> {
+    lines::inner::named(output, b"refused", u32::from(refusal) as u64)
 }
 
 // An identifier, a choice and a held indicator.
-fn show_declared(
-    output: &mut impl Write,
-    identifier: u32,
-    choice: u32,
-    held: u32,
-) -> io::Result<()> {
-    lines::inner::named(output, b"identifier", identifier as u64)?;
-    lines::inner::named(output, b"choice", choice as u64)?;
-    lines::inner::named(output, b"held", held as u64)
+fn show_identity(output: &mut impl Write, who: Identity) -> io::Result<()> {
+    lines::inner::named(output, b"identifier", who.identifier as u64)?;
+    lines::inner::named(output, b"choice", who.choice as u64)?;
+    lines::inner::named(output, b"held", who.held as u64)
 }
 
 // A count that has started.
-fn show_started(output: &mut impl Write, seen: u32, missing: u32, last: u32) -> io::Result<()> {
+fn show_counts(output: &mut impl Write, counts: TypeCounts) -> io::Result<()> {
     lines::inner::text(output, b" started")?;
-    lines::inner::named(output, b"seen", seen as u64)?;
-    lines::inner::named(output, b"missing", missing as u64)?;
-    lines::inner::named(output, b"last", last as u64)
+    lines::inner::named(output, b"seen", counts.seen as u64)?;
+    lines::inner::named(output, b"missing", counts.missing as u64)?;
+    lines::inner::named(output, b"last", counts.last as u64)
 }
 
 // The identity of a stream of a table that was read.
@@ -43,12 +38,8 @@ fn ask_identity(
     let stream = lines::inner::word(input)? as usize;
     lines::inner::number(output, k)?;
     match panel_streams::identity(table, stream) {
-        Identity::Declared {
-            identifier,
-            choice,
-            held,
-        } => show_declared(output, identifier, choice, held)?,
-        Identity::Refused(n) => show_refusal(output, n)?,
+        Ok(who) => show_identity(output, who)?,
+        Err(refusal) => show_refusal(output, refusal)?,
     }
     lines::inner::text(output, b"\n")
 }
@@ -64,23 +55,19 @@ fn ask_counts(
     let kind = lines::inner::word(input)?;
     lines::inner::number(output, k)?;
     match panel_streams::counts(table, stream, kind) {
-        TypeCounts::Started {
-            seen,
-            missing,
-            last,
-        } => show_started(output, seen, missing, last)?,
-        TypeCounts::NotStarted => lines::inner::text(output, b" not started")?,
-        TypeCounts::Refused(n) => show_refusal(output, n)?,
+        Ok(Some(counts)) => show_counts(output, counts)?,
+        Ok(None) => lines::inner::text(output, b" not started")?,
+        Err(refusal) => show_refusal(output, refusal)?,
     }
     lines::inner::text(output, b"\n")
 }
 
 // The line of `own_table`: the words of the layout, or the refusal.
-fn show_own(output: &mut impl Write, k: u64, answer: Length) -> io::Result<()> {
+fn show_own(output: &mut impl Write, k: u64, answer: Result<usize, Refusal>) -> io::Result<()> {
     lines::inner::number(output, k)?;
     match answer {
-        Length::Accepted(n) => lines::inner::named(output, b"table", n as u64)?,
-        Length::Refused(n) => show_refusal(output, n)?,
+        Ok(n) => lines::inner::named(output, b"table", n as u64)?,
+        Err(refusal) => show_refusal(output, refusal)?,
     }
     lines::inner::text(output, b"\n")
 }
@@ -126,8 +113,8 @@ fn ask_changed(
     let other = lines::inner::word(input)? as usize;
     lines::inner::number(output, k)?;
     match panel_streams::changed(before, stream, &after[0..n], other) {
-        Changed::Fields(w) => lines::inner::named(output, b"changed", w as u64)?,
-        Changed::Refused(n) => show_refusal(output, n)?,
+        Ok(bits) => lines::inner::named(output, b"changed", bits as u64)?,
+        Err(refusal) => show_refusal(output, refusal)?,
     }
     lines::inner::text(output, b"\n")
 }
@@ -162,8 +149,7 @@ fn one_case(
     more: &mut [u32],
     out: &mut [u32],
 ) -> io::Result<bool> {
-    let next = lines::inner::next_word(input)?;
-    let lines::inner::Input::Word(asked) = next else {
+    let Some(asked) = lines::inner::next_word(input)? else {
         return Ok(false);
     };
     let n = lines::inner::word(input)? as usize;

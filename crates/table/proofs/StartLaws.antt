@@ -1,5 +1,6 @@
 -- A fresh table. The idea: after s turns the first s records are fresh and the rest is as it was (`Starting`); the whole is well made, since a fresh record is
 -- good and the list is that which was given, identifiers and choices.
+use Rattle.std.specs.Prelude.{Ok, Err}
 use Rattle.words.proofs.Kit.{◌≡◌, refl, sym, ap, ap₂, ◌∙◌, List, [], ◌∷◌, ◌++◌, Bool, true, false, not, ℕ, zero, suc, ◌+◌, ◌-◌, ◌*◌, ◌^◌, ◌≤◌, ◌<◌}
 use Rattle.words.proofs.Kit.{arith, lt-ltb, le-ltb, ltb-false, not-true, not-false, length, get_or, take, drop, set}
 use mathlib.Core.List.{append_assoc, append-nil}
@@ -7,14 +8,14 @@ use native.Mathlib.Nat.{not-suc-le-zero, le_of_suc-le-suc}
 use native.Mathlib.Numerals.{add-one}
 use lib.ListN.{length-append, length-drop, replicate, take-append-drop}
 use lib.Seq.{take-suc, take_all, drop-drop, length-take-le, take-suc-set, drop-set-lt, drop_at}
-use Rattle.words.specs.Numbers.{LIST, ROOM}
 use Rattle.words.specs.Part.{part, put}
-use Rattle.words.specs.declared.Length.TheVariants.{Accepted, Refused}
-use Rattle.words.specs.Outcome.{Done, accepted, measured, Meets}
+use Rattle.words.specs.declared.refusals.Refusal.TheVariants as refusals
+use Rattle.words.specs.Listed.{on_paper}
+use Rattle.words.specs.Outcome.{Done, accepted, Meets}
 use Rattle.words.specs.Tests.{both}
 use Rattle.words.proofs.Cases.{both_left, both_right, accepted_same}
 use Rattle.words.proofs.RefusalLaws.{first_passed}
-use Rattle.words.proofs.MeetLaws.{meets_refused, meets_length}
+use Rattle.words.proofs.MeetLaws.{meets_err, meets_ok}
 use Rattle.words.proofs.PartLaws.{put_at, part_front, part_past, part_within}
 use Rattle.record.specs.Layout.{head_words, slot_words, record_words, identifier_of, choice_of}
 use Rattle.record.specs.Good.{record_good}
@@ -148,9 +149,9 @@ module _ (ids choices t : List ℕ) (l c b : Bool) (el : l ≡ list_good (length
   listed_both : b ≡ both (list_good (length ids) (listed ids)) (choices_good (length ids) choices)
   listed_both = eb ∙ ap₂ both (el ∙ list_next ids) ec
 
-  pub start_list_lem : not b ≡ true → Meets measured (start_of ids choices t) t (Refused LIST) t
+  pub start_list_lem : not b ≡ true → Meets on_paper (start_of ids choices t) t (Err refusals.List) t
   unfolding start_of
-  start_list_lem o = meets_refused (rw (← listed_both, not-true b o))
+  start_list_lem o = meets_err (rw (← listed_both, not-true b o))
 
   module _ (o : not b ≡ false) where
     passed : both l c ≡ true
@@ -166,18 +167,18 @@ module _ (ids choices t : List ℕ) (l c b : Bool) (el : l ≡ list_good (length
     start_many = choices_many (length ids) choices (sym ec ∙ both_right l c passed)
 
     module _ (m : ℕ) (f : m ≡ layout_words (length ids)) where
-      pub start_room : length t < m → Meets measured (start_of ids choices t) t (Refused ROOM) t
+      pub start_room : length t < m → Meets on_paper (start_of ids choices t) t (Err refusals.Room) t
       unfolding start_of
-      start_room h = meets_refused (rw (← listed_both, not-false b o, ← f, lt-ltb _ _ h))
+      start_room h = meets_err (rw (← listed_both, not-false b o, ← f, lt-ltb _ _ h))
 
       pub start_made : (last : List ℕ) → m ≤ length t
           → last ≡ take 1 (set t 0 (length ids)) ++ (fresh_records ids choices ++ drop (base (length ids)) (set t 0 (length ids)))
-          → Meets measured (start_of ids choices t) t (Accepted m) last
+          → Meets on_paper (start_of ids choices t) t (Ok m) last
       unfolding start_of fresh_table
       start_made last h e =
           let i : 0 < length t = omega arith in
           let j : 0 < layout_words (length ids) = omega arith in
-          meets_length {left = fresh_table ids choices t} (rw (← listed_both, not-false b o, ← f, le-ltb _ _ h))
+          meets_ok {left = fresh_table ids choices t} (rw (← listed_both, not-false b o, ← f, le-ltb _ _ h))
           (e ∙ rw (take-suc-set t 0 (length ids) i, drop-set-lt (layout_words (length ids)) t 0 (length ids) j))
 
 -- ---- a fresh table is well made

@@ -5,9 +5,7 @@ use Rattle.words.proofs.Kit.{◌≡◌, refl, sym, ap, ◌∙◌, Bool, true, fa
 use Rattle.words.proofs.Kit.{not-false, eqb}
 use borrow.Author.Tests.{leb-false}
 use Rattle.words.specs.Numbers.{TABLE, STREAM}
-use Rattle.words.specs.Outcome.{refused, accepted, checked}
-use Rattle.words.specs.declared.Check.{Check}
-use Rattle.words.specs.declared.Check.TheVariants as checks
+use Rattle.words.specs.Outcome.{refused, accepted}
 use Rattle.words.proofs.Cases.{le_or_lt}
 use Rattle.words.proofs.RefusalLaws.{first_passed}
 use Rattle.record.specs.Layout.{choice_of}
@@ -50,19 +48,13 @@ module _ (t : List ℕ) (s : ℕ) (e : stream_checks t s ≡ accepted tt) where
   pub stream_has : Has s t
   stream_has = layout_has t s (well_whole t stream_well) stream_below
 
--- ---- the same of what the check answered, k
-module _ (t : List ℕ) (s : ℕ) (k : Check) (e : checked k ≡ stream_checks t s) where
-  pub checked_fine : k ≡ checks.Fine → stream_checks t s ≡ accepted tt
-  checked_fine f = sym e ∙ ap checked f
+-- ---- the same of what the check accepted
+module _ (t : List ℕ) (s : ℕ) (e : accepted tt ≡ stream_checks t s) where
+  pub checked_few : s < 32
+  checked_few = stream_few t s (sym e)
 
-  pub checked_refused : (n : ℕ) → k ≡ checks.Refused n → stream_checks t s ≡ refused n
-  checked_refused n f = sym e ∙ ap checked f
-
-  pub checked_few : k ≡ checks.Fine → s < 32
-  checked_few f = stream_few t s (checked_fine f)
-
-  pub checked_has : k ≡ checks.Fine → Has s t
-  checked_has f = stream_has t s (checked_fine f)
+  pub checked_has : Has s t
+  checked_has = stream_has t s (sym e)
 
 -- ---- whether 49A is chosen for an identifier
 

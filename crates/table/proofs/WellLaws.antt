@@ -91,9 +91,18 @@ module _ (s : ℕ) (r t : List ℕ) (w : well_made t ≡ true) (h : s < streams_
 -- ---- the tests as a program makes them
 
 -- the record is lent from its place on
-pub record_tested : (t : List ℕ) (s at : ℕ) (b : Bool) → at ≡ base s → b ≡ record_good (take (at + record_words - at) (drop at t)) → b ≡ record_good_at t s
-unfolding record_good_at record_at
-record_tested t s at b e h = h ∙ ap record_good (seen at (at + record_words) record_words t refl ∙ ap (λ (a : ℕ). part a record_words t) e)
+pub record_lent : (t : List ℕ) (s at : ℕ) → at ≡ base s → take (at + record_words - at) (drop at t) ≡ record_at s t
+unfolding record_at
+record_lent t s at e = seen at (at + record_words) record_words t refl ∙ ap (λ (a : ℕ). part a record_words t) e
+
+-- r is the record that was lent
+module _ (t r : List ℕ) (s : ℕ) (e : r ≡ record_at s t) where
+  pub record_long : Has s t → length r ≡ record_words
+  record_long h = ap length e ∙ record_length s t h
+
+  pub record_tested : (b : Bool) → b ≡ record_good r → b ≡ record_good_at t s
+  unfolding record_good_at
+  record_tested b h = h ∙ ap record_good e
 
 -- n is S, m the words of its layout, and l the answer to its list
 module _ (t : List ℕ) (n m : ℕ) (e : n ≡ streams_of t) (f : m ≡ layout_words n) where

@@ -10,12 +10,10 @@ fn is_apart(ws: &[u32], first: usize, step: usize, s: usize) -> bool
     ensures { result ≡ apart (spaced first step ws.now) s }
 {
     let mine = ws[first + step * s];
-    let mut u = 0;
-    while u < s {
+    for u in 0..s {
         if ws[first + step * u] == mine {
             return false;
         }
-        u += 1;
     }
     true
 }
@@ -25,12 +23,10 @@ fn all_apart(ws: &[u32], first: usize, step: usize, n: usize) -> bool
     requires { (1 ≤ step) × (1 ≤ n) × (first + step * n ≤ length ws.now) }
     ensures { result ≡ all n (apart (spaced first step ws.now)) }
 {
-    let mut s = 1;
-    while s < n {
+    for s in 1..n {
         if !is_apart(ws, first, step, s) {
             return false;
         }
-        s += 1;
     }
     true
 }
@@ -56,12 +52,10 @@ pub fn choices_good(choices: &[u32], n: usize) -> bool
     if choices.len() != n {
         return false;
     }
-    let mut s = 0;
-    while s < n {
-        if 1 < choices[s] {
+    for choice in choices {
+        if 1 < *choice {
             return false;
         }
-        s += 1;
     }
     true
 }

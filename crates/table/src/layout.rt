@@ -1,6 +1,6 @@
 // Where things stand in a table.
 ghost use Rattle.std.specs.Prelude.{◌≡◌, ◌^◌, ◌<◌};
-ghost use Rattle.table.specs.Layout.{streams_of, base, layout_words};
+ghost use Rattle.table.specs.Layout.{streams_of, base, layout_words, Has, record_at};
 
 // S, the number of streams; 0 of no words.
 pub fn streams(table: &[u32]) -> usize
@@ -23,4 +23,14 @@ pub fn record_at(s: usize) -> usize
     ensures { (result ≡ base s) × (result < 2 ^ 39) }
 {
     1 + record::inner::RECORD_WORDS * s
+}
+
+// The record of stream s.
+pub fn record_in(table: &[u32], s: usize) -> &[u32]
+    requires { (s < 2 ^ 32) × Has s table.now }
+    ensures { result.now ≡ record_at s table.now }
+{
+    let at = record_at(s);
+    let end = at + record::inner::RECORD_WORDS;
+    &table[at..end]
 }

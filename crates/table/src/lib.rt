@@ -8,28 +8,31 @@ mod numbered;
 mod records;
 
 ghost use Rattle.std.specs.Prelude.{◌≡◌};
-ghost use Rattle.words.specs.Outcome.{measured, Meets};
+ghost use Rattle.words.specs.Listed.{on_paper};
+ghost use Rattle.words.specs.Outcome.{Meets};
 ghost use Rattle.table.specs.Well.{well_made};
 ghost use Rattle.table.specs.Start.{start_of};
 
+use words::Refusal;
+
 // Starts a table for a list of identifiers and their choices, 0 for plain 49.0 and 1 for 49A, and answers the layout's length: LIST for 0 or over 32
 // identifiers, one twice, choices unlike them in number, or another choice; ROOM where the table is shorter than the layout. Words past the layout stay.
-pub fn start(ids: &[u32], choices: &[u32], table: &mut [u32]) -> words::Length
-    ensures { Meets measured (start_of ids.now choices.now table.old) table.old result table.new }
+pub fn start(ids: &[u32], choices: &[u32], table: &mut [u32]) -> Result<usize, Refusal>
+    ensures { Meets on_paper (start_of ids.now choices.now table.old) table.old result table.new }
 {
     let n = ids.len();
     let listed = identifiers::list_good(ids, 0, 1, n);
     let chosen = identifiers::choices_good(choices, n);
     if !words::inner::both_of(listed, chosen) {
-        return words::Length::Refused(words::LIST);
+        return Err(Refusal::List);
     }
     let length = layout::layout_words(n);
     if table.len() < length {
-        return words::Length::Refused(words::ROOM);
+        return Err(Refusal::Room);
     }
     table[0] = n as u32;
     records::write_records(table, ids, choices);
-    words::Length::Accepted(length)
+    Ok(length)
 }
 
 // Whether a table is well made: the whole layout is there, its list is valid, and each record is good.

@@ -22,10 +22,8 @@ pub fn write_records(table: &mut [u32], ids: &[u32], choices: &[u32])
     requires { (length choices.now ≡ length ids.now) × (length ids.now ≤ 32) × (base (length ids.now) ≤ length table.old) }
     ensures { table.new ≡ take 1 table.old ++ (fresh_records ids.now choices.now ++ drop (base (length ids.now)) table.old) }
 {
-    let mut s = 0;
-    while s < ids.len() {
+    for s in 0..ids.len() {
         write_record(table, s, ids[s], choices[s]);
-        s += 1;
     }
 }
 
@@ -34,9 +32,7 @@ fn record_good_at(table: &[u32], s: usize) -> bool
     requires { (s < 32) × Has s table.now }
     ensures { result ≡ record_good_at table.now s }
 {
-    let at = crate::layout::record_at(s);
-    let end = at + record::inner::RECORD_WORDS;
-    record::inner::record_good(&table[at..end])
+    record::inner::record_good(crate::layout::record_in(table, s))
 }
 
 // Whether the records of n streams are good.
@@ -44,12 +40,10 @@ pub fn records_good(table: &[u32], n: usize) -> bool
     requires { (n ≤ 32) × (base n ≤ length table.now) }
     ensures { result ≡ all n (record_good_at table.now) }
 {
-    let mut s = 0;
-    while s < n {
+    for s in 0..n {
         if !record_good_at(table, s) {
             return false;
         }
-        s += 1;
     }
     true
 }

@@ -2,7 +2,7 @@
 -- places; a call's definition is its list of refusals and an answer (`listed`), so its number is the first of the list, and none of these is 0.
 use Rattle.words.proofs.Kit.{◌≡◌, refl, sym, ap, ◌∙◌, Bool, true, false, List, [], ◌∷◌, ℕ, ◌<◌, arith, rules, get_or}
 use Rattle.words.specs.Tests.{pick}
-use Rattle.words.specs.declared.Refusal.{Refusal}
+use Rattle.words.specs.Told.{RefusalTold}
 use Rattle.words.specs.Word.{join}
 use Rattle.words.specs.Outcome.{Outcome, refused, accepted, number_of}
 use Rattle.words.specs.Refusals.{Refusals, RefusalsOf, first_given, given_in}
@@ -77,7 +77,7 @@ Listed (tells {H} {A} {L} want values lent list numbers) =
     (h : H) → ((a : A) × (want h ≡ first_given (list h) (accepted a))) × (given_in (list h) ≡ numbers) × Numbers not_zero (list h)
 Listed (tells_where {H} {A} {L} want values lent list given) =
     (h : H) → ((a : A) × (want h ≡ first_given (list h) (accepted a))) × (given_in (list h) ≡ given h)
-    × ((says : Refusal) → want h ≡ refused says → Fitting says)
+    × ((says : RefusalTold) → want h ≡ refused says → Fitting says)
 
 -- proofs of each thing in a list, written one after the other
 infixr 4 ◌and◌
@@ -133,12 +133,12 @@ first_number (r ∷ rest) a = pick_number r.1 r.0 _ _ (first_number rest a)
     pick_number true n o p e = refl
     pick_number false n o p e = e
 
-first_told : {A : Type 0} (list : RefusalsOf Refusal) (a : A)
+first_told : {A : Type 0} (list : RefusalsOf RefusalTold) (a : A)
     → number_of (in_number (first_given list (accepted a))) ≡ number_of (in_number (first_given {A = Unit} list (accepted tt)))
 first_told [] a = refl
 first_told (r ∷ rest) a = pick_told r.1 r.0 _ _ (first_told rest a)
   where
-    pick_told : {A B : Type 0} (t : Bool) (n : Refusal) (o : Told A) (p : Told B) → number_of (in_number o) ≡ number_of (in_number p)
+    pick_told : {A B : Type 0} (t : Bool) (n : RefusalTold) (o : Told A) (p : Told B) → number_of (in_number o) ≡ number_of (in_number p)
         → number_of (in_number (pick t (refused n) o)) ≡ number_of (in_number (pick t (refused n) p))
     pick_told true n o p e = refl
     pick_told false n o p e = e
@@ -158,7 +158,7 @@ zero_told values (accepted a) before after h t = (a, refl, t.places)
 -- ---- a refusal that is told where
 
 -- its number is not 0
-zero_where : {A L : Type 0} (values : A → L) (want : Told A) (before after : L) → ((says : Refusal) → want ≡ refused says → Fitting says)
+zero_where : {A L : Type 0} (values : A → L) (want : Told A) (before after : L) → ((says : RefusalTold) → want ≡ refused says → Fitting says)
     → Tells values (in_number want) before 0 after → (a : A) × (want ≡ accepted a) × (after ≡ values a)
 unfolding number_for join
 zero_where values (refused r) before after h t = absurd (omega (arith, (h r refl).some, t.number))

@@ -6,19 +6,12 @@ use lib.ListN.{replicate}
 use lib.Seq.{length-take-le, take_all, take-suc, set_at}
 use lib.IntN.{ℤ, pos}
 use lib.Ieee.{Float}
-use Rattle.words.specs.Outcome.{accepted, checked}
-use Rattle.words.specs.declared.Check.{Check}
-use Rattle.words.specs.declared.Check.TheVariants as checks
-use Rattle.table.specs.Layout.{record_at}
-use Rattle.table.specs.inner.Checked.{stream_checks}
 use Rattle.panel.specs.declared.FieldReading.{FieldReading}
-use Rattle.panel.specs.Readings.{Reading, absent, record_shows, reading_paper}
-use Rattle.panel.specs.AllReadings.{record_readings, readings_of}
-use Rattle.panel.proofs.AllReadingLaws.{readings_many, readings_at, readings_refused, readings_accepted}
+use Rattle.panel.specs.Readings.{Reading, absent, record_shows, shown_in}
+use Rattle.panel.specs.AllReadings.{record_readings}
+use Rattle.panel.proofs.AllReadingLaws.{readings_many, readings_at}
 use Rattle.vrt49.specs.declared.readings.Values.{Values}
-use Rattle.vrt49.specs.Answers.{Tells}
-use Rattle.vrt49.specs.Readings.{plus_zero, numbers_of, numbers_shown, columns, readings_values}
-use Rattle.vrt49.proofs.AnswerLaws.{tells_refused, tells_values}
+use Rattle.vrt49.specs.Readings.{plus_zero, numbers_of, columns, readings_values}
 
 -- ---- the readings, as far as they are shown
 
@@ -84,19 +77,9 @@ columns_none = refl
 
 -- a turn: d is what the field shows, v its numbers, whose whole hertz are stored as z
 pub columns_turn : (r : List ℕ) (i : ℕ) (kinds parts : List ℕ) (hertz : List ℤ) (first second : List Float) (d : FieldReading) (v : Values) (z : ℤ) → i < 21
-    → (kinds, parts, hertz, first, second) ≡ readings_values (shown_to i r) → reading_paper d ≡ accepted (record_shows (30 - i) r)
-    → v ≡ numbers_shown (reading_paper d) → z ≡ v.hertz
+    → (kinds, parts, hertz, first, second) ≡ readings_values (shown_to i r) → shown_in d ≡ record_shows (30 - i) r
+    → v ≡ numbers_of (shown_in d) → z ≡ v.hertz
     → (set kinds i v.kind, set parts i v.parts, set hertz i z, set first i v.first, set second i v.second) ≡ readings_values (shown_to (i + 1) r)
 columns_turn r i kinds parts hertz first second d v z h e p f g =
-    rw g (columns_set (shown_to i r) kinds parts hertz first second e i (record_shows (30 - i) r) v (f ∙ ap numbers_shown p))
+    rw g (columns_set (shown_to i r) kinds parts hertz first second e i (record_shows (30 - i) r) v (f ∙ ap numbers_of p))
     ∙ ap readings_values (shown_more r i h)
-
--- ---- the answer, k being what the stream's number was found to be
-
-module _ (t : List ℕ) (s : ℕ) (k : Check) (e : checked k ≡ stream_checks t s) (before : List ℕ × List ℕ × List ℤ × List Float × List Float) where
-  pub readings_told_refused : (n : ℕ) → k ≡ checks.Refused n → Tells readings_values (readings_of t s) before n before
-  readings_told_refused n f = tells_refused readings_values (readings_of t s) before n (readings_refused t s k e n f)
-
-  pub readings_told : (after : List ℕ × List ℕ × List ℤ × List Float × List Float) → k ≡ checks.Fine
-      → after ≡ readings_values (record_readings (record_at s t)) → Tells readings_values (readings_of t s) before 0 after
-  readings_told after f g = tells_values readings_values (readings_of t s) before _ after (readings_accepted t s k e f) g

@@ -3,7 +3,7 @@
 use Rattle.words.proofs.Kit.{◌≡◌, subst, Bool, true, false, ⊎_elim, List, ℕ, ◌^◌, ◌<◌, arith, rules}
 use Rattle.words.proofs.Kit.{get_or}
 use lib.Pow.{shr-shr}
-use Rattle.words.specs.declared.Refusal.{Refusal}
+use Rattle.words.specs.Told.{RefusalTold}
 use Rattle.words.specs.Numbers.{TABLE}
 use Rattle.words.specs.Word.{bits, split, Within}
 use Rattle.words.specs.Outcome.{refused}
@@ -25,12 +25,12 @@ use Rattle.index_grow.proofs.AnswerLaws.{grow_refused}
 use Rattle.vrt49.specs.Answers.{refusal_parts, refusal_widths, number_for}
 
 -- a refusal fits the number, and has one
-pub record Fitting (r : Refusal) : Type 0 where
+pub record Fitting (r : RefusalTold) : Type 0 where
   pub some : 0 < r.number
   pub fits : Within refusal_widths (refusal_parts r)
 
 -- its parts
-pub number_parts : (r : Refusal) → Fitting r
+pub number_parts : (r : RefusalTold) → Fitting r
     → (bits 7 0 (number_for r) ≡ r.number) × (bits 15 8 (number_for r) ≡ place_bit r.place) × (bits 31 16 (number_for r) ≡ place_word r.place)
 unfolding number_for split
 number_parts r f =
@@ -52,11 +52,11 @@ module _ (ws : List ℕ) where
   read_small survey n e =
       fitting n (subst (Numbered Small) e (number_among Small (list_by survey (get_or ws 0 0) ws) _ (search rules) tt)) (place_small ws survey n e)
 
-  pub read_fitting : (r : Refusal) → read_told ws ≡ refused r → Fitting r
+  pub read_fitting : (r : RefusalTold) → read_told ws ≡ refused r → Fitting r
   unfolding read_told
   read_fitting r e = let k = told_refused (where_of ws) (read_by false ws) r e in rw k.2 (read_small false k.0 k.1)
 
-  pub survey_fitting : (r : Refusal) → survey_told ws ≡ refused r → Fitting r
+  pub survey_fitting : (r : RefusalTold) → survey_told ws ≡ refused r → Fitting r
   unfolding survey_told
   survey_fitting r e =
       let k = told_refused (where_of ws) (read_survey_of ws) r e in
@@ -72,7 +72,7 @@ module _ (t ws : List ℕ) where
       (λ s. rw (s.0, stream_place ws) (omega (arith, when_most (streamed (get_or ws 0 0)) 1))))
       (play_unheard t ws n e)
 
-  pub play_fitting : (r : Refusal) → play_told t ws ≡ refused r → Fitting r
+  pub play_fitting : (r : RefusalTold) → play_told t ws ≡ refused r → Fitting r
   unfolding play_told play_of
   play_fitting r e =
       let k = told_refused (where_of ws) (play_of t ws) r e in
@@ -81,7 +81,7 @@ module _ (t ws : List ℕ) where
 
 -- ---- what growing refuses
 
-pub grow_fitting : (t ws ix : List ℕ) (r : Refusal) → grow_told t ws ix ≡ refused r → Fitting r
+pub grow_fitting : (t ws ix : List ℕ) (r : RefusalTold) → grow_told t ws ix ≡ refused r → Fitting r
 unfolding grow_told grow_of
 grow_fitting t ws ix r e =
     let k = told_refused (where_of ws) (grow_of t ws ix) r e in

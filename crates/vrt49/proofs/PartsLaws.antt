@@ -1,16 +1,15 @@
 -- The parts of a packet as words: what their checks let through, and what writing answers behind them.
+use Rattle.std.specs.Prelude.{Result, Err}
 use Rattle.words.proofs.Kit.{◌≡◌, sym, ap, ◌∙◌, Bool, true, false, List, [], ◌∷◌, ℕ, ◌<◌, arith, ltb, take, get_or}
 use lib.Seq.{get_or-take}
-use Rattle.words.specs.declared.Check.{Check}
-use Rattle.words.specs.declared.Check.TheVariants as Check
-use Rattle.words.specs.declared.Length.{Length}
-use Rattle.words.specs.declared.Length.TheVariants.{Refused}
+use Rattle.words.specs.declared.refusals.Refusal.{Refusal}
+use Rattle.words.specs.Listed.{list_number, on_paper}
 use Rattle.words.specs.Numbers.{TYPE, VALUE}
 use Rattle.words.specs.Tests.{either}
-use Rattle.words.specs.Outcome.{Outcome, refused, accepted, number_of, checked, measured, Meets}
+use Rattle.words.specs.Outcome.{Outcome, refused, accepted, number_of, Meets}
 use Rattle.words.specs.Refusals.{first_given}
 use Rattle.words.proofs.RefusalLaws.{first_passed}
-use Rattle.words.proofs.MeetLaws.{meets_refused}
+use Rattle.words.proofs.MeetLaws.{meets_err}
 use Rattle.packet_write.specs.Write.{write_by}
 use Rattle.packet_write.specs.AsWords.{parts_in}
 use Rattle.vrt49.specs.Packets.{flags_over, words_list, words_checks, write_words_by}
@@ -60,17 +59,16 @@ parts_taken ws =
       word 14 (omega arith),
     )
 
-module _ (survey : Bool) (pad : ℕ) (ws : List ℕ) (found : Check) (f : checked found ≡ words_checks ws) where
-  pub words_refused : (k : ℕ) → found ≡ Check.Refused k → (body out : List ℕ) (at : ℕ)
-      → Meets measured (write_words_by survey pad ws body out at) out (Refused k) out
-  words_refused k r body out at = meets_refused (words_first survey pad ws body out at k (sym f ∙ ap checked r))
+module _ (survey : Bool) (pad : ℕ) (ws : List ℕ) where
+  pub words_refused : (r : Refusal) → refused (list_number r) ≡ words_checks ws → (body out : List ℕ) (at : ℕ)
+      → Meets on_paper (write_words_by survey pad ws body out at) out (Err r) out
+  words_refused r e body out at = meets_err (words_first survey pad ws body out at (list_number r) (sym e))
 
-  pub words_written : found ≡ Check.Fine → (body out left : List ℕ) (at : ℕ) (r : Length)
-      → Meets measured (write_by survey pad (parts_in ws) body out at) out r left → Meets measured (write_words_by survey pad ws body out at) out r left
-  words_written fine body out left at r m =
-      rw (words_fine survey pad ws body out at (flags_passed ws (sym f ∙ ap checked fine))) m
+  module _ (fine : accepted tt ≡ words_checks ws) (body out left : List ℕ) (at : ℕ) (r : Result ℕ Refusal) where
+    pub words_written : Meets on_paper (write_by survey pad (parts_in ws) body out at) out r left
+        → Meets on_paper (write_words_by survey pad ws body out at) out r left
+    words_written m = rw (words_fine survey pad ws body out at (flags_passed ws (sym fine))) m
 
-  pub survey_written : found ≡ Check.Fine → (body out left : List ℕ) (at : ℕ) (r : Length)
-      → Meets measured (write_by survey pad (parts_in (take 15 ws)) body out at) out r left
-      → Meets measured (write_words_by survey pad ws body out at) out r left
-  survey_written fine body out left at r m = words_written fine body out left at r (rw (parts_taken ws) at m)
+    pub survey_written : Meets on_paper (write_by survey pad (parts_in (take 15 ws)) body out at) out r left
+        → Meets on_paper (write_words_by survey pad ws body out at) out r left
+    survey_written m = words_written (rw (parts_taken ws) at m)

@@ -1,10 +1,10 @@
 -- The numbers of an accepted packet fit the words that they are told in. The idea: each follows from a bound that the call's own definition has.
+use Rattle.std.specs.Prelude.{Ok}
 use Rattle.words.proofs.Kit.{◌≡◌, refl, sym, ap, subst, ◌∙◌, true, List, ℕ, ◌^◌, ◌≤◌, ◌<◌, arith, eqb-true, get_or}
 use native.Mathlib.Nat.{mod-lt}
-use Rattle.words.specs.declared.Refusal.{Refusal}
 use Rattle.words.specs.Numbers.{STREAM}
 use Rattle.words.specs.Outcome.{refused, accepted, Done, said_of, Meets}
-use Rattle.words.specs.Told.{Told}
+use Rattle.words.specs.Told.{RefusalTold, Told, told_paper}
 use Rattle.words.proofs.Cases.{when_most}
 use Rattle.words.proofs.ToldLaws.{told_refused}
 use Rattle.words.proofs.MeetLaws.{meets_accepted}
@@ -15,18 +15,14 @@ use Rattle.packet.proofs.ReadLaws.{size_small}
 use Rattle.packet.proofs.InsideLaws.{stream_place}
 use Rattle.table.proofs.WellLaws.{well_few}
 use Rattle.play.specs.declared.Heard.{Heard}
-use Rattle.play.specs.declared.Played.{Played}
-use Rattle.play.specs.declared.Played.TheVariants.{Accepted}
-use Rattle.play.specs.Play.{chosen, heard_of, play_of, play_told, played_paper}
+use Rattle.play.specs.Play.{chosen, heard_of, play_of, play_told}
 use Rattle.play.specs.Run.{goes_on}
 use Rattle.play.proofs.StreamLaws.{sought_below}
 use Rattle.play.proofs.KeepLaws.{play_taken}
 use Rattle.index_grow.specs.declared.Taken.{Taken}
 use Rattle.index_grow.specs.declared.Taken.TheVariants.{Declared, Undeclared}
 use Rattle.index_grow.specs.declared.Stranger.{Stranger}
-use Rattle.index_grow.specs.declared.Grown.{Grown}
-use Rattle.index_grow.specs.declared.Grown.TheVariants as grown
-use Rattle.index_grow.specs.Grow.{taken_as, grow_told, grown_paper}
+use Rattle.index_grow.specs.Grow.{taken_as, grow_told}
 use Rattle.index_grow.proofs.AnswerLaws.{grow_taken}
 use Rattle.vrt49.specs.Indexes.{taken_values, SmallTaken}
 
@@ -42,10 +38,10 @@ heard_few t ws d e =
     rw (← p.says)
     (size_small (chosen t ws) ws p.packet p.reads, omega (arith, sought_below _ _ t p.stream p.seeks, well_few t k.0))
 
-pub heard_small : (t ws left : List ℕ) (r : Played) (h : Heard) → Meets played_paper (play_told t ws) t r left → r ≡ Accepted h
+pub heard_small : (t ws left : List ℕ) (h : Heard) → Meets told_paper (play_told t ws) t (Ok h) left
     → (h.size < 2 ^ 16) × (h.stream ≤ 31)
-heard_small t ws left r h m e =
-    let d = meets_accepted m (ap played_paper e) in
+heard_small t ws left h m =
+    let d = meets_accepted m refl in
     subst SmallHeard d.says (heard_few t ws d.done d.wants)
 
 -- ---- a packet that is taken in
@@ -56,15 +52,14 @@ unfolding play_told
 taken_few t ws (refused r) e g =
     let k = told_refused (where_of ws) (play_of t ws) r e in
     let i : r.number ≡ STREAM = eqb-true r.number STREAM g in
-    let n : k.0 ≡ STREAM = sym (ap (λ (x : Refusal). x.number) k.2) ∙ i in
-    let p : r.place ≡ where_of ws STREAM = ap (λ (x : Refusal). x.place) k.2 ∙ ap (where_of ws) n in
+    let n : k.0 ≡ STREAM = sym (ap (λ (x : RefusalTold). x.number) k.2) ∙ i in
+    let p : r.place ≡ where_of ws STREAM = ap (λ (x : RefusalTold). x.place) k.2 ∙ ap (where_of ws) n in
     (mod-lt (get_or ws 0 0) (omega arith), rw (p, stream_place ws) (when_most (streamed (get_or ws 0 0)) 1))
 taken_few t ws (accepted d) e g = heard_few t ws d e
 
-pub taken_small : (t ws ix : List ℕ) (left : List ℕ × List ℕ) (r : Grown) (x : Taken) → Meets grown_paper (grow_told t ws ix) (t, ix) r left
-    → r ≡ grown.Accepted x → SmallTaken x
-taken_small t ws ix left r x m e =
-    let d = meets_accepted m (ap grown_paper e) in
+pub taken_small : (t ws ix : List ℕ) (left : List ℕ × List ℕ) (x : Taken) → Meets told_paper (grow_told t ws ix) (t, ix) (Ok x) left → SmallTaken x
+taken_small t ws ix left x m =
+    let d = meets_accepted m refl in
     let k = grow_taken t ws ix d.done d.wants in
     subst SmallTaken (sym (ap (λ (z : Done Taken (List ℕ × List ℕ)). z.says) k.is) ∙ d.says) (taken_few t ws (play_told t ws) refl k.goes)
 

@@ -2,7 +2,7 @@
 -- arrays of a fixed length, and buffers. Document 01: "A refusal returns its number alone and writes nothing"; "Only words needed by an accepted answer
 -- change."
 use Rattle.std.specs.Prelude.{◌≡◌, ℕ, List, [], ◌∷◌}
-use Rattle.words.specs.declared.Refusal.{Refusal}
+use Rattle.words.specs.Told.{RefusalTold}
 use Rattle.words.specs.Word.{join}
 use Rattle.words.specs.Outcome.{Outcome, refused, accepted, number_of, Done}
 use Rattle.words.specs.Told.{Told, place_word, place_bit}
@@ -20,14 +20,14 @@ pub record Tells {A L : Type 0} (values : A → L) (want : Outcome A) (before : 
 -- ---- a refusal that is told where (document 02, C-15). It writes nothing, so the field's bit and the word come in the number that the call gives
 
 -- its number, the bit and the word, from the right, and their widths
-abbrev pub refusal_parts : Refusal → List ℕ
+abbrev pub refusal_parts : RefusalTold → List ℕ
 refusal_parts r = r.number ∷ place_bit r.place ∷ place_word r.place ∷ []
 
 abbrev pub refusal_widths : List ℕ
 refusal_widths = 8 ∷ 8 ∷ 16 ∷ []
 
 -- all three in one
-unfoldable pub number_for : Refusal → ℕ
+unfoldable pub number_for : RefusalTold → ℕ
 number_for r = join refusal_widths (refusal_parts r)
 
 abbrev pub in_number : {A : Type 0} → Told A → Outcome A

@@ -6,7 +6,7 @@ use Rattle.std.specs.Prelude.{◌≡◌, ℕ, ◌<◌, true, List, [], ◌∷◌
 use Rattle.words.specs.Numbers.{EMPTY, TYPE, BITS, SHORT, CUT, CLASS, TIME, INDICATOR, LAYOUT, FIELD}
 use Rattle.words.specs.Numbers.{STREAM, LIST, ROOM, VALUE, SIZE, FORMAT, COUNT, TABLE, PAGE, PAD, PLACE}
 use Rattle.words.specs.declared.Where.TheVariants.{Nowhere, Word}
-use Rattle.words.specs.declared.Refusal.{Refusal}
+use Rattle.words.specs.Told.{RefusalTold}
 use Rattle.words.specs.Tests.{when}
 use Rattle.words.specs.Word.{bits}
 use Rattle.words.specs.Outcome.{Outcome, refused, accepted, number_of}
@@ -55,7 +55,7 @@ use Rattle.vrt49.specs.Streams.{identity_values, count_values}
 pub data CallForC : Type 1 where
   answers : {H : Type 0} → (H → ℕ) → CallForC
   tells : {H A L : Type 0} → (H → Outcome A) → (A → L) → (H → L) → (H → Refusals) → List ℕ → CallForC
-  tells_where : {H A L : Type 0} → (H → Told A) → (A → L) → (H → L) → (H → RefusalsOf Refusal) → (H → List Refusal) → CallForC
+  tells_where : {H A L : Type 0} → (H → Told A) → (A → L) → (H → L) → (H → RefusalsOf RefusalTold) → (H → List RefusalTold) → CallForC
 
 -- "Prove that two outcomes meeting it are equal": the numbers, and the lent places afterwards
 abbrev pub OnceForC : CallForC → Type 0
@@ -95,7 +95,7 @@ abbrev pub PartsForC : CallForC → Type 0
 PartsForC (answers want) = Unit
 PartsForC (tells want values lent list numbers) = Unit
 PartsForC (tells_where {H} {A} {L} want values lent list given) =
-    (h : H) (r : ℕ) (after : L) (says : Refusal) → Tells values (in_number (want h)) (lent h) r after → want h ≡ refused says
+    (h : H) (r : ℕ) (after : L) (says : RefusalTold) → Tells values (in_number (want h)) (lent h) r after → want h ≡ refused says
     → (bits 7 0 r ≡ says.number) × (bits 15 8 r ≡ place_bit says.place) × (bits 31 16 r ≡ place_word says.place)
 
 -- 0 is the number of an accepted answer alone, and then the lent places hold its values
@@ -112,22 +112,22 @@ EachForC P [] = Unit
 EachForC P (c ∷ cs) = P c × EachForC P cs
 
 -- "Read: 1 to 10 as listed", each with its place, of words ws with the header w
-abbrev pub read_given : ℕ → List ℕ → List Refusal
+abbrev pub read_given : ℕ → List ℕ → List RefusalTold
 read_given w ws =
     refusal EMPTY (Word 0) ∷ refusal TYPE (Word 0) ∷ refusal BITS (Word 0) ∷ refusal SHORT (Word 0) ∷ refusal CUT (Word 0)
     ∷ refusal CLASS (Word (class_at w)) ∷ refusal TIME (Word (fraction_at w)) ∷ refusal INDICATOR (Word (body_at w)) ∷ refusal LAYOUT (Word (body_at w))
     ∷ refusal FIELD (place_further (body_at w) (broken_of (body_of w ws))) ∷ []
 
 -- of 49A, PAD is last
-abbrev pub survey_given : ℕ → List ℕ → List Refusal
+abbrev pub survey_given : ℕ → List ℕ → List RefusalTold
 survey_given w ws = read_given w ws ++ (refusal PAD (Word (when (classed w) (class_at w))) ∷ [])
 
 -- "Play: TABLE, read order, STREAM"
-abbrev pub play_given : ℕ → List ℕ → List Refusal
+abbrev pub play_given : ℕ → List ℕ → List RefusalTold
 play_given w ws = (refusal TABLE Nowhere ∷ []) ++ survey_given w ws ++ (refusal STREAM (Word (when (streamed w) 1)) ∷ [])
 
 -- document 02, C-16: "growing TABLE, PAGE for contents, reading refusals, ROOM"
-abbrev pub grow_given : ℕ → List ℕ → List Refusal
+abbrev pub grow_given : ℕ → List ℕ → List RefusalTold
 grow_given w ws = (refusal TABLE Nowhere ∷ refusal PAGE Nowhere ∷ []) ++ survey_given w ws ++ (refusal ROOM Nowhere ∷ [])
 
 -- ---- packets, trailers and the fields of a body

@@ -1,7 +1,6 @@
 -- Readings for the panel: the values of each kind in the order of include/vrt49.h.
 use Rattle.std.specs.Prelude.{ℕ, false, List, [], ◌∷◌, map, ℤ, pos, Float}
 use Rattle.std.specs.Float.{fin}
-use Rattle.words.specs.Outcome.{Outcome, refused, accepted}
 use Rattle.panel.specs.Readings.{Reading, frequency, level, gain, temperature, other, absent}
 use Rattle.vrt49.specs.declared.readings.Values.{Values}
 
@@ -23,11 +22,6 @@ numbers_of (gain x y) = levelled_of 3 x y
 numbers_of (temperature x) = levelled_of 4 x plus_zero
 numbers_of other = levelled_of 5 plus_zero plus_zero
 numbers_of absent = levelled_of 6 plus_zero plus_zero
-
--- those of an answer; of a refusal they are not looked at
-abbrev pub numbers_shown : Outcome Reading → Values
-numbers_shown (refused n) = levelled_of 0 plus_zero plus_zero
-numbers_shown (accepted r) = numbers_of r
 
 -- the places of a reading's numbers: the kind, the parts, the whole hertz, and the two levels
 abbrev pub places : Values → ℕ × ℕ × ℤ × List Float

@@ -2,7 +2,8 @@
 ghost use Rattle.std.specs.Prelude.{◌≡◌};
 ghost use Rattle.words.specs.Tests.{when};
 ghost use Rattle.words.specs.Word.{Within};
-ghost use Rattle.words.specs.Outcome.{measured};
+ghost use Rattle.words.specs.Listed.{list_number, on_paper};
+ghost use Rattle.words.specs.Told.{refusal};
 ghost use Rattle.vrt49.specs.Answers.{Tells, refusal_parts, refusal_widths, number_for, plain};
 
 // A flag as a word.
@@ -13,23 +14,23 @@ pub fn flag(set: bool) -> u32
 }
 
 // The number that is given of a refusal that is told where: its own in bits 7-0, the field's bit in 15-8, the word in 31-16.
-pub fn number_for(r: words::Refusal) -> u32
-    requires { Within refusal_widths (refusal_parts r) }
-    ensures { result ≡ number_for r }
+pub fn number_for(r: words::RefusedAt) -> u32
+    requires { Within refusal_widths (refusal_parts (refusal (list_number r.refusal) r.place)) }
+    ensures { result ≡ number_for (refusal (list_number r.refusal) r.place) }
 {
     let place = r.place;
     let word = words::inner::place_word(place) as u32;
-    r.number + 0x100 * (words::inner::place_bit(place) + 0x100 * word)
+    u32::from(r.refusal) + 0x100 * (words::inner::place_bit(place) + 0x100 * word)
 }
 
-// Tells a length, and gives 0; or gives the number of the refusal.
-pub fn give_length(r: words::Length, length: &mut usize) -> u32
-    ensures { Tells plain (measured r) length.old result length.new }
+// Tells a number of words or items, and gives 0; or gives the number of the refusal.
+pub fn give_value(r: Result<usize, words::Refusal>, value: &mut usize) -> u32
+    ensures { Tells plain (on_paper r) value.old result value.new }
 {
     match r {
-        words::Length::Refused(n) => n,
-        words::Length::Accepted(many) => {
-            *length = many;
+        Err(refusal) => u32::from(refusal),
+        Ok(many) => {
+            *value = many;
             0
         }
     }

@@ -11,7 +11,7 @@ ghost use Rattle.vrt49.specs.Indexes.{taken_values, landed_values, SmallTaken};
 pub fn vrt49_start_index(table: &[u32], index: &mut [u32], length: &mut usize) -> u32
     ensures { Tells (beside plain) (start_index_of table.now index.old) (index.old, length.old) result (index.new, length.new) }
 {
-    crate::answers::give_length(index::start_index(table, index), length)
+    crate::answers::give_value(index::start_index(table, index), length)
 }
 
 // The words of an entry: of a packet that was heard, and of one of no declared stream.
@@ -26,7 +26,13 @@ fn stranger_entry(s: index_grow::Stranger) -> [u32; 5]
     requires { SmallTaken (Undeclared s) }
     ensures { result ≡ taken_values (Undeclared s) }
 {
-    [words::STREAM, s.size as u32, s.place as u32, 0, 0]
+    [
+        u32::from(words::Refusal::Stream),
+        s.size as u32,
+        s.place as u32,
+        0,
+        0,
+    ]
 }
 
 // What growing says of a packet, as the words of an entry.
@@ -46,8 +52,8 @@ pub fn vrt49_grow(table: &mut [u32], words: &[u32], index: &mut [u32], answer: &
     ensures { Tells (beside taken_values) (in_number (grow_told table.old words.now index.old)) ((table.old, index.old), answer.old) result ((table.new, index.new), answer.new) }
 {
     match index_grow::grow(table, words, index) {
-        index_grow::Grown::Refused(r) => crate::answers::number_for(r),
-        index_grow::Grown::Accepted(taken) => {
+        Err(r) => crate::answers::number_for(r),
+        Ok(taken) => {
             *answer = taken_words(taken);
             0
         }
@@ -68,8 +74,8 @@ pub fn vrt49_jump(
     ensures { Tells (beside landed_values) (jump_of words.now first index.now n table.old) (table.old, (length.old, place.old)) result (table.new, (length.new, place.new)) }
 {
     match index_jump::jump(words, first, index, n, table) {
-        index_jump::Jumped::Refused(k) => k,
-        index_jump::Jumped::Accepted(l) => {
+        Err(refusal) => u32::from(refusal),
+        Ok(l) => {
             *length = l.length;
             *place = l.place;
             0

@@ -1,11 +1,14 @@
 // Packets, trailers and the fields of a body.
 ghost use Rattle.std.specs.Prelude.{◌≡◌, ◌+◌, ◌^◌, ◌≤◌, ◌<◌, length};
-ghost use Rattle.words.specs.Outcome.{accepted, checked, measured, Meets};
+ghost use Rattle.words.specs.Listed.{on_paper};
+ghost use Rattle.words.specs.Outcome.{accepted, Meets};
 ghost use Rattle.fields.specs.Layout.{field_count, found_of, context_of};
 ghost use Rattle.packet.specs.Told.{read_told, survey_told};
 ghost use Rattle.packet_trailer.specs.Trailer.{trailer_of, trailer_word_of};
 ghost use Rattle.vrt49.specs.Answers.{Tells, in_number, plain, beside};
 ghost use Rattle.vrt49.specs.Packets.{packet_values, survey_values, trailer_values, found_values, words_checks, write_words_of, write_survey_words_of};
+
+use words::Refusal;
 
 // What reading says of a packet, as words.
 fn packet_words(p: packet::Packet) -> [u32; 18]
@@ -41,8 +44,8 @@ pub fn vrt49_read(words: &[u32], answer: &mut [u32; 18]) -> u32
     ensures { Tells packet_values (in_number (read_told words.now)) answer.old result answer.new }
 {
     match packet::read(words) {
-        packet::Parsed::Refused(r) => crate::answers::number_for(r),
-        packet::Parsed::Accepted(p) => {
+        Err(r) => crate::answers::number_for(r),
+        Ok(p) => {
             *answer = packet_words(p);
             0
         }
@@ -69,8 +72,8 @@ pub fn vrt49_read_survey(words: &[u32], answer: &mut [u32; 22]) -> u32
     ensures { Tells survey_values (in_number (survey_told words.now)) answer.old result answer.new }
 {
     match packet::read_survey(words) {
-        packet::ParsedSurvey::Refused(r) => crate::answers::number_for(r),
-        packet::ParsedSurvey::Accepted(s) => {
+        Err(r) => crate::answers::number_for(r),
+        Ok(s) => {
             *answer = survey_words(s);
             0
         }
@@ -78,34 +81,31 @@ pub fn vrt49_read_survey(words: &[u32], answer: &mut [u32; 22]) -> u32
 }
 
 // TYPE and VALUE, of the words that give the parts of a packet.
-fn check_words(parts: &[u32]) -> words::Check
+fn check_words(parts: &[u32]) -> Result<(), Refusal>
     requires { 15 ≤ length parts.now }
-    ensures { checked result ≡ words_checks parts.now }
+    ensures { on_paper result ≡ words_checks parts.now }
 {
     if 5 < parts[0] {
-        return words::Check::Refused(words::TYPE);
+        return Err(Refusal::Kind);
     }
     if 1 < parts[1] {
-        return words::Check::Refused(words::VALUE);
+        return Err(Refusal::Value);
     }
     if 1 < parts[2] {
-        return words::Check::Refused(words::VALUE);
+        return Err(Refusal::Value);
     }
     if 1 < parts[3] {
-        return words::Check::Refused(words::VALUE);
+        return Err(Refusal::Value);
     }
-    words::Check::Fine
+    Ok(())
 }
 
 // Writes a packet whose parts are words.
-fn write_words(parts: &[u32], body: &[u32], out: &mut [u32], at: usize) -> words::Length
+fn write_words(parts: &[u32], body: &[u32], out: &mut [u32], at: usize) -> Result<usize, Refusal>
     requires { length parts.now ≡ 15 }
-    ensures { Meets measured (write_words_of parts.now body.now out.old at) out.old result out.new }
+    ensures { Meets on_paper (write_words_of parts.now body.now out.old at) out.old result out.new }
 {
-    let checked = check_words(parts);
-    if let words::Check::Refused(n) = checked {
-        return words::Length::Refused(n);
-    }
+    check_words(parts)?;
     packet_write::inner::write_parts(parts, body, out, at)
 }
 
@@ -119,18 +119,20 @@ pub fn vrt49_write(
 ) -> u32
     ensures { Tells (beside plain) (write_words_of parts.now body.now out.old at) (out.old, length.old) result (out.new, length.new) }
 {
-    crate::answers::give_length(write_words(parts, body, out, at), length)
+    crate::answers::give_value(write_words(parts, body, out, at), length)
 }
 
 // Writes a packet as 49A, whose parts are words, the pad count the last of them.
-fn write_survey_words(parts: &[u32], body: &[u32], out: &mut [u32], at: usize) -> words::Length
+fn write_survey_words(
+    parts: &[u32],
+    body: &[u32],
+    out: &mut [u32],
+    at: usize,
+) -> Result<usize, Refusal>
     requires { length parts.now ≡ 16 }
-    ensures { Meets measured (write_survey_words_of parts.now body.now out.old at) out.old result out.new }
+    ensures { Meets on_paper (write_survey_words_of parts.now body.now out.old at) out.old result out.new }
 {
-    let checked = check_words(parts);
-    if let words::Check::Refused(n) = checked {
-        return words::Length::Refused(n);
-    }
+    check_words(parts)?;
     packet_write::inner::write_survey_parts(parts, body, out, at)
 }
 
@@ -144,7 +146,7 @@ pub fn vrt49_write_survey(
 ) -> u32
     ensures { Tells (beside plain) (write_survey_words_of parts.now body.now out.old at) (out.old, length.old) result (out.new, length.new) }
 {
-    crate::answers::give_length(write_survey_words(parts, body, out, at), length)
+    crate::answers::give_value(write_survey_words(parts, body, out, at), length)
 }
 
 // A trailer word's parts; nothing is refused. Four values.
@@ -172,8 +174,8 @@ pub fn vrt49_trailer_word(
     ensures { Tells plain (trailer_word_of enables indicators e associated) word.old result word.new }
 {
     match packet_trailer::trailer_word(enables, indicators, e, associated) {
-        packet_trailer::TrailerWord::Refused(n) => n,
-        packet_trailer::TrailerWord::Accepted(w) => {
+        Err(r) => u32::from(r),
+        Ok(w) => {
             *word = w;
             0
         }
@@ -192,8 +194,8 @@ pub fn vrt49_check_body(body: &[u32]) -> u32
     ensures { Tells plain (context_of body.now) tt result tt }
 {
     match fields::check_body(body) {
-        words::Check::Fine => 0,
-        words::Check::Refused(n) => n,
+        Ok(()) => 0,
+        Err(refusal) => u32::from(refusal),
     }
 }
 
@@ -202,10 +204,10 @@ pub fn vrt49_find(body: &[u32], bit: u32, answer: &mut [usize; 3]) -> u32
     ensures { Tells found_values (accepted (found_of bit body.now)) answer.old result answer.new }
 {
     match fields::find(body, bit) {
-        fields::Found::At(at, n) => {
-            *answer = [1, at, n];
+        Some(found) => {
+            *answer = [1, found.at, found.words];
         }
-        fields::Found::Absent => {
+        None => {
             *answer = [0, 0, 0];
         }
     }

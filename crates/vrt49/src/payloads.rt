@@ -20,8 +20,8 @@ pub fn vrt49_unpack(
     ensures { Tells left (unpack_of first second n words.now (buffers items.old events.old channels.old)) (buffers items.old events.old channels.old) result (buffers items.new events.new channels.new) }
 {
     match payload_unpack::unpack(first, second, n, words, items, events, channels) {
-        words::Length::Refused(number) => number,
-        words::Length::Accepted(_) => 0,
+        Err(refusal) => u32::from(refusal),
+        Ok(_) => 0,
     }
 }
 
@@ -37,7 +37,7 @@ pub fn vrt49_pack(
 ) -> u32
     ensures { Tells (beside plain) (pack_of first second items.now events.now channels.now out.old) (out.old, length.old) result (out.new, length.new) }
 {
-    crate::answers::give_length(
+    crate::answers::give_value(
         payload_pack::pack(first, second, items, events, channels, out),
         length,
     )
@@ -47,7 +47,7 @@ pub fn vrt49_pack(
 pub fn vrt49_words_needed(first: u32, second: u32, n: usize, length: &mut usize) -> u32
     ensures { Tells plain (needed_of first second n) length.old result length.new }
 {
-    crate::answers::give_length(payload_format::words_needed(first, second, n), length)
+    crate::answers::give_value(payload_format::words_needed(first, second, n), length)
 }
 
 // The time, channel, component and repeat of an item among n; answers FORMAT, COUNT or VALUE. Four values.
@@ -61,8 +61,8 @@ pub fn vrt49_coordinates_of(
     ensures { Tells coordinates_values (coordinates_of first second n item) coordinates.old result coordinates.new }
 {
     match payload_order::coordinates_of(first, second, n, item) {
-        payload_order::Located::Refused(number) => number,
-        payload_order::Located::At(at) => {
+        Err(refusal) => u32::from(refusal),
+        Ok(at) => {
             *coordinates = [at.time, at.channel, at.component, at.repeat];
             0
         }
@@ -85,7 +85,7 @@ pub fn vrt49_item_at(
         component: coordinates[2],
         repeat: coordinates[3],
     };
-    crate::answers::give_length(payload_order::item_at(first, second, n, at), item)
+    crate::answers::give_value(payload_order::item_at(first, second, n, at), item)
 }
 
 // The two's complement value of an item; answers FORMAT or VALUE.
@@ -93,8 +93,8 @@ pub fn vrt49_signed(width: u32, item: u64, value: &mut i64) -> u32
     ensures { Tells plain (signed_of width item) value.old result value.new }
 {
     match payload_format::signed(width, item) {
-        payload_format::Shown::Refused(n) => n,
-        payload_format::Shown::Value(z) => {
+        Err(refusal) => u32::from(refusal),
+        Ok(z) => {
             *value = z;
             0
         }

@@ -2,11 +2,11 @@
 ghost use Rattle.std.specs.Prelude.{replicate, ◌≡◌, ◌++◌, ◌+◌, ◌-◌, ◌*◌, ◌<◌, take};
 ghost use Rattle.record.specs.Held.{slot_at};
 ghost use Rattle.table.specs.Layout.{Has, record_at};
-ghost use Rattle.panel.specs.Readings.{absent, reading_of, reading_paper};
+ghost use Rattle.panel.specs.Readings.{absent, reading_of, shown_in};
 ghost use Rattle.panel.specs.AllReadings.{record_readings, readings_of};
 ghost use Rattle.panel.specs.HeldWords.{held_words_of};
 ghost use Rattle.vrt49.specs.Answers.{Tells, plain, beside};
-ghost use Rattle.vrt49.specs.Readings.{levelled_of, numbers_shown, reading_values, readings_values};
+ghost use Rattle.vrt49.specs.Readings.{levelled_of, numbers_of, reading_values, readings_values};
 
 // A reading as numbers. A frequency has its parts and its whole hertz; a level and a temperature have `first`; a gain has its two stages, `first` and `second`. The
 // numbers that a kind of reading has not are zero.
@@ -32,9 +32,9 @@ fn levelled(kind: u32, first: f32, second: f32) -> Values
     }
 }
 
-// The numbers of a reading; those of a refusal are not looked at.
+// The numbers of a reading.
 fn numbers_of(dial: panel::FieldReading) -> Values
-    ensures { result ≡ numbers_shown (reading_paper dial) }
+    ensures { result ≡ numbers_of (shown_in dial) }
 {
     match dial {
         panel::FieldReading::Frequency { hertz, parts } => Values {
@@ -49,7 +49,6 @@ fn numbers_of(dial: panel::FieldReading) -> Values
         panel::FieldReading::Temperature(x) => levelled(4, x, 0.0),
         panel::FieldReading::Other => levelled(5, 0.0, 0.0),
         panel::FieldReading::Absent => levelled(6, 0.0, 0.0),
-        panel::FieldReading::Refused(_) => levelled(0, 0.0, 0.0),
     }
 }
 
@@ -129,17 +128,18 @@ pub fn vrt49_reading(
 ) -> u32
     ensures { Tells reading_values (reading_of table.now stream bit) (kind.old, parts.old, hertz.old, levels.old) result (kind.new, parts.new, hertz.new, levels.new) }
 {
-    let dial = panel::reading(table, stream, bit);
-    if let panel::FieldReading::Refused(n) = dial {
-        return n;
+    match panel::reading(table, stream, bit) {
+        Err(refusal) => u32::from(refusal),
+        Ok(dial) => {
+            let v = numbers_of(dial);
+            *kind = v.kind;
+            *parts = v.parts;
+            let whole = v.hertz;
+            *hertz = whole;
+            *levels = [v.first, v.second];
+            0
+        }
     }
-    let v = numbers_of(dial);
-    *kind = v.kind;
-    *parts = v.parts;
-    let whole = v.hertz;
-    *hertz = whole;
-    *levels = [v.first, v.second];
-    0
 }
 
 // What the panel shows of every field of a stream; answers TABLE or STREAM. Each number of a reading has a column, whose entry i is of bit 30 - i.
@@ -155,8 +155,8 @@ pub fn vrt49_readings(
     ensures { Tells readings_values (readings_of table.now stream) (kinds.old, parts.old, hertz.old, first.old, second.old) result (kinds.new, parts.new, hertz.new, first.new, second.new) }
 {
     match table::inner::check_stream(table, stream) {
-        words::Check::Refused(n) => n,
-        words::Check::Fine => {
+        Err(refusal) => u32::from(refusal),
+        Ok(_) => {
             columns_of(table, stream, kinds, parts, hertz, first, second);
             0
         }
@@ -173,5 +173,5 @@ pub fn vrt49_held_words(
 ) -> u32
     ensures { Tells (beside plain) (held_words_of table.now stream bit out.old) (out.old, length.old) result (out.new, length.new) }
 {
-    crate::answers::give_length(panel::held_words(table, stream, bit, out), length)
+    crate::answers::give_value(panel::held_words(table, stream, bit, out), length)
 }

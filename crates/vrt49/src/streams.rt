@@ -17,15 +17,11 @@ pub fn vrt49_identity(
     ensures { Tells identity_values (identity_of table.now stream) (identifier.old, choice.old, held.old) result (identifier.new, choice.new, held.new) }
 {
     match panel_streams::identity(table, stream) {
-        panel_streams::Identity::Refused(n) => n,
-        panel_streams::Identity::Declared {
-            identifier: i,
-            choice: c,
-            held: h,
-        } => {
-            *identifier = i;
-            *choice = c;
-            *held = h;
+        Err(refusal) => u32::from(refusal),
+        Ok(who) => {
+            *identifier = who.identifier;
+            *choice = who.choice;
+            *held = who.held;
             0
         }
     }
@@ -36,16 +32,12 @@ pub fn vrt49_counts(table: &[u32], stream: usize, kind: u32, answer: &mut [u32; 
     ensures { Tells count_values (type_counts_of table.now stream kind) answer.old result answer.new }
 {
     match panel_streams::counts(table, stream, kind) {
-        panel_streams::TypeCounts::Refused(n) => n,
-        panel_streams::TypeCounts::Started {
-            seen,
-            missing,
-            last,
-        } => {
-            *answer = [1, seen, missing, last];
+        Err(refusal) => u32::from(refusal),
+        Ok(Some(counts)) => {
+            *answer = [1, counts.seen, counts.missing, counts.last];
             0
         }
-        panel_streams::TypeCounts::NotStarted => {
+        Ok(None) => {
             *answer = [0, 0, 0, 0];
             0
         }
@@ -56,7 +48,7 @@ pub fn vrt49_counts(table: &[u32], stream: usize, kind: u32, answer: &mut [u32; 
 pub fn vrt49_own_table(table: &[u32], stream: usize, out: &mut [u32], length: &mut usize) -> u32
     ensures { Tells (beside plain) (own_table_of table.now stream out.old) (out.old, length.old) result (out.new, length.new) }
 {
-    crate::answers::give_length(panel_streams::own_table(table, stream, out), length)
+    crate::answers::give_value(panel_streams::own_table(table, stream, out), length)
 }
 
 // The bits of the fields for which two streams do not hold the same words; answers TABLE or STREAM, of either.
@@ -70,9 +62,9 @@ pub fn vrt49_changed(
     ensures { Tells plain (changed_of before.now before_stream after.now after_stream) fields.old result fields.new }
 {
     match panel_streams::changed(before, before_stream, after, after_stream) {
-        panel_streams::Changed::Refused(n) => n,
-        panel_streams::Changed::Fields(w) => {
-            *fields = w;
+        Err(refusal) => u32::from(refusal),
+        Ok(bits) => {
+            *fields = bits;
             0
         }
     }

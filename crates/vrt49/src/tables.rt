@@ -12,7 +12,7 @@ ghost use Rattle.vrt49.specs.Tables.{heard_values, reached_values};
 pub fn vrt49_start(ids: &[u32], choices: &[u32], table: &mut [u32], length: &mut usize) -> u32
     ensures { Tells (beside plain) (start_of ids.now choices.now table.old) (table.old, length.old) result (table.new, length.new) }
 {
-    crate::answers::give_length(table::start(ids, choices, table), length)
+    crate::answers::give_value(table::start(ids, choices, table), length)
 }
 
 // Whether a table is well made: 1 or 0.
@@ -36,8 +36,8 @@ pub fn vrt49_play(table: &mut [u32], words: &[u32], answer: &mut [u32; 4]) -> u3
     ensures { Tells (beside heard_values) (in_number (play_told table.old words.now)) (table.old, answer.old) result (table.new, answer.new) }
 {
     match play::play(table, words) {
-        play::Played::Refused(r) => crate::answers::number_for(r),
-        play::Played::Accepted(h) => {
+        Err(r) => crate::answers::number_for(r),
+        Ok(h) => {
             *answer = heard_words(h);
             0
         }
@@ -56,8 +56,8 @@ pub fn vrt49_play_run(
     ensures { Tells (beside reached_values) (run_of table.old words.now from answers.old) ((table.old, answers.old), (packets.old, next.old)) result ((table.new, answers.new), (packets.new, next.new)) }
 {
     match play::play_run(table, words, from, answers) {
-        play::Ran::Refused(n) => n,
-        play::Ran::Accepted(r) => {
+        Err(r) => u32::from(r),
+        Ok(r) => {
             *packets = r.packets;
             *next = r.next;
             0

@@ -1,10 +1,12 @@
 -- Why a walk ends. The idea: reading does not refuse with STREAM, so a step that goes on behind a refusal goes on behind STREAM, of a packet that was read;
 -- and a packet that was read has at least its header.
+use Rattle.std.specs.Prelude.{Ok}
 use Rattle.words.proofs.Kit.{◌≡◌, refl, sym, ap, ◌∙◌, Bool, true, List, ℕ, ◌≤◌, ◌<◌, arith, eqb-true, length, drop, get_or}
 use native.Mathlib.Nat.{add-zero}
 use lib.Seq.{get_or-drop}
 use Rattle.words.specs.Numbers.{STREAM}
-use Rattle.words.specs.Outcome.{Outcome, refused, accepted, measured, said_of, Meets}
+use Rattle.words.specs.Listed.{on_paper}
+use Rattle.words.specs.Outcome.{Outcome, refused, accepted, said_of, Meets}
 use Rattle.words.specs.Told.{told}
 use Rattle.words.proofs.MeetLaws.{meets_accepted}
 use Rattle.words.proofs.ToldLaws.{told_said}
@@ -13,8 +15,6 @@ use Rattle.packet.specs.Header.{size_of}
 use Rattle.packet.specs.Read.{read_by}
 use Rattle.packet.specs.Told.{where_of}
 use Rattle.packet.proofs.ReadLaws.{size_some, size_said, read_number}
-use Rattle.words.specs.declared.Length.{Length}
-use Rattle.words.specs.declared.Length.TheVariants.{Accepted}
 use Rattle.table.specs.Well.{well_made}
 use Rattle.table.specs.Start.{start_of}
 use Rattle.table.proofs.StartLaws.{start_well_made}
@@ -59,8 +59,7 @@ module _ (t ws left : List ℕ) (at : ℕ) (r : Happened) (w : well_made t ≡ t
 
 -- ---- a table that has started
 
-pub started_well : (ids choices t left : List ℕ) (r : Length) (n : ℕ) → Meets measured (start_of ids choices t) t r left → r ≡ Accepted n
-    → well_made left ≡ true
-started_well ids choices t left r n m e =
-    let k = meets_accepted m (ap measured e) in
+pub started_well : (ids choices t left : List ℕ) (n : ℕ) → Meets on_paper (start_of ids choices t) t (Ok n) left → well_made left ≡ true
+started_well ids choices t left n m =
+    let k = meets_accepted m refl in
     rw k.leaves (start_well_made ids choices t k.done k.wants).well

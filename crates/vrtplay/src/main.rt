@@ -6,10 +6,10 @@ ghost use Rattle.std.specs.Prelude.{◌≡◌, true, ◌*◌, ◌≤◌, length}
 ghost use Rattle.table.specs.Well.{well_made};
 
 use lines::inner::Line;
-use play::Played;
+use play::Heard;
 use std::io;
 use std::io::Write;
-use words::{Length, Refusal};
+use words::{Refusal, RefusedAt};
 
 // The words of bytes, four for each.
 fn words_of(ws: &mut [u32], bytes: &[u8])
@@ -22,19 +22,19 @@ fn words_of(ws: &mut [u32], bytes: &[u8])
 }
 
 // The line of a packet that was refused: the number, and the word of the packet that was disliked. On a table that is well made each refusal has one.
-fn show_refused(output: &mut impl Write, at: usize, r: Refusal) -> io::Result<()> {
+fn show_refused(output: &mut impl Write, at: usize, r: RefusedAt) -> io::Result<()> {
     let place = r.place;
     Line::new(output)
         .text(b"at ")?
         .number(at as u64)?
-        .named(b"refused", r.number as u64)?
+        .named(b"refused", u32::from(r.refusal) as u64)?
         .named(b"place", words::inner::place_word(place) as u64)?
         .text(b"\n")?
         .write()
 }
 
 // The line of a packet that was played.
-fn show_heard(output: &mut impl Write, at: usize, h: play::Heard) -> io::Result<()> {
+fn show_heard(output: &mut impl Write, at: usize, h: Heard) -> io::Result<()> {
     Line::new(output)
         .text(b"at ")?
         .number(at as u64)?
@@ -46,10 +46,14 @@ fn show_heard(output: &mut impl Write, at: usize, h: play::Heard) -> io::Result<
 }
 
 // The line of the packet at a place.
-fn show_played(output: &mut impl Write, at: usize, answer: Played) -> io::Result<()> {
+fn show_played(
+    output: &mut impl Write,
+    at: usize,
+    answer: Result<Heard, RefusedAt>,
+) -> io::Result<()> {
     match answer {
-        Played::Accepted(h) => show_heard(output, at, h),
-        Played::Refused(r) => show_refused(output, at, r),
+        Ok(h) => show_heard(output, at, h),
+        Err(r) => show_refused(output, at, r),
     }
 }
 
@@ -84,7 +88,7 @@ fn walk(output: &mut impl Write, table: &mut [u32], ws: &[u32], from: usize) -> 
 fn refuse_list(output: &mut impl Write) -> io::Result<usize> {
     Line::new(output)
         .text(b"at 0")?
-        .named(b"refused", words::LIST as u64)?
+        .named(b"refused", u32::from(Refusal::List) as u64)?
         .text(b"\n")?
         .write()?;
     Ok(0)
@@ -108,8 +112,8 @@ fn play_packets(
     let plain = [0u32; 32];
     let first = 1 + streams;
     match table::start(&ws[1..first], &plain[0..streams], table) {
-        Length::Accepted(_) => walk(output, table, ws, first),
-        Length::Refused(_) => refuse_list(output),
+        Ok(_) => walk(output, table, ws, first),
+        Err(_) => refuse_list(output),
     }
 }
 

@@ -6,10 +6,14 @@ pub mod Kit
 pub mod Cases
 -- lists of refusals
 pub mod RefusalLaws
+-- results on paper
+pub mod ListedLaws
 -- answers that are told where
 pub mod ToldLaws
 -- the promise of a call that is lent words: how it is met, and what it tells
 pub mod MeetLaws
+-- the refusal that `?` passes on
+pub mod PassedLaws
 -- two answers that meet one promise are equal
 pub mod Once
 -- a word and its fields

@@ -1,8 +1,10 @@
 -- The promise of a call that is lent words, `Meets`: how an answer meets it, and what an answer that meets it tells. The idea: what a call says tells what it
 -- does (`said_accepted`, `said_refused`).
+use Rattle.std.specs.Prelude.{Ok, Err}
 use Rattle.words.proofs.Kit.{◌≡◌, refl, sym, ap, ◌∙◌, ℕ, arith}
-use Rattle.words.specs.declared.Length.TheVariants.{Accepted, Refused}
-use Rattle.words.specs.Outcome.{Outcome, Reply, refused, accepted, measured, Done, said_of, left_of, Meets}
+use Rattle.words.specs.declared.refusals.Refusal.{Refusal}
+use Rattle.words.specs.Outcome.{Outcome, Reply, refused, accepted, Done, said_of, left_of, Meets}
+use Rattle.words.specs.Listed.{list_number, on_paper}
 
 module _ {R A L : Type 0} where
   pub said_refused : (want : Reply R (Done A L)) (n : R) → said_of want ≡ refused n → want ≡ refused n
@@ -26,11 +28,10 @@ meets_accepted {want = want} {before = before} {a = a} m e =
     let d = said_accepted want a (sym m.answer ∙ e) in
     record { done = d.0; wants = d.1; says = d.2; leaves = m.buffer ∙ ap (λ o. left_of o before) d.1 }
 
--- ---- a call that gives a length
-module _ {L : Type 0} {want : Outcome (Done ℕ L)} {before : L} where
-  pub meets_refused : {n : ℕ} → want ≡ refused n → Meets measured want before (Refused n) before
-  meets_refused e = record { answer = rw e; buffer = rw e }
+-- ---- a call that gives a result
+module _ {A L : Type 0} {want : Outcome (Done A L)} {before : L} where
+  pub meets_err : {r : Refusal} → want ≡ refused (list_number r) → Meets on_paper want before (Err r) before
+  meets_err e = record { answer = rw e; buffer = rw e }
 
-  pub meets_length : {n : ℕ} {left after : L} → want ≡ accepted (record { says = n; leaves = left }) → after ≡ left
-      → Meets measured want before (Accepted n) after
-  meets_length e f = record { answer = rw e; buffer = f ∙ rw e }
+  pub meets_ok : {a : A} {left after : L} → want ≡ accepted (record { says = a; leaves = left }) → after ≡ left → Meets on_paper want before (Ok a) after
+  meets_ok e f = record { answer = rw e; buffer = f ∙ rw e }

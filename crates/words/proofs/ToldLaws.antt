@@ -2,10 +2,9 @@
 use Rattle.words.proofs.Kit.{◌≡◌, refl, ap, ◌∙◌, Bool, true, false, [], ◌∷◌, ℕ, arith}
 use Rattle.words.specs.Tests.{pick}
 use Rattle.words.specs.declared.Where.{Where}
-use Rattle.words.specs.declared.Refusal.{Refusal}
 use Rattle.words.specs.Outcome.{Outcome, refused, accepted, onward, Done, said_of, left_of}
 use Rattle.words.specs.Refusals.{Refusals, first_given}
-use Rattle.words.specs.Told.{refusal, told, told_list}
+use Rattle.words.specs.Told.{RefusalTold, refusal, told, told_list}
 
 module _ (place : ℕ → Where) {A : Type 0} where
   -- what is accepted with places was accepted without them
@@ -17,7 +16,7 @@ module _ (place : ℕ → Where) {A : Type 0} where
   pub refused_told : (o : Outcome A) (n : ℕ) (at : Where) → refused n ≡ o → at ≡ place n → refused (refusal n at) ≡ told place o
   refused_told o n at e f = rw (← e, f)
 
-  pub told_refused : (o : Outcome A) (r : Refusal) → told place o ≡ refused r → (n : ℕ) × (o ≡ refused n) × (r ≡ refusal n (place n))
+  pub told_refused : (o : Outcome A) (r : RefusalTold) → told place o ≡ refused r → (n : ℕ) × (o ≡ refused n) × (r ≡ refusal n (place n))
   told_refused (refused n) r e = (n, refl, cc)
   told_refused (accepted a) r e = let z : ◌≡◌ {A = ℕ} 0 1 = cc in absurd (omega arith)
 

@@ -6,6 +6,8 @@ pub mod Numbers
 pub mod Tests
 -- an answer: refused or accepted with its values; what a call leaves in a lent buffer
 pub mod Outcome
+-- the refusals by their numbers, and a result as such an answer
+pub mod Listed
 -- a call's refusals in their order: the first that applies is given
 pub mod Refusals
 -- a refusal's place

@@ -1,5 +1,5 @@
--- The numbers of document 01's table 'Numbers given back', under their names there, and those that document 02 adds. src/numbers.rt has them for code, each
--- with its sentence.
+-- The numbers of document 01's table 'Numbers given back', under their names there, and those that document 02 adds. src/refusals.rt has them for
+-- code, each with its sentence.
 use Rattle.std.specs.Prelude.{ℕ}
 
 abbrev pub EMPTY : ℕ

@@ -1,9 +1,5 @@
 -- What a call answers, as document 01 has it: "A refusal returns its number alone and writes nothing".
 use Rattle.std.specs.Prelude.{◌≡◌, ℕ}
-use Rattle.words.specs.declared.Check.{Check}
-use Rattle.words.specs.declared.Check.TheVariants.{Fine, Refused}
-use Rattle.words.specs.declared.Length.{Length}
-use Rattle.words.specs.declared.Length.TheVariants as lengths
 
 -- an answer: refused, with what a refusal says, or accepted with its values
 pub data Reply (R A : Type 0) : Type 0 where
@@ -28,16 +24,6 @@ onward (accepted a) rest = rest a
 abbrev pub number_of : {A : Type 0} → Outcome A → ℕ
 number_of (refused n) = n
 number_of (accepted a) = 0
-
--- what checks find, as an answer without values
-abbrev pub checked : Check → Outcome Unit
-checked Fine = accepted tt
-checked (Refused n) = refused n
-
--- a length, as an answer
-abbrev pub measured : Length → Outcome ℕ
-measured (lengths.Accepted n) = accepted n
-measured (lengths.Refused n) = refused n
 
 -- an accepted call that was lent a buffer: what it says, and what it leaves in the buffer
 pub record Done (A L : Type 0) : Type 0 where

@@ -1,13 +1,10 @@
-// The refusal numbers, total reads, and the pieces of code that every crate above uses. The laws that the crates above cite are in proofs/.
+// The refusals, total reads, and the pieces of code that every crate above uses. The laws that the crates above cite are in proofs/.
 #![tactic(auto)]
 
 pub mod inner;
-mod numbers;
+mod refusals;
 
-pub use numbers::{
-    BITS, CLASS, COUNT, CUT, EMPTY, FIELD, FORMAT, INDICATOR, LAYOUT, LIST, PAD, PAGE, PLACE, ROOM,
-    SHORT, SIZE, STREAM, TABLE, TIME, TYPE, VALUE,
-};
+pub use refusals::{Refusal, Unlisted};
 
 // Where the word stands that a packet is refused for, in words from the packet's start: nowhere, at a word, or at the first word of a field, with the field's
 // bit.
@@ -18,23 +15,9 @@ pub enum Where {
     Field(usize, u32),
 }
 
-// What a reading that is refused says: the number of the refusal, and where.
+// What a reading that is refused says: why, and where.
 #[derive(Clone, Copy)]
-pub struct Refusal {
-    pub number: u32,
+pub struct RefusedAt {
+    pub refusal: Refusal,
     pub place: Where,
-}
-
-// What checks find: nothing to refuse, or the number of the refusal.
-#[derive(Clone, Copy)]
-pub enum Check {
-    Fine,
-    Refused(u32),
-}
-
-// What a call that gives a length answers: how many words or items, or the number of the refusal.
-#[derive(Clone, Copy)]
-pub enum Length {
-    Accepted(usize),
-    Refused(u32),
 }

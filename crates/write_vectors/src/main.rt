@@ -3,11 +3,10 @@
 // word, 4 and 5 as 1 and 2 of a survey packet.
 #![tactic(auto)]
 
-use packet::{Packet, Parsed, ParsedSurvey, Parts};
-use packet_trailer::TrailerWord;
+use packet::{Packet, Parts};
 use std::io;
 use std::io::{Read, Write};
-use words::Length;
+use words::Refusal;
 
 // The line of a buffer: its words where they are few, and else their sum.
 fn show_buffer(output: &mut impl Write, ws: &[u32]) -> io::Result<()> {
@@ -22,21 +21,21 @@ fn show_buffer(output: &mut impl Write, ws: &[u32]) -> io::Result<()> {
 }
 
 // The line of a refusal.
-fn show_refused(output: &mut impl Write, n: u32) -> io::Result<()> {
-    lines::inner::named(output, b"refused", n as u64)?;
+fn show_refused(output: &mut impl Write, refusal: Refusal) -> io::Result<()> {
+    lines::inner::named(output, b"refused", u32::from(refusal) as u64)?;
     lines::inner::text(output, b"\n")
 }
 
 // The line of what was answered; whether it was accepted.
-fn show_written(output: &mut impl Write, answer: Length) -> io::Result<bool> {
+fn show_written(output: &mut impl Write, answer: Result<usize, Refusal>) -> io::Result<bool> {
     match answer {
-        Length::Accepted(n) => {
+        Ok(n) => {
             lines::inner::named(output, b"wrote", n as u64)?;
             lines::inner::text(output, b"\n")?;
             Ok(true)
         }
-        Length::Refused(n) => {
-            show_refused(output, n)?;
+        Err(refusal) => {
+            show_refused(output, refusal)?;
             Ok(false)
         }
     }
@@ -94,7 +93,7 @@ fn write_by(
     body: &[u32],
     out: &mut [u32],
     at: usize,
-) -> Length {
+) -> Result<usize, Refusal> {
     if survey {
         return packet_write::write_survey(parts, pad, body, out, at);
     }
@@ -119,8 +118,7 @@ fn write(
 
 // Shows the packet at the front of the words, where it is accepted.
 fn show_plain(output: &mut impl Write, ws: &[u32]) -> io::Result<()> {
-    let answer = packet::read(ws);
-    if let Parsed::Accepted(p) = answer {
+    if let Ok(p) = packet::read(ws) {
         lines::inner::text(output, b" ")?;
         lines::inner::show_packet(output, p)?;
     }
@@ -129,8 +127,7 @@ fn show_plain(output: &mut impl Write, ws: &[u32]) -> io::Result<()> {
 
 // The same of a survey packet.
 fn show_survey(output: &mut impl Write, ws: &[u32]) -> io::Result<()> {
-    let answer = packet::read_survey(ws);
-    if let ParsedSurvey::Accepted(s) = answer {
+    if let Ok(s) = packet::read_survey(ws) {
         lines::inner::text(output, b" ")?;
         lines::inner::show_survey(output, s)?;
     }
@@ -207,26 +204,24 @@ fn write_again(
 }
 
 // The line of words that reading refuses.
-fn show_unread(output: &mut impl Write, r: words::Refusal) -> io::Result<()> {
+fn show_unread(output: &mut impl Write, r: words::RefusedAt) -> io::Result<()> {
     lines::inner::show_refusal(output, r)?;
     lines::inner::text(output, b"\n")
 }
 
 // Words that are read plainly, and written and read again.
 fn plain_again(output: &mut impl Write, ws: &[u32], out: &mut [u32], at: usize) -> io::Result<()> {
-    let answer = packet::read(ws);
-    match answer {
-        Parsed::Refused(r) => show_unread(output, r),
-        Parsed::Accepted(p) => write_again(output, false, p, 0, ws, out, at),
+    match packet::read(ws) {
+        Err(r) => show_unread(output, r),
+        Ok(p) => write_again(output, false, p, 0, ws, out, at),
     }
 }
 
 // The same as a survey packet.
 fn survey_again(output: &mut impl Write, ws: &[u32], out: &mut [u32], at: usize) -> io::Result<()> {
-    let answer = packet::read_survey(ws);
-    match answer {
-        ParsedSurvey::Refused(r) => show_unread(output, r),
-        ParsedSurvey::Accepted(s) => write_again(output, true, s.packet, s.pad, ws, out, at),
+    match packet::read_survey(ws) {
+        Err(r) => show_unread(output, r),
+        Ok(s) => write_again(output, true, s.packet, s.pad, ws, out, at),
     }
 }
 
@@ -261,10 +256,9 @@ fn trailer_case(input: &mut impl Read, output: &mut impl Write) -> io::Result<()
     let indicators = lines::inner::word(input)?;
     let e = lines::inner::word(input)?;
     let associated = lines::inner::word(input)?;
-    let answer = packet_trailer::trailer_word(enables, indicators, e, associated);
-    match answer {
-        TrailerWord::Accepted(w) => lines::inner::named(output, b"trailer", w as u64)?,
-        TrailerWord::Refused(n) => lines::inner::named(output, b"refused", n as u64)?,
+    match packet_trailer::trailer_word(enables, indicators, e, associated) {
+        Ok(w) => lines::inner::named(output, b"trailer", w as u64)?,
+        Err(r) => lines::inner::named(output, b"refused", u32::from(r) as u64)?,
     }
     lines::inner::text(output, b"\n")
 }
@@ -277,8 +271,7 @@ fn one_case(
     ws: &mut [u32],
     out: &mut [u32],
 ) -> io::Result<bool> {
-    let next = lines::inner::next_word(input)?;
-    let lines::inner::Input::Word(op) = next else {
+    let Some(op) = lines::inner::next_word(input)? else {
         return Ok(false);
     };
     lines::inner::number(output, k)?;

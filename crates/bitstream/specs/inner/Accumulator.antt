@@ -9,7 +9,7 @@ use Rattle.bitstream.specs.declared.inner.accumulator.Accumulator.{Accumulator}
 
 -- nothing is held, and u bits are counted
 abbrev pub empty_but : ℕ → Accumulator
-empty_but u = record { acc = 0; have = u; at = 0; value = 0 }
+empty_but u = record { acc = 0; have = u; at = 0 }
 
 -- ---- reading
 
@@ -35,12 +35,12 @@ pub record Refilled (c w : ℕ) (s : Accumulator) (ws : List ℕ) (r : Accumulat
   pub place : c * r.at + s.have ≡ c * s.at + r.have
   pub keeps : (u p : ℕ) → s.have < u + c → Ahead c ws u s p → Ahead c ws u r p
 
--- a field of f bits was taken, of which u bits at the right are left out; u bits too many are counted before and after
-pub record Took (c f u : ℕ) (s : Accumulator) (ws : List ℕ) (r : Accumulator) : Type 0 where
-  pub below : r.value < 2 ^ (f - u)
+-- a field of f bits was taken, of which u bits at the right are left out, and v is what it gave; u bits too many are counted before and after
+pub record Took (c f u : ℕ) (s : Accumulator) (ws : List ℕ) (v : ℕ) (r : Accumulator) : Type 0 where
+  pub below : v < 2 ^ (f - u)
   pub few : r.have < u + c
   pub place : c * r.at + s.have ≡ c * s.at + r.have + f
-  pub keeps : (p : ℕ) → s.have < u + c → Ahead c ws u s p → (r.value ≡ span c (stream_bits c ws) p f / 2 ^ u) × Ahead c ws u r (p + f)
+  pub keeps : (p : ℕ) → s.have < u + c → Ahead c ws u s p → (v ≡ span c (stream_bits c ws) p f / 2 ^ u) × Ahead c ws u r (p + f)
 
 -- a field of f bits can be taken
 pub record FieldTakeable (c f : ℕ) (s : Accumulator) (ws : List ℕ) : Type 0 where

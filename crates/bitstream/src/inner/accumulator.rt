@@ -5,25 +5,12 @@ ghost use Rattle.bitstream.specs.inner.Accumulator.{empty_but, Takeable, Refille
 
 use words::inner::low;
 
-// The last `have` bits of acc are held; `at` is the next word to read or to write. `value` is what was taken last, and 0 in writing.
+// The last `have` bits of acc are held; `at` is the next word to read or to write.
 #[derive(Clone, Copy)]
 pub struct Accumulator {
     pub acc: u64,
     pub have: usize,
     pub at: usize,
-    pub value: u64,
-}
-
-// Nothing is held yet; u bits are counted all the same.
-pub fn empty(u: usize) -> Accumulator
-    ensures { result ≡ empty_but u }
-{
-    Accumulator {
-        acc: 0,
-        have: u,
-        at: 0,
-        value: 0,
-    }
 }
 
 // The bits of a word that carry fields.
@@ -34,103 +21,97 @@ fn carried_at(c: usize, payload: &[u32], at: usize) -> u64
     payload[at] as u64 >> (32 - c)
 }
 
-// With at least w bits counted: as it is where they are, and else with the bits that the next word carries put behind.
-fn refill(c: usize, w: usize, s: Accumulator, payload: &[u32]) -> Accumulator
-    requires { Takeable c w s payload.now }
-    ensures { Refilled c w s payload.now result }
-{
-    let at = s.at;
-    if w <= s.have {
-        return s;
+impl Accumulator {
+    // Nothing is held yet; u bits are counted all the same.
+    pub fn empty(u: usize) -> Accumulator
+        ensures { result ≡ empty_but u }
+    {
+        Accumulator {
+            acc: 0,
+            have: u,
+            at: 0,
+        }
     }
-    Accumulator {
-        acc: (s.acc << c) + carried_at(c, payload, at),
-        have: s.have + c,
-        at: at + 1,
-        value: 0,
-    }
-}
 
-// The next field, of f bits at most 32, without its last u bits. The accumulator counts u bits more than it holds, before and after, so that one shift, by
-// all that it counts after the field, cuts off those u bits too.
-pub fn take(c: usize, f: usize, u: usize, s: Accumulator, payload: &[u32]) -> Accumulator
-    requires { Takeable c (f + u) s payload.now × (u < f) × (f ≤ 32) }
-    ensures { Took c f u s payload.now result }
-{
-    let h = refill(c, f + u, s, payload);
-    let left = h.have - f;
-    Accumulator {
-        acc: h.acc,
-        have: left,
-        at: h.at,
-        value: low(h.acc >> left, f - u),
+    // With at least w bits counted: as it is where they are, and else with the bits that the next word carries put behind.
+    fn refill(&mut self, c: usize, w: usize, payload: &[u32])
+        requires { Takeable c w self.old payload.now }
+        ensures { Refilled c w self.old payload.now self.new }
+    {
+        if self.have < w {
+            let at = self.at;
+            self.acc = (self.acc << c) + carried_at(c, payload, at);
+            self.have += c;
+            self.at = at + 1;
+        }
     }
-}
 
-// The next field, of f bits: one of more than 32 in two parts.
-pub fn take_field(c: usize, f: usize, s: Accumulator, payload: &[u32]) -> Accumulator
-    requires { FieldTakeable c f s payload.now }
-    ensures { Took c f 0 s payload.now result }
-{
-    if f <= 32 {
-        return take(c, f, 0, s, payload);
+    // The next field, of f bits at most 32, without its last u bits. The accumulator counts u bits more than it holds, before and after, so that one shift, by
+    // all that it counts after the field, cuts off those u bits too.
+    pub fn take(&mut self, c: usize, f: usize, u: usize, payload: &[u32]) -> u64
+        requires { Takeable c (f + u) self.old payload.now × (u < f) × (f ≤ 32) }
+        ensures { Took c f u self.old payload.now result self.new }
+    {
+        self.refill(c, f + u, payload);
+        let left = self.have - f;
+        self.have = left;
+        low(self.acc >> left, f - u)
     }
-    let high = take(c, f - 32, 0, s, payload);
-    let last = take(c, 32, 0, high, payload);
-    Accumulator {
-        acc: last.acc,
-        have: last.have,
-        at: last.at,
-        value: high.value * 0x1_0000_0000 + last.value,
-    }
-}
 
-// w bits more behind those that are held; where they fill a word, it is written.
-fn push(c: usize, w: usize, s: Accumulator, v: u64, out: &mut [u32]) -> Accumulator
-    requires { Pushable c w s v out.old }
-    ensures { Pushed c w s v out.old out.new result }
-{
-    let acc = (s.acc << w) + v;
-    let have = s.have + w;
-    let at = s.at;
-    if have < c {
-        return Accumulator {
-            acc,
-            have,
-            at,
-            value: 0,
-        };
+    // The next field, of f bits: one of more than 32 in two parts.
+    pub fn take_field(&mut self, c: usize, f: usize, payload: &[u32]) -> u64
+        requires { FieldTakeable c f self.old payload.now }
+        ensures { Took c f 0 self.old payload.now result self.new }
+    {
+        if f <= 32 {
+            return self.take(c, f, 0, payload);
+        }
+        let high = self.take(c, f - 32, 0, payload);
+        let last = self.take(c, 32, 0, payload);
+        high * 0x1_0000_0000 + last
     }
-    let left = have - c;
-    out[at] = (((acc >> left) << (32 - c)) % 0x1_0000_0000) as u32;
-    Accumulator {
-        acc,
-        have: left,
-        at: at + 1,
-        value: 0,
-    }
-}
 
-// One more field, of f bits: one of more than 32 in two parts.
-pub fn push_field(c: usize, f: usize, s: Accumulator, v: u64, out: &mut [u32]) -> Accumulator
-    requires { FieldPushable c f s v out.old }
-    ensures { Pushed c f s v out.old out.new result }
-{
-    if f <= 32 {
-        return push(c, f, s, v, out);
+    // w bits more behind those that are held; where they fill a word, it is written.
+    fn push(&mut self, c: usize, w: usize, v: u64, out: &mut [u32])
+        requires { Pushable c w self.old v out.old }
+        ensures { Pushed c w self.old v out.old out.new self.new }
+    {
+        let acc = (self.acc << w) + v;
+        let have = self.have + w;
+        self.acc = acc;
+        if have < c {
+            self.have = have;
+            return;
+        }
+        let left = have - c;
+        let at = self.at;
+        out[at] = (((acc >> left) << (32 - c)) % 0x1_0000_0000) as u32;
+        self.have = left;
+        self.at = at + 1;
     }
-    let h = push(c, f - 32, s, v >> 32, out);
-    push(c, 32, h, low(v, 32), out)
-}
 
-// The last bits, at the left of a word.
-pub fn finish(s: Accumulator, out: &mut [u32])
-    requires { (s.have < 32) × (0 < s.have → s.at < length out.old) }
-    ensures { Finished s out.old out.new }
-{
-    let at = s.at;
-    let have = s.have;
-    if 0 < have {
-        out[at] = ((s.acc << (32 - have)) % 0x1_0000_0000) as u32;
+    // One more field, of f bits: one of more than 32 in two parts.
+    pub fn push_field(&mut self, c: usize, f: usize, v: u64, out: &mut [u32])
+        requires { FieldPushable c f self.old v out.old }
+        ensures { Pushed c f self.old v out.old out.new self.new }
+    {
+        if f <= 32 {
+            self.push(c, f, v, out);
+            return;
+        }
+        self.push(c, f - 32, v >> 32, out);
+        self.push(c, 32, low(v, 32), out);
+    }
+
+    // The last bits, at the left of a word.
+    pub fn finish(self, out: &mut [u32])
+        requires { (self.have < 32) × (0 < self.have → self.at < length out.old) }
+        ensures { Finished self out.old out.new }
+    {
+        let at = self.at;
+        let have = self.have;
+        if 0 < have {
+            out[at] = ((self.acc << (32 - have)) % 0x1_0000_0000) as u32;
+        }
     }
 }

@@ -1,22 +1,28 @@
 // The fields that an indicator carries, one after the other.
-ghost use Rattle.std.specs.Prelude.{◌≡◌, ◌∷◌, ◌<◌};
+ghost use Rattle.std.specs.Prelude.{◌≡◌, ◌∷◌, ◌<◌, MatchOption, length};
+ghost use Rattle.std.specs.Int.Bits.{bit_and};
+ghost use Rattle.std.specs.Iterator.{at_most};
 ghost use Rattle.words.specs.SetBits.{bits_of};
 
-// A bit, and the bits after it.
+// The set bits of a number, the highest first, as long as one is left whose field has a rule.
 #[derive(Clone, Copy)]
-pub struct Next {
-    pub bit: u32,
-    pub rest: u32,
-}
+pub struct Fields(pub u32);
 
-// The next field: leading zeros name the highest of the bits that are left.
-pub fn next_field(rest: u32) -> Next
-    requires { 0 < rest }
-    ensures { (bits_of 32 rest ≡ result.bit ∷ bits_of 32 result.rest) × (result.bit < 32) × (result.rest < rest) }
-{
-    let bit = 31 - u32::leading_zeros(rest);
-    Next {
-        bit,
-        rest: rest - (1u32 << bit),
+impl Iterator for Fields {
+    type Item = u32;
+
+    ghost next_gives = { λ s r t. MatchOption r (bit_and s.0 0x21278300 ≡ 0) (λ b. (bits_of 32 s.0 ≡ b ∷ bits_of 32 t.0) × (b < 32) × (t.0 < s.0)) };
+
+    ghost remaining = { λ s. at_most (length (bits_of 32 s.0)) };
+
+    // Leading zeros name the highest of the bits that are left.
+    fn next(&mut self) -> Option<u32> {
+        let rest = self.0;
+        if rest & crate::inner::rules::RULED == 0 {
+            return None;
+        }
+        let bit = 31 - u32::leading_zeros(rest);
+        self.0 = rest - (1 << bit);
+        Some(bit)
     }
 }

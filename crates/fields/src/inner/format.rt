@@ -1,4 +1,5 @@
-// The first word of field 15, the payload format: its parts, and its rule.
+// The first word of field 15, the payload format: its parts, and its rule. Each part has a function of its own, with the name that document 01 gives it: one for all,
+// lent the places of two bits, would say no more than a quotient and a remainder do.
 ghost use Rattle.std.specs.Prelude.{◌≡◌};
 ghost use Rattle.fields.specs.Format.{real_complex, item_code, event_size, channel_size, packing_size, item_size, code_known, code_fits, format_ok};
 
@@ -45,37 +46,36 @@ pub fn item_size(first: u32) -> u32
 }
 
 // Whether an item code is one of document 01's.
+#[tactic(auto, unfolding(crate::specs::Format::code_known))]
 fn code_known(code: u32) -> bool
     ensures { result ≡ code_known code }
 {
-    if code <= 6 {
-        return true;
-    }
-    14 <= code && code <= 22
+    matches!(code, 0..=6 | 14..=22)
 }
 
 // Whether an item code that fixes its items' size has items of that size.
+#[tactic(auto, unfolding(crate::specs::Format::code_fits))]
 fn code_fits(code: u32, item: u32) -> bool
     ensures { result ≡ code_fits code item }
 {
-    if code == 14 {
-        return item == 32;
+    match code {
+        14 => item == 32,
+        15 => item == 64,
+        _ => true,
     }
-    if code == 15 {
-        return item == 64;
-    }
-    true
 }
 
 // Whether the first word of a format obeys the rule of field 15.
+#[tactic(auto, unfolding(crate::specs::Format::format_ok))]
 pub fn format_ok(first: u32) -> bool
     ensures { result ≡ format_ok first }
 {
     let code = item_code(first);
     let item = item_size(first);
     let fits = item + event_size(first) + channel_size(first) <= packing_size(first);
-    let item_ok = words::inner::both_of(code_fits(code, item), fits);
-    let code_ok = words::inner::both_of(code_known(code), item_ok);
-    let kind_ok = words::inner::both_of(real_complex(first) != 3, code_ok);
-    words::inner::both_of(first / 0x1000 % 16 == 0, kind_ok)
+    first / 0x1000 % 16 == 0
+        && real_complex(first) != 3
+        && code_known(code)
+        && code_fits(code, item)
+        && fits
 }

@@ -1,21 +1,26 @@
 // Where the fields of a body end, and whether they obey their rules.
-ghost use Rattle.std.specs.Prelude.{◌≡◌, true, false, suc, ◌^◌, ◌+◌, ◌≤◌, ◌<◌, drop};
-ghost use Rattle.words.specs.Tests.{pick, when};
+ghost use Rattle.std.specs.Prelude.{◌≡◌, true, false, suc, ◌^◌, ◌+◌, ◌≤◌, ◌<◌, drop, IfSome, IfNone};
+ghost use Rattle.words.specs.Tests.{when};
 ghost use Rattle.words.specs.Word.{has};
 ghost use Rattle.words.specs.SetBits.{bits_of, above};
-ghost use Rattle.fields.specs.Sizes.{sizes_of, ascii_words, list_words};
+ghost use Rattle.fields.specs.Sizes.{sizes_of, words_of};
 ghost use Rattle.fields.specs.Rules.{rule_of};
 ghost use Rattle.fields.specs.Layout.{span_of, obeyed};
 
-// The words that field 9 takes at a place of a body: none where the bits do not have it.
-fn ascii_taken(bits: u32, body: &[u32], at: usize) -> usize
-    requires { at < 2 ^ 40 }
-    ensures { (result ≡ when (has bits 9) (ascii_words (drop at body.now))) × (result ≤ 2 ^ 33) }
+use crate::inner::carried::Fields;
+use crate::inner::rules::{first_ok, has_rule, rule_of};
+use crate::inner::sizes::{field_size, fixed_words, words_from, words_of};
+
+// The words that the field of a bit, the first of some words, takes: none where the bits do not have it.
+fn taken(bits: u32, bit: u32, ws: &[u32]) -> usize
+    requires { bit < 31 }
+    ensures { (result ≡ when (has bits bit) (words_of bit ws.now)) × (result ≤ 2 ^ 33) }
 {
-    if (bits >> 9) % 2 == 1 {
-        return crate::inner::sizes::ascii_words(body, at);
+    if (bits >> bit) % 2 == 1 {
+        words_of(bit, ws)
+    } else {
+        0
     }
-    0
 }
 
 // The place behind the fields of some bits from 9 up, which stand in a body from word 1 on: those of fixed size by counts of ones, and field 9 by what it says.
@@ -23,19 +28,8 @@ pub fn behind(bits: u32, body: &[u32]) -> usize
     requires { has bits 8 ≡ false }
     ensures { result ≡ 1 + span_of (bits_of 31 bits) (drop 1 body.now) }
 {
-    let fixed = 1 + crate::inner::sizes::fixed_words(bits);
-    fixed + ascii_taken(bits, body, fixed)
-}
-
-// The words that field 8 takes at a place of a body: none where the bits do not have it.
-fn lists_taken(bits: u32, body: &[u32], at: usize) -> usize
-    requires { at < 2 ^ 40 }
-    ensures { (result ≡ when (has bits 8) (list_words (drop at body.now))) × (result ≤ 2 ^ 33) }
-{
-    if (bits >> 8) % 2 == 1 {
-        return crate::inner::sizes::list_words_at(body, at);
-    }
-    0
+    let fixed = 1 + fixed_words(bits);
+    fixed + taken(bits, 9, words_from(body, fixed))
 }
 
 // The place past the fields of some bits of an indicator, which stand in a body from word 1 on: those of fixed size by counts of ones, and behind them fields 9
@@ -43,85 +37,53 @@ fn lists_taken(bits: u32, body: &[u32], at: usize) -> usize
 pub fn end_of(bits: u32, body: &[u32]) -> usize
     ensures { result ≡ 1 + span_of (bits_of 31 bits) (drop 1 body.now) }
 {
-    let fixed = 1 + crate::inner::sizes::fixed_words(bits);
+    let fixed = 1 + fixed_words(bits);
     if bits / 256 % 4 == 0 {
         return fixed;
     }
-    let past = fixed + ascii_taken(bits, body, fixed);
-    past + lists_taken(bits, body, past)
+    let past = fixed + taken(bits, 9, words_from(body, fixed));
+    past + taken(bits, 8, words_from(body, past))
 }
 
-// The place past the fields that a walk has passed, and whether each obeys its rule.
-#[derive(Clone, Copy)]
-pub struct Walked {
-    pub at: usize,
-    pub kept: bool,
-}
-
-// Whether the field of a bit above 17, if it is carried, obeys its rule where it stands in a body: such a rule is a limit of the field's first word.
-fn limit_kept(carried: bool, bit: u32, body: &[u32], at: usize) -> bool
-    requires { (17 < bit) × (bit < 31) × (at < 2 ^ 40) }
-    ensures { result ≡ pick carried (rule_of bit (drop at body.now)) true }
+// Whether the field of a bit, the first of some words, obeys its rule, if it has one. It is put in line with both its callers, and so is `rule_of`: else a body
+// that is accepted, with fields below bit 18, is checked in up to a third more instructions.
+#[inline(always)]
+pub fn field_kept(bit: u32, ws: &[u32]) -> bool
+    requires { bit < 32 }
+    ensures { result ≡ rule_of bit ws.now }
 {
-    if !carried {
-        return true;
-    }
-    if crate::inner::rules::has_rule(bit) {
-        return crate::inner::rules::first_ok(bit, words::inner::word_at(body, at));
-    }
-    true
+    !has_rule(bit) || rule_of(bit, ws)
 }
 
-// Walks the fields of the bits from `first` down to the one above `past`, which stand in a body from a place on.
-fn walk(bits: u32, body: &[u32], at: usize, first: u32, past: u32) -> Walked
+// The place past the fields of the bits from `first` down to the one above `past`, which stand in a body from a place on, if each obeys its rule.
+fn walk(bits: u32, body: &[u32], at: usize, first: u32, past: u32) -> Option<usize>
     requires { (17 ≤ past) × (past ≤ first) × (first ≤ 30) × (at < 2 ^ 20) }
-    ensures kept { result.kept ≡ obeyed (above past (bits_of (suc first) bits)) (drop at body.now) }
-    ensures place { (result.kept ≡ true → result.at ≡ at + sizes_of (above past (bits_of (suc first) bits))) × (result.at ≤ at + 74) }
+    ensures kept { IfSome result (λ p. (obeyed (above past (bits_of (suc first) bits)) (drop at body.now) ≡ true) × (p ≡ at + sizes_of (above past (bits_of (suc first) bits))) × (p ≤ at + 74)) }
+    ensures broken { IfNone result (obeyed (above past (bits_of (suc first) bits)) (drop at body.now) ≡ false) }
 {
-    let mut bit = first;
     let mut place = at;
-    while past < bit {
-        let carried = (bits >> bit) % 2 == 1;
-        if !limit_kept(carried, bit, body, place) {
-            return Walked {
-                at: place,
-                kept: false,
-            };
+    for bit in (past + 1..first + 1).rev() {
+        if (bits >> bit) % 2 == 1 {
+            if !first_ok(bit, words::inner::word_at(body, place)) {
+                return None;
+            }
+            place += field_size(bit);
         }
-        place += words::inner::when_so(carried, crate::inner::sizes::field_size(bit));
-        bit -= 1;
     }
-    Walked {
-        at: place,
-        kept: true,
-    }
+    Some(place)
 }
 
-// Whether the field of a bit that stands at a place of a body obeys its rule, if it has one.
-fn field_kept(bit: u32, body: &[u32], at: usize) -> bool
-    requires { (bit < 32) × (at < 2 ^ 40) }
-    ensures { result ≡ rule_of bit (drop at body.now) }
+// Whether the fields of some bits below 18, the first of some words, obey their rules: a walk, as long as a bit is left that has one.
+fn low_kept(bits: u32, ws: &[u32]) -> bool
+    requires { bits < 2 ^ 18 }
+    ensures { result ≡ obeyed (bits_of 18 bits) ws.now }
 {
-    if crate::inner::rules::has_rule(bit) {
-        return crate::inner::rules::rule_at(bit, body, at);
-    }
-    true
-}
-
-// Whether the fields of some bits below 18, which stand in a body from a place on, obey their rules: a walk, as long as a bit is left that has one.
-fn low_kept(bits: u32, body: &[u32], from: usize) -> bool
-    requires { (bits < 2 ^ 18) × (from < 2 ^ 20) }
-    ensures { result ≡ obeyed (bits_of 18 bits) (drop from body.now) }
-{
-    let mut rest = bits;
-    let mut at = from;
-    while rest & crate::inner::rules::RULED != 0 {
-        let f = crate::inner::carried::next_field(rest);
-        if !field_kept(f.bit, body, at) {
+    let mut rest = ws;
+    for bit in Fields(bits) {
+        if !field_kept(bit, rest) {
             return false;
         }
-        at += crate::inner::sizes::words_at(f.bit, body, at);
-        rest = f.rest;
+        rest = words_from(rest, words_of(bit, rest));
     }
     true
 }
@@ -131,13 +93,11 @@ fn low_kept(bits: u32, body: &[u32], from: usize) -> bool
 pub fn rules_kept(bits: u32, body: &[u32]) -> bool
     ensures { result ≡ obeyed (bits_of 31 bits) (drop 1 body.now) }
 {
-    let high = walk(bits, body, 1, 30, 21);
-    if !high.kept {
+    let Some(middle) = walk(bits, body, 1, 30, 21) else {
         return false;
-    }
-    let middle = walk(bits, body, high.at, 21, 17);
-    if !middle.kept {
+    };
+    let Some(low) = walk(bits, body, middle, 21, 17) else {
         return false;
-    }
-    low_kept(bits % 0x4_0000, body, middle.at)
+    };
+    low_kept(bits % 0x4_0000, words_from(body, low))
 }

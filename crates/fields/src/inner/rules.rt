@@ -1,5 +1,5 @@
-// The field rules. A rule looks at the first two words of its field at most, which are handed on as numbers: a slice that is lent in a loop is kept in memory.
-ghost use Rattle.std.specs.Prelude.{◌≡◌, [], ◌∷◌, ◌^◌, ◌<◌, drop};
+// The field rules. A rule looks at the first two words of its field at most.
+ghost use Rattle.std.specs.Prelude.{◌≡◌, [], ◌∷◌, ◌^◌, ◌<◌};
 ghost use Rattle.fields.specs.Rules.{state_rule, lists_rule, rule_of};
 ghost use Rattle.fields.specs.inner.Limits.{ruled, limit_of, first_ok, device_second, more_ok};
 
@@ -16,41 +16,28 @@ pub fn has_rule(bit: u32) -> bool
 
 // What the first word of a field is below: bandwidth (29) and sample rate (21) are not negative, level (24) and temperature (18) have a zero upper half,
 // and device (17) and field 9 have zero in 31-24. Any word is below 2^32.
+#[tactic(auto, unfolding(crate::specs::inner::Limits::limit_of))]
 fn limit_of(bit: u32) -> u64
     ensures { result ≡ limit_of bit }
 {
-    if bit == 29 {
-        return 0x8000_0000;
+    match bit {
+        29 | 21 => 0x8000_0000,
+        24 | 18 => 0x1_0000,
+        17 | 9 => 0x100_0000,
+        _ => 0x1_0000_0000,
     }
-    if bit == 21 {
-        return 0x8000_0000;
-    }
-    if bit == 24 {
-        return 0x1_0000;
-    }
-    if bit == 18 {
-        return 0x1_0000;
-    }
-    if bit == 17 {
-        return 0x100_0000;
-    }
-    if bit == 9 {
-        return 0x100_0000;
-    }
-    0x1_0000_0000
 }
 
 // Whether the first word of the field of a bit is below its limit. No limit is below 2^16.
+#[tactic(auto, unfolding(crate::specs::inner::Limits::first_ok))]
 pub fn first_ok(bit: u32, word: u32) -> bool
     ensures { (result ≡ first_ok bit word) × (word < 2 ^ 32) }
 {
-    if word < 0x1_0000 {
-        return true;
-    }
-    (word as u64) < limit_of(bit)
+    word < 0x1_0000 || (word as u64) < limit_of(bit)
 }
 
 // Device (17), by its second word.
+#[tactic(auto, unfolding(crate::specs::inner::Limits::device_second))]
 fn device_ok(v: u32) -> bool
     ensures { result ≡ device_second v }
 {
@@ -58,46 +45,40 @@ fn device_ok(v: u32) -> bool
 }
 
 // State (16), by its word.
+#[tactic(auto, unfolding(crate::specs::Rules::state_rule))]
 fn state_ok(u: u32) -> bool
     ensures { result ≡ state_rule (u ∷ []) }
 {
-    words::inner::both_of(u / 0x10_0000 % 16 == 0, u / 256 % 16 == 0)
+    u / 0x10_0000 % 16 == 0 && u / 256 % 16 == 0
 }
 
 // Field 8, by its first word.
+#[tactic(auto, unfolding(crate::specs::Rules::lists_rule))]
 fn lists_ok(u: u32) -> bool
     ensures { result ≡ lists_rule (u ∷ []) }
 {
-    words::inner::both_of(u / 0x200_0000 % 128 == 0, u / 512 % 128 == 0)
+    u / 0x200_0000 % 128 == 0 && u / 512 % 128 == 0
 }
 
 // What the rule of a field says of its first two words beside the limit of the first; nothing for a bit above 17.
+#[tactic(auto, unfolding(crate::specs::inner::Limits::more_ok))]
 pub fn more_ok(bit: u32, u: u32, v: u32) -> bool
     ensures { result ≡ more_ok bit u v }
 {
-    if bit == 17 {
-        return device_ok(v);
+    match bit {
+        17 => device_ok(v),
+        16 => state_ok(u),
+        15 => crate::inner::format::format_ok(u),
+        8 => lists_ok(u),
+        _ => true,
     }
-    if bit == 16 {
-        return state_ok(u);
-    }
-    if bit == 15 {
-        return crate::inner::format::format_ok(u);
-    }
-    if bit == 8 {
-        return lists_ok(u);
-    }
-    true
 }
 
-// Whether the field of a bit that stands at a place of a body obeys its rule.
-pub fn rule_at(bit: u32, body: &[u32], at: usize) -> bool
-    requires { at < 2 ^ 40 }
-    ensures { result ≡ rule_of bit (drop at body.now) }
+// Whether the field of a bit, the first of some words, obeys its rule.
+#[inline(always)]
+pub fn rule_of(bit: u32, ws: &[u32]) -> bool
+    ensures { result ≡ rule_of bit ws.now }
 {
-    let word = words::inner::word_at(body, at);
-    if first_ok(bit, word) {
-        return more_ok(bit, word, words::inner::word_at(body, at + 1));
-    }
-    false
+    let first = words::inner::word_at(ws, 0);
+    first_ok(bit, first) && more_ok(bit, first, words::inner::word_at(ws, 1))
 }

@@ -1,4 +1,5 @@
-// How many words the fields of indicator bits take: those of fixed size by the groups of document 01, and the two that say their own size.
+// How many words the fields of indicator bits take: those of fixed size by the groups of document 01, and the two that say their own size. That a bit is below 31 is
+// asked by each: a type for it would have to be made in every turn of the loops that count bits down, in the crates above.
 ghost use Rattle.std.specs.Prelude.{◌≡◌, [], ◌∷◌, ◌+◌, ◌^◌, ◌≤◌, ◌<◌, length, drop};
 ghost use Rattle.std.specs.Int.Bits.{bit_and};
 ghost use Rattle.words.specs.SetBits.{bits_of};
@@ -46,7 +47,8 @@ pub fn fixed_words(bits: u32) -> usize
     high + in_group(bits, TEN) + 11 * in_group(bits, ELEVEN) + 13 * in_group(bits, THIRTEEN)
 }
 
-// The words of a field of fixed size, by the group that its bit is in; 0 for a bit in none. From 15 up a field has 1 word or 2.
+// The words of a field of fixed size, by the group that its bit is in; 0 for a bit in none. From 15 up a field has 1 word or 2. By shifts: a match on the bit would be
+// a table of sizes in memory.
 pub fn field_size(bit: u32) -> usize
     requires { bit < 31 }
     ensures { (result ≡ field_size bit) × (result ≤ 13) }
@@ -63,12 +65,19 @@ pub fn field_size(bit: u32) -> usize
     ((TEN >> bit) % 2) as usize
 }
 
-// The words of field 9 at a place of a body.
-pub fn ascii_words(body: &[u32], at: usize) -> usize
-    requires { at < 2 ^ 40 }
-    ensures { (result ≡ ascii_words (drop at body.now)) × (result ≤ 2 ^ 33) }
+// The words of a body from a place on: none where the place is past its end.
+pub fn words_from(body: &[u32], at: usize) -> &[u32]
+    ensures { result.now ≡ drop at body.now }
 {
-    2 + words::inner::word_at(body, at + 1) as usize
+    &body[std::cmp::min(at, body.len())..]
+}
+
+// The words of field 9, the first of some words.
+#[tactic(auto, unfolding(crate::specs::Sizes::ascii_words))]
+fn ascii_words(ws: &[u32]) -> usize
+    ensures { (result ≡ ascii_words ws.now) × (result ≤ 2 ^ 33) }
+{
+    2 + words::inner::word_at(ws, 1) as usize
 }
 
 // The words of field 8, by its two first words.
@@ -78,31 +87,23 @@ fn list_words(a: u32, b: u32) -> u32
     2 + a / 0x1_0000 % 512 + a % 512 + b / 0x1_0000 % 0x1_0000 + b % 0x8000 * (1 + b / 0x8000 % 2)
 }
 
-// The words of field 8 at a place of a body.
-pub fn list_words_at(body: &[u32], at: usize) -> usize
-    requires { at < 2 ^ 40 }
-    ensures { (result ≡ list_words (drop at body.now)) × (result ≤ 2 ^ 33) }
+// The words of field 8, the first of some words.
+#[tactic(auto, unfolding(crate::specs::Sizes::list_words))]
+fn list_words_of(ws: &[u32]) -> usize
+    ensures { (result ≡ list_words ws.now) × (result ≤ 2 ^ 33) }
 {
-    list_words(
-        words::inner::word_at(body, at),
-        words::inner::word_at(body, at + 1),
-    ) as usize
+    list_words(words::inner::word_at(ws, 0), words::inner::word_at(ws, 1)) as usize
 }
 
-// The words of the field of a bit that stands at a place of a body.
-pub fn words_at(bit: u32, body: &[u32], at: usize) -> usize
-    requires { (bit < 31) × (at < 2 ^ 40) }
-    ensures { (result ≡ words_of bit (drop at body.now)) × (result ≤ 2 ^ 33) }
+// The words of the field of a bit, the first of some words.
+#[tactic(auto, unfolding(crate::specs::Sizes::words_of))]
+pub fn words_of(bit: u32, ws: &[u32]) -> usize
+    requires { bit < 31 }
+    ensures { (result ≡ words_of bit ws.now) × (result ≤ 2 ^ 33) }
 {
-    let fixed = field_size(bit);
-    if fixed != 0 {
-        return fixed;
+    match bit {
+        9 => ascii_words(ws),
+        8 => list_words_of(ws),
+        _ => field_size(bit),
     }
-    if bit == 9 {
-        return ascii_words(body, at);
-    }
-    if bit == 8 {
-        return list_words_at(body, at);
-    }
-    0
 }

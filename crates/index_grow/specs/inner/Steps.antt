@@ -1,8 +1,9 @@
 -- What the functions inside promise of a packet that is taken in, on a table and an index that are known to be well made.
-use Rattle.std.specs.Prelude.{◌≡◌, ℕ, ◌+◌, ◌*◌, ◌^◌, Bool, true, false, not, List, ltb, leb, length, take}
+use Rattle.std.specs.Prelude.{◌≡◌, ℕ, ◌+◌, ◌*◌, ◌^◌, Bool, true, false, not, List, ltb, leb, length, take, Result, Ok, Err}
+use Rattle.words.specs.declared.RefusedAt.{RefusedAt}
 use Rattle.words.specs.Tests.{pick, both}
 use Rattle.words.specs.Outcome.{refused, accepted, said_of, left_of}
-use Rattle.words.specs.Told.{Told}
+use Rattle.words.specs.Told.{Told, told_paper}
 use Rattle.words.specs.Part.{put}
 use Rattle.table.specs.Layout.{streams_of, layout_words}
 use Rattle.table.specs.Well.{well_made}
@@ -11,9 +12,7 @@ use Rattle.index.specs.Layout.{most_entries, entries_in, place_reached, pages_en
 use Rattle.index.specs.Good.{index_good}
 use Rattle.index_grow.specs.declared.Taken.{Taken}
 use Rattle.index_grow.specs.declared.Taken.TheVariants.{Declared}
-use Rattle.index_grow.specs.declared.Grown.{Grown}
-use Rattle.index_grow.specs.declared.Grown.TheVariants.{Accepted, Refused}
-use Rattle.index_grow.specs.Grow.{taken_as, packets_then, entry_lacks, table_taken, grow_told, grown_paper}
+use Rattle.index_grow.specs.Grow.{taken_as, packets_then, entry_lacks, table_taken, grow_told}
 
 -- both are well made
 pub record Ready (t ix : List ℕ) : Type 0 where
@@ -22,8 +21,8 @@ pub record Ready (t ix : List ℕ) : Type 0 where
 
 -- the answer r, and the table and the index afterwards. Where a page does not fit behind a packet that was played, the table is not as it was: the one that is
 -- played on there is a copy
-pub record GrownOn (t ws ix : List ℕ) (r : Grown) (left leftIndex : List ℕ) : Type 0 where
-  pub answer : grown_paper r ≡ said_of (grow_told t ws ix)
+pub record GrownOn (t ws ix : List ℕ) (r : Result Taken RefusedAt) (left leftIndex : List ℕ) : Type 0 where
+  pub answer : told_paper r ≡ said_of (grow_told t ws ix)
   pub table : left ≡ table_taken t ws
   pub index : leftIndex ≡ (left_of (grow_told t ws ix) (t, ix)).1
 
@@ -60,6 +59,6 @@ abbrev pub layout_in : List ℕ → List ℕ
 layout_in t = take (layout_words (streams_of t)) t
 
 -- a table that a copy is given back to where the packet was taken in
-abbrev pub given_back : Grown → List ℕ → List ℕ → List ℕ
-given_back (Refused r) copy t = t
-given_back (Accepted x) copy t = put 0 (length copy) copy t
+abbrev pub given_back : Result Taken RefusedAt → List ℕ → List ℕ → List ℕ
+given_back (Err r) copy t = t
+given_back (Ok x) copy t = put 0 (length copy) copy t

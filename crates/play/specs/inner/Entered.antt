@@ -3,6 +3,7 @@ use Rattle.std.specs.Prelude.{◌≡◌, ℕ, Bool, List, [], ◌∷◌, eqb, le
 use Rattle.words.specs.declared.Where.TheVariants.{Word, Field}
 use Rattle.words.specs.Numbers.{FIELD, STREAM}
 use Rattle.words.specs.Tests.{pick, when}
+use Rattle.words.specs.Listed.{IsListed}
 use Rattle.words.specs.Outcome.{Outcome, refused, accepted}
 use Rattle.words.specs.Told.{Told, refusal, place_word, place_bit}
 use Rattle.packet.specs.Header.{size_of}
@@ -51,6 +52,10 @@ pub record HeardAs (w s : ℕ) (ws t : List ℕ) (more : ℕ) (left : List ℕ) 
 pub record Entered (t ws : List ℕ) (at : ℕ) (r : Entry) (left : List ℕ) : Type 0 where
   pub entry : words_of_entry r ≡ entry_at t ws at
   pub table : left ≡ left_at t ws at
+
+-- a number that an entry may have: 0, or one of the list
+abbrev pub Sayable : ℕ → Type 0
+Sayable n = (n ≡ 0 → ⊥) → IsListed n
 
 -- what an entry says of its packet: it is heard where the number is 0; else it is refused, at a field with FIELD, and at a word with another number
 abbrev pub said_by : Entry → Told Heard

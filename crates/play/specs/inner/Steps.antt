@@ -1,20 +1,16 @@
--- What the steps of playing find: whether the table is well made, and the stream of a packet.
-use Rattle.std.specs.Prelude.{ℕ, List}
+-- The stream of a packet, as a step of playing finds it.
+use Rattle.std.specs.Prelude.{ℕ, List, Option, Some, None}
+use Rattle.words.specs.Numbers.{STREAM}
 use Rattle.words.specs.Outcome.{Outcome, refused, accepted}
 use Rattle.words.specs.Refusals.{first_given}
 use Rattle.table.specs.Identifiers.{stream_of}
-use Rattle.play.specs.declared.streams.Sought.{Sought}
-use Rattle.play.specs.declared.streams.Sought.TheVariants.{At, Unknown}
-use Rattle.play.specs.Play.{table_list, stream_list}
-
--- whether a table is well made
-unfoldable pub made_of : List ℕ → Outcome Unit
-made_of t = first_given (table_list t) (accepted tt)
+use Rattle.play.specs.Play.{stream_list}
 
 -- the number of a packet's stream
 unfoldable pub sought_of : ℕ → ℕ → List ℕ → Outcome ℕ
 sought_of kind identifier t = first_given (stream_list kind identifier t) (accepted (stream_of identifier t))
 
-abbrev pub sought_paper : Sought → Outcome ℕ
-sought_paper (Unknown n) = refused n
-sought_paper (At s) = accepted s
+-- a packet that has none is STREAM
+abbrev pub sought_paper : Option ℕ → Outcome ℕ
+sought_paper (Some s) = accepted s
+sought_paper None = refused STREAM

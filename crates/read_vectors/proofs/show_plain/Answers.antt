@@ -9,6 +9,6 @@ use Rattle.read_vectors.proofs.show_plain.Goals as goal
 pub show_context-requires : goal.show_context-requires
 show_context-requires g c =
     let ws = c.args.ws.now in
-    let p = c.in-Accepted.p in
-    let e : read_of ws ≡ accepted p = told_packet ws p (sym c.in-Accepted.ensures) in
+    let p = c.in-Ok.p in
+    let e : read_of ws ≡ accepted p = told_packet ws p (sym c.in-Ok.ensures) in
     omega (arith, body_inside false ws p e, read_inside false ws p e)

@@ -11,7 +11,7 @@ use Rattle.read_vectors.proofs.show_survey.Goals as goal
 pub show_context-requires : goal.show_context-requires
 show_context-requires g c =
     let ws = c.args.ws.now in
-    let s = c.in-Accepted.s in
-    let f : read_survey_of ws ≡ accepted s = told_given ws s (sym c.in-Accepted.ensures) in
+    let s = c.in-Ok.s in
+    let f : read_survey_of ws ≡ accepted s = told_given ws s (sym c.in-Ok.ensures) in
     let e : read_by true ws ≡ accepted s.packet = rw (survey_read ws, f) in
     omega (arith, body_inside true ws s.packet e, read_inside true ws s.packet e)

@@ -42,17 +42,15 @@ fn fill(slots: &mut [u32], bits: u32, source: &[u32], at: usize, first: u32, pas
     requires { (length slots.old ≡ slot_words) × (9 ≤ past) × (past ≤ first) × (first ≤ 30) × InsideBetween first past bits at source.now }
     ensures { Filled first past bits at source.now slots.old slots.new × (result ≡ at + sizes_of (above past (bits_of (suc first) bits))) }
 {
-    let mut bit = first;
     let mut slot = slot_at(first);
     let mut from = at;
-    while past < bit {
+    for bit in (past + 1..first + 1).rev() {
         let n = fields::inner::field_size(bit);
         if (bits >> bit) % 2 == 1 {
             crate::inner::copies::copy_field(slots, slot, source, from, n);
             from += n;
         }
         slot += n;
-        bit -= 1;
     }
     from
 }

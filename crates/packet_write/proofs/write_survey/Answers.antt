@@ -1,0 +1,7 @@
+-- `write_survey` meets its promise: the words that it hands on give its parts (`written`).
+use Rattle.words.proofs.Kit.{rules}
+use Rattle.packet_write.proofs.GivenLaws.{written}
+use Rattle.packet_write.proofs.write_survey.Goals as goal
+
+pub returns : goal.returns
+returns c = search written

@@ -1,0 +1,11 @@
+-- `decibels` meets its promise: 128 is 2 ^ 7, and the quotient is exact.
+use Rattle.words.proofs.Kit.{◌∙◌, arith, rules}
+use lib.Dec.{lit≤}
+use lib.Ieee.{of_bits}
+use Rattle.words.proofs.PowerLaws.{signed_mag}
+use Rattle.panel.proofs.Quotient.{quotient}
+use Rattle.panel.proofs.values.decibels.Goals as goal
+
+pub returns : goal.returns
+unfolding of_bits
+returns c = c.divided.ensures ∙ quotient 7 _ (lit≤ tt) (omega (arith, signed_mag 16 c.args.half (lit≤ tt) (omega arith)))

@@ -1,0 +1,32 @@
+-- `slot_good` meets its promise: the slot is lent to the test that its held bit asks for.
+use Rattle.words.proofs.Kit.{arith, rules}
+use Rattle.record.proofs.SlotLaws.{slotted_high}
+use Rattle.record.proofs.GoodLaws.{slot_end, slot_fits, slot_bytes, slot_there, slot_ruled_lem, slot_zeroed}
+use Rattle.record.proofs.inner.good.slot_good.Goals as goal
+
+pub overflow_add-end : goal.overflow_add-end
+overflow_add-end c = search slot_fits
+
+pub overflow_shr-held : goal.overflow_shr-held
+overflow_shr-held c = omega (arith, slotted_high)
+
+pub offset_bounds-rec-at : goal.offset_bounds-rec-at
+offset_bounds-rec-at c = search slot_bytes
+
+pub slice_bounds-rule_good-end : goal.slice_bounds-rule_good-end
+slice_bounds-rule_good-end c = search slot_end
+
+pub rule_good-requires : goal.rule_good-requires
+rule_good-requires c = search slot_there
+
+pub offset_bounds-rec-at-else-held-bit-eq1 : goal.offset_bounds-rec-at-else-held-bit-eq1
+offset_bounds-rec-at-else-held-bit-eq1 c = search slot_bytes
+
+pub slice_bounds-slot_zero-end : goal.slice_bounds-slot_zero-end
+slice_bounds-slot_zero-end c = search slot_end
+
+pub returns-then-held-bit-eq1 : goal.returns-then-held-bit-eq1
+returns-then-held-bit-eq1 c = search slot_ruled_lem
+
+pub returns-else-held-bit-eq1 : goal.returns-else-held-bit-eq1
+returns-else-held-bit-eq1 c = search slot_zeroed

@@ -1,9 +1,0 @@
--- `vrt49_write_survey` meets its promise: what writing answers and leaves.
-use Rattle.vrt49.proofs.AnswerLaws.{length_beside}
-use borrow.Author.Rules.{rules}
-use Rattle.vrt49.proofs.packets.vrt49_write_survey.Statement.{statement}
-use Rattle.vrt49.proofs.packets.vrt49_write_survey.Tie as tie
-
-pub vrt49_write_survey_spec : {M : Type 1} → statement M
-vrt49_write_survey_spec =
-    tie.close (tie.spec (λ c κs. search rules) (λ c κs. search rules) (λ c. search rules) (λ c. search length_beside))
