@@ -122,7 +122,3 @@ filled_twice a n h l l' l'' q r e f = f l r (filled_whole a h l l' (omega arith)
 
 pub fills_all : {n k : ℕ} {h : ℕ → ℕ} {l l' : List ℕ} → Fills 0 n k h l l' → n ≤ k → l' ≡ filled n h l
 fills_all f q = filled_whole _ _ _ _ f.room (fills_end f q)
-
--- one loop up to a, and another from a on
-pub fills_on : {a n : ℕ} {h : ℕ → ℕ} {l l' l'' : List ℕ} → Fills 0 n a h l l' → FilledOn a n h l' l'' → l'' ≡ filled n h l
-fills_on {h = h} {l} f e = e l f.room (f.here h (λ j r s. refl) l f.room (filled_none h l))

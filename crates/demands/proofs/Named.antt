@@ -77,7 +77,30 @@ no_pad = (refusals.Pad, refl)
 pub no_place : OfTheList PLACE
 no_place = (refusals.Place, refl)
 
-pub ruleset named = (rules, no_empty, no_kind, no_bits, no_short, no_cut, no_class, no_time, no_indicator, no_layout, no_field, no_stream, no_list, no_room, no_value, no_size, no_format, no_count, no_table, no_page, no_pad, no_place)
+pub ruleset named = (
+  rules,
+  no_empty,
+  no_kind,
+  no_bits,
+  no_short,
+  no_cut,
+  no_class,
+  no_time,
+  no_indicator,
+  no_layout,
+  no_field,
+  no_stream,
+  no_list,
+  no_room,
+  no_value,
+  no_size,
+  no_format,
+  no_count,
+  no_table,
+  no_page,
+  no_pad,
+  no_place,
+)
 
 -- some result says an outcome whose number is of the list, and values that some answers stand for
 module _ {A : Type 0} where

@@ -1,6 +1,6 @@
 -- What growing answers and leaves, on a table and an index that are well made. The idea: reading is asked as play asks it (`grow_read`), so growing refuses
 -- what ends the recording as play does (`unread_both`), and takes in what play hears or refuses with STREAM (`read_both`), where there is room.
-use Rattle.std.specs.Prelude.{Result}
+use Rattle.std.specs.Prelude.{Result, Some, None}
 use Rattle.words.proofs.Kit.{◌≡◌, refl, sym, ap, ◌∙◌, Bool, true, false, not, ⊎_elim, List, [], ◌∷◌, ℕ, ◌+◌, ◌%◌, ◌^◌, ◌<◌, arith, not-true, not-false, eqb}
 use Rattle.words.proofs.Kit.{get_or}
 use Rattle.words.specs.declared.Where.TheVariants.{Nowhere}
@@ -25,6 +25,7 @@ use Rattle.play.specs.inner.Steps.{sought_of}
 use Rattle.play.specs.Run.{goes_on, said_at, left_at, next_of, Stepped}
 use Rattle.play.proofs.StreamLaws.{sought_number}
 use Rattle.play.proofs.PlayLaws.{step_read, play_step}
+use Rattle.play.proofs.EntryLaws.{step_goes, step_stops}
 use Rattle.play.proofs.KeepLaws.{kept_at}
 use Rattle.play.proofs.BeyondLaws.{goes_read}
 use Rattle.index.specs.Layout.{packets_taken}
@@ -91,23 +92,29 @@ module _ (t ws ix : List ℕ) (q : Ready t ix) where
     unfolding table_taken left_at
     left_is = k.table
 
-    goes : not s.continues ≡ false → goes_on (said_of (play_told t ws)) ≡ true
-    unfolding said_at
-    goes c = sym k.on ∙ not-false s.continues c
+    -- the recording goes on behind the packet, which has so many words
+    module _ (size : ℕ) (c : s.next ≡ Some size) where
+      goes : goes_on (said_of (play_told t ws)) ≡ true
+      unfolding said_at
+      goes = (step_goes k size c).0
 
-    -- an entry that was asked for and is lacking
-    module _ (c : not s.continues ≡ false) (y : reaches_entry ix ≡ true) (made : Bool) (last : List ℕ) (m : EntryTaken left s.next ix made last) where
-      twice : (b : Bool) → not (not b) ≡ b
-      twice true = refl
-      twice false = refl
+      size_is : size ≡ size_of (get_or ws 0 0)
+      unfolding next_of said_at
+      size_is = (step_goes k size c).1 ∙ rw goes (omega arith)
 
-      lacks_is : entry_lacks (table_taken t ws) ix ≡ not made
-      lacks_is = rw (← left_is, m.fits) (sym (twice (entry_lacks left ix)))
+      -- an entry that was asked for and is lacking
+      module _ (y : reaches_entry ix ≡ true) (made : Bool) (last : List ℕ) (m : EntryTaken left size ix made last) where
+        twice : (b : Bool) → not (not b) ≡ b
+        twice true = refl
+        twice false = refl
 
-      pub grown_full : (r : Result Taken RefusedAt) → not made ≡ true → told_paper r ≡ refused (refusal ROOM Nowhere) → GrownOn t ws ix r left last
-      grown_full r i g =
-          let e = grow_refuses (goes c) (rw (y, lacks_is) i) in
-          record { answer = g ∙ sym (ap said_of e); table = left_is; index = m.index ∙ rw (not-true made i, e) }
+        lacks_is : entry_lacks (table_taken t ws) ix ≡ not made
+        lacks_is = rw (← left_is, m.fits) (sym (twice (entry_lacks left ix)))
+
+        pub grown_full : (r : Result Taken RefusedAt) → not made ≡ true → told_paper r ≡ refused (refusal ROOM Nowhere) → GrownOn t ws ix r left last
+        grown_full r i g =
+            let e = grow_refuses goes (rw (y, lacks_is) i) in
+            record { answer = g ∙ sym (ap said_of e); table = left_is; index = m.index ∙ rw (not-true made i, e) }
 
     -- a is what play answered
     module _ (a : Result Heard RefusedAt) (f : a ≡ s.answer) where
@@ -116,39 +123,35 @@ module _ (t ws ix : List ℕ) (q : Ready t ix) where
       said_is = ap told_paper f ∙ k.answer
 
       -- where the recording ends
-      pub grown_unread : (r : Result Taken RefusedAt) → not s.continues ≡ true → told_paper r ≡ answer_by (told_paper a) false 0 → GrownOn t ws ix r left ix
+      pub grown_unread : (r : Result Taken RefusedAt) → s.next ≡ None → told_paper r ≡ answer_by (told_paper a) None → GrownOn t ws ix r left ix
       unfolding said_at
       grown_unread r c g =
-          let u = unread_both (sym k.on ∙ not-true s.continues c) in
+          let u = unread_both (step_stops k c) in
           let paper : told_paper a ≡ refused u.says = said_is ∙ ap said_of u.plays in
           record { answer = g ∙ rw (paper, u.grows); table = left_is; index = rw u.grows }
 
-      module _ (c : not s.continues ≡ false) where
-        size_is : s.next ≡ size_of (get_or ws 0 0)
-        unfolding next_of said_at
-        size_is = k.next ∙ rw (goes c) (omega arith)
-
+      module _ (size : ℕ) (c : s.next ≡ Some size) where
         -- the answer to a packet that is taken in
-        taken_by : (o : Told Heard) (size : ℕ) → answer_by o true size ≡ accepted (taken_as o size)
-        taken_by (refused r) size = refl
-        taken_by (accepted h) size = refl
+        taken_by : (o : Told Heard) (n : ℕ) → answer_by o (Some n) ≡ accepted (taken_as o n)
+        taken_by (refused r) n = refl
+        taken_by (accepted h) n = refl
 
-        taken_is : answer_by (told_paper a) true s.next ≡ accepted (taken_of t ws)
-        taken_is = rw (said_is, size_is) (taken_by (said_of (play_told t ws)) (size_of (get_or ws 0 0)))
+        taken_is : answer_by (told_paper a) (Some size) ≡ accepted (taken_of t ws)
+        taken_is = rw (said_is, size_is size c) (taken_by (said_of (play_told t ws)) (size_of (get_or ws 0 0)))
 
-        grown_on : (r : Result Taken RefusedAt) (last : List ℕ) → reaches_entry ix ≡ false → told_paper r ≡ answer_by (told_paper a) true s.next
-            → last ≡ counted_in s.next ix → GrownOn t ws ix r left last
+        grown_on : (r : Result Taken RefusedAt) (last : List ℕ) → reaches_entry ix ≡ false → told_paper r ≡ answer_by (told_paper a) (Some size)
+            → last ≡ counted_in size ix → GrownOn t ws ix r left last
         unfolding counted_in index_then
         grown_on r last n g h =
-            let e = grow_accepts (goes c) (rw n) in
-            record { answer = g ∙ taken_is ∙ sym (ap said_of e); table = left_is; index = h ∙ rw (e, n, size_is) }
+            let e = grow_accepts (goes size c) (rw n) in
+            record { answer = g ∙ taken_is ∙ sym (ap said_of e); table = left_is; index = h ∙ rw (e, n, size_is size c) }
 
         pub grown_entry : (r : Result Taken RefusedAt) (made : Bool) (last : List ℕ) → reaches_entry ix ≡ true
-            → EntryTaken left s.next ix made last → not made ≡ false → told_paper r ≡ answer_by (told_paper a) true s.next → GrownOn t ws ix r left last
+            → EntryTaken left size ix made last → not made ≡ false → told_paper r ≡ answer_by (told_paper a) (Some size) → GrownOn t ws ix r left last
         unfolding index_then
         grown_entry r made last y m i g =
-            let e = grow_accepts (goes c) (rw (y, lacks_is c y made last m) i) in
-            record { answer = g ∙ taken_is ∙ sym (ap said_of e); table = left_is; index = m.index ∙ rw (not-false made i, e, y, size_is, left_is) }
+            let e = grow_accepts (goes size c) (rw (y, lacks_is size c y made last m) i) in
+            record { answer = g ∙ taken_is ∙ sym (ap said_of e); table = left_is; index = m.index ∙ rw (not-false made i, e, y, size_is size c, left_is) }
 
 -- what is played stays well made, and so a page of it may be saved
 pub step_ready : (t ws ix left : List ℕ) (s : Happened) → Ready t ix → Stepped t ws 0 s left → Ready left ix
@@ -203,9 +206,9 @@ grow_lent t ws ix left last r n q k =
 
 module _ (t ws ix : List ℕ) (q : Ready t ix) (n : reaches_entry ix ≡ false) (s : Happened) (left : List ℕ) (k : Stepped t ws 0 s left)
     (a : Result Heard RefusedAt) (f : a ≡ s.answer) (r : Result Taken RefusedAt) where
-  pub on_unread : not s.continues ≡ true → told_paper r ≡ answer_by (told_paper a) false 0 → Meets told_paper (grow_told t ws ix) (t, ix) r (left, ix)
+  pub on_unread : s.next ≡ None → told_paper r ≡ answer_by (told_paper a) None → Meets told_paper (grow_told t ws ix) (t, ix) r (left, ix)
   on_unread c g = grow_lent t ws ix left ix r (rw n) q (grown_unread t ws ix q s left k a f r c g)
 
-  pub on_taken : (last : List ℕ) → not s.continues ≡ false → told_paper r ≡ answer_by (told_paper a) true s.next → last ≡ counted_in s.next ix
+  pub on_taken : (size : ℕ) (last : List ℕ) → s.next ≡ Some size → told_paper r ≡ answer_by (told_paper a) (Some size) → last ≡ counted_in size ix
       → Meets told_paper (grow_told t ws ix) (t, ix) r (left, last)
-  on_taken last c g h = grow_lent t ws ix left last r (rw n) q (grown_on t ws ix q s left k a f c r last n g h)
+  on_taken size last c g h = grow_lent t ws ix left last r (rw n) q (grown_on t ws ix q s left k a f size c r last n g h)

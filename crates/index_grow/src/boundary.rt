@@ -57,13 +57,13 @@ fn grow_played(table: &mut [u32], given: &[u32], index: &mut [u32]) -> Result<Ta
 {
     let s = crate::packets::play_next(table, given);
     let answer = s.answer;
-    if !s.continues {
-        return crate::packets::answer_of(answer, false, 0);
-    }
-    if !take_entry(table, index, s.next) {
+    let Some(size) = s.next else {
+        return crate::packets::answer_of(answer, None);
+    };
+    if !take_entry(table, index, size) {
         return crate::packets::refuse(Refusal::Room);
     }
-    crate::packets::answer_of(answer, true, s.next)
+    crate::packets::answer_of(answer, Some(size))
 }
 
 // Copies a table back that a packet was taken in on; where it was refused the lent table stays.

@@ -34,38 +34,36 @@ pub fn play_next(table: &mut [u32], given: &[u32]) -> play::inner::Happened
                 refusal: Refusal::Empty,
                 place: Where::Word(0),
             }),
-            continues: false,
-            next: 0,
+            next: None,
         };
     }
     play::inner::step(table, given, 0)
 }
 
 // What growing answers of a packet that play refuses: where the recording goes on, that it is of no declared stream.
-fn answer_unheard(r: RefusedAt, continues: bool, size: usize) -> Result<Taken, RefusedAt>
-    ensures { told_paper result ≡ answer_by (refused (told (list_number r.refusal) r.place)) continues size }
+fn answer_unheard(r: RefusedAt, next: Option<usize>) -> Result<Taken, RefusedAt>
+    ensures { told_paper result ≡ answer_by (refused (told (list_number r.refusal) r.place)) next }
 {
-    if continues {
-        let place = r.place;
-        return Ok(Taken::Undeclared(Stranger {
-            size,
-            place: words::inner::place_word(place),
-        }));
-    }
-    Err(r)
+    let Some(size) = next else {
+        return Err(r);
+    };
+    let place = r.place;
+    Ok(Taken::Undeclared(Stranger {
+        size,
+        place: words::inner::place_word(place),
+    }))
 }
 
 // What growing answers, from play's answer.
 pub fn answer_of(
     answer: Result<play::Heard, RefusedAt>,
-    continues: bool,
-    size: usize,
+    next: Option<usize>,
 ) -> Result<Taken, RefusedAt>
-    ensures { told_paper result ≡ answer_by (told_paper answer) continues size }
+    ensures { told_paper result ≡ answer_by (told_paper answer) next }
 {
     match answer {
         Ok(h) => Ok(Taken::Declared(h)),
-        Err(r) => answer_unheard(r, continues, size),
+        Err(r) => answer_unheard(r, next),
     }
 }
 
@@ -94,9 +92,9 @@ pub fn grow_on(table: &mut [u32], given: &[u32], index: &mut [u32]) -> Result<Ta
 {
     let s = play_next(table, given);
     let answer = s.answer;
-    if !s.continues {
-        return answer_of(answer, false, 0);
-    }
-    count_packet(index, s.next);
-    answer_of(answer, true, s.next)
+    let Some(size) = s.next else {
+        return answer_of(answer, None);
+    };
+    count_packet(index, size);
+    answer_of(answer, Some(size))
 }

@@ -1,7 +1,8 @@
 -- A jump to the boundary of an entry. The idea: no packet is played behind it, so that the landing is the page's table itself (`landing_there`); and where the
 -- boundary stands in the words, a jump answers what putting the page back answers, with the entry's word place (`jump_put`).
 use Rattle.std.specs.Prelude.{Ok, Err}
-use Rattle.words.proofs.Kit.{◌≡◌, refl, sym, ap, ◌∙◌, true, false, ⊎_elim, List, ℕ, ◌+◌, ◌-◌, ◌/◌, ◌%◌, ◌≤◌, ◌<◌, arith, le-ltb, le-leb, lt-leb, ltb, leb, length}
+use Rattle.words.proofs.Kit.{◌≡◌, refl, sym, ap, ◌∙◌, true, false, ⊎_elim, List, ℕ, ◌+◌}
+use Rattle.words.proofs.Kit.{◌-◌, ◌/◌, ◌%◌, ◌≤◌, ◌<◌, arith, le-ltb, le-leb, lt-leb, ltb, leb, length}
 use Rattle.words.specs.declared.refusals.Refusal.{Refusal}
 use Rattle.words.specs.declared.refusals.Refusal.TheVariants as refusals
 use Rattle.words.specs.Listed.{list_number, on_paper}

@@ -1,63 +1,41 @@
 // A line that is gathered in a buffer and written at once. A buffer that is full is written, and the line goes on from its front.
-ghost use Rattle.std.specs.Prelude.{◌<◌, IfOk};
-
+use arrayvec::ArrayVec;
 use std::io;
 use std::io::Write;
 
-// What is gathered: the first `used` bytes of the buffer, for the output.
+// What is gathered, for the output.
 #[derive(Drop)]
 pub struct Line<'a, W> {
     output: &'a mut W,
-    bytes: [u8; 128],
-    used: usize,
-}
-
-// Writes the first n bytes of a buffer; all where it has no more.
-fn write_front(output: &mut impl Write, bytes: &[u8], n: usize) -> io::Result<()> {
-    if n < bytes.len() {
-        output.write_all(&bytes[0..n])
-    } else {
-        output.write_all(bytes)
-    }
+    bytes: ArrayVec<u8, 128>,
 }
 
 impl<'a, W: Write> Line<'a, W> {
     // A line with nothing on it.
-    pub fn new(output: &'a mut W) -> Line<'a, W>
-        ensures { result.used < 128 }
-    {
+    pub fn new(output: &'a mut W) -> Line<'a, W> {
         Line {
             output,
-            bytes: [0; 128],
-            used: 0,
+            bytes: ArrayVec::new(),
         }
     }
 
     // Writes what is gathered.
     pub fn write(self) -> io::Result<()> {
         let output = self.output;
-        write_front(output, &self.bytes, self.used)
+        let bytes = self.bytes;
+        output.write_all(bytes.as_slice())
     }
 
-    // The line with room for a byte: a full buffer is written.
-    fn with_room(self) -> io::Result<Line<'a, W>>
-        ensures { IfOk result (λ line. line.used < 128) }
-    {
-        if self.used < 128 {
-            return Ok(self);
-        }
-        let output = self.output;
-        write_front(output, &self.bytes, self.used)?;
-        Ok(Line::new(output))
-    }
-
-    // The line with one byte more.
+    // The line with one byte more; a full buffer is written first.
     fn byte(self, b: u8) -> io::Result<Line<'a, W>> {
-        let mut line = self.with_room()?;
-        let at = line.used;
-        line.bytes[at] = b;
-        line.used = at + 1;
-        Ok(line)
+        let output = self.output;
+        let mut bytes = self.bytes;
+        if bytes.is_full() {
+            output.write_all(bytes.as_slice())?;
+            bytes.clear();
+        }
+        bytes.push(b);
+        Ok(Line { output, bytes })
     }
 
     // The line with a text behind it.

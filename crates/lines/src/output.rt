@@ -26,23 +26,14 @@ pub fn named(output: &mut impl Write, name: &[u8], n: u64) -> io::Result<()> {
 
 // Writes a name and 1 or 0.
 pub fn named_flag(output: &mut impl Write, name: &[u8], flag: bool) -> io::Result<()> {
-    if flag {
-        named(output, name, 1)
-    } else {
-        named(output, name, 0)
-    }
-}
-
-// A word as a wider number.
-pub fn wide(w: u32) -> u64 {
-    w as u64
+    named(output, name, u64::from(flag))
 }
 
 // Writes words in decimal, each after a space.
 pub fn list(output: &mut impl Write, words: &[u32]) -> io::Result<()> {
     let mut line = Line::new(output);
     for w in words {
-        line = line.text(b" ")?.number(wide(*w))?;
+        line = line.text(b" ")?.number(u64::from(*w))?;
     }
     line.write()
 }

@@ -69,10 +69,6 @@ module _ (survey : Bool) (pad : ℕ) (p : Parts) where
 
 -- a packet that 49A does not govern: its pad count is not looked at
 module _ (survey : Bool) (pad : ℕ) (p : Parts) (g : governs survey p ≡ false) where
-  pub any_count : pad_fits survey pad p ≡ true
-  unfolding pad_fits
-  any_count = rw g
-
   pub no_payload : (body : List ℕ) → accepted tt ≡ pad_checks survey pad p body
   unfolding pad_checks
   no_payload body = rw g

@@ -1,6 +1,7 @@
 -- The parts of a packet as fifteen words. The idea: a part is a word of its own, or a flag that is the lowest bit of one, or the fraction, which is two;
 -- so what the program computes of the words is what the definitions say of the parts.
 use Rattle.std.specs.Prelude.{Result}
+use Rattle.std.specs.Int.{from_bool}
 use Rattle.words.proofs.Kit.{◌≡◌, refl, sym, ap, ◌∙◌, Bool, true, false, List, [], ◌∷◌, ◌++◌, ⊎_elim, ℕ, ◌+◌, ◌*◌, ◌/◌, ◌%◌, ◌^◌, ◌≤◌, ◌<◌, arith}
 use Rattle.words.proofs.Kit.{eqb, length, take, drop, get_or}
 use native.Mathlib.Nat.{div-add-mod'}
@@ -30,12 +31,12 @@ low_bit n =
     ⊎_elim (λ (h : 1 ≤ n % 2). let e : n % 2 ≡ 1 = omega arith in rw e)
     (λ (h : n % 2 < 1). let e : n % 2 ≡ 0 = omega arith in rw e) (le_or_lt 1 (n % 2))
 
-bit_back : (t : Bool) → eqb (flag_bit t % 2) 1 ≡ t
+bit_back : (t : Bool) → eqb (from_bool t % 2) 1 ≡ t
 bit_back true = refl
 bit_back false = refl
 
 -- what `write` lays out as words gives its parts again
-pub parts_again : (p : Parts) (c t m : ℕ) → c ≡ flag_bit p.classed → t ≡ flag_bit p.trailed → m ≡ flag_bit p.tsm
+pub parts_again : (p : Parts) (c t m : ℕ) → c ≡ from_bool p.classed → t ≡ from_bool p.trailed → m ≡ from_bool p.tsm
     → parts_in (p.kind ∷ c ∷ t ∷ m ∷ p.tsi ∷ p.tsf ∷ p.count ∷ p.identifier ∷ p.oui ∷ p.information ∷ p.code ∷ p.seconds
     ∷ p.fraction / 2 ^ 32 ∷ p.fraction % 2 ^ 32 ∷ p.trailer ∷ []) ≡ p
 unfolding parts_in

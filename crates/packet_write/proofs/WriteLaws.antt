@@ -1,7 +1,8 @@
 -- The steps of writing as the code goes them. Each law says one way to return: a refusal found ends the chain there and leaves the buffer as it was; else the
 -- packet is laid. They hold where 49A is chosen with a pad count, and where it is not.
-use Rattle.std.specs.Prelude.{Ok, Err}
-use Rattle.words.proofs.Kit.{◌≡◌, refl, sym, ap, ◌∙◌, Bool, true, false, not, List, ◌++◌, ℕ, ◌+◌, ◌≤◌, ◌<◌, ltb-false, not-true, not-false, length, take, drop}
+use Rattle.std.specs.Prelude.{Result, Ok, Err}
+use Rattle.words.proofs.Kit.{◌≡◌, refl, sym, ap, ◌∙◌, Bool, true, false, not, List, ◌++◌, ℕ, ◌+◌, ◌≤◌, ◌<◌}
+use Rattle.words.proofs.Kit.{eq-eqb, ne_eqb, ltb-false, not-true, not-false, length, take, drop}
 use lib.Dec.{lit<}
 use Rattle.words.specs.declared.refusals.Refusal.{Refusal}
 use Rattle.words.specs.declared.refusals.Refusal.TheVariants.{Value}
@@ -11,9 +12,9 @@ use Rattle.words.proofs.RefusalLaws.{first_passed, first_fine}
 use Rattle.words.proofs.MeetLaws.{meets_ok}
 use Rattle.packet.specs.Header.{type_of}
 use Rattle.packet.specs.declared.Parts.{Parts}
-use Rattle.packet_write.specs.Write.{header_word, size_for, packet_words, parts_fit, governs, pad_for, pad_fits, write_list_by, write_by}
+use Rattle.packet_write.specs.Write.{header_word, size_for, packet_words, parts_fit, pad_fits, write_list_by, write_by}
 use Rattle.packet_write.specs.inner.Steps.{plain_checks, content_list, content_checks, pad_checks, room_checks, write_checks}
-use Rattle.packet_write.specs.inner.Given.{Layable}
+use Rattle.packet_write.specs.inner.Given.{Layable, Chosen}
 use Rattle.packet_write.proofs.FitLaws.{parts_fit_lem, parts_kind, parts_fitting, write_groups, nothing_found, writable, layable}
 use Rattle.packet_write.proofs.HeaderLaws.{type_is, body_most}
 
@@ -70,29 +71,28 @@ module _ (survey : Bool) (pad : ℕ) (p : Parts) where
           pub passes : accepted tt ≡ room_checks (length out) at size → write_checks survey pad p body (length out) at ≡ accepted tt
           passes room = nothing_found survey pad p body (length out) at size (sym fine) small (sym content) (sym paid) s (sym room)
 
--- a packet that nothing refuses may be laid, with the pad count given where 49A governs, and else with none
-module _ (survey : Bool) (pad : ℕ) (p : Parts) (body : List ℕ) (room at : ℕ) (e : write_checks survey pad p body room at ≡ accepted tt) where
-  may_lay : Layable (pad_for survey pad p) p body room at
-  may_lay = layable survey pad p body room at (writable survey pad p body room at e)
+-- a packet that nothing refuses may be laid with the pad count that is written, and is then written
+module _ (governed : Bool) (pad : ℕ) (p : Parts) (k : Chosen governed pad p) (body : List ℕ) where
+  pub may_lay : (room at : ℕ) → write_checks governed pad p body room at ≡ accepted tt → Layable pad p body room at
+  may_lay room at e = rw k.count at (layable governed pad p body room at (writable governed pad p body room at e))
 
-  pub may_lay_governed : governs survey p ≡ true → Layable pad p body room at
-  may_lay_governed g = rw g at may_lay
-
-  pub may_lay_plain : governs survey p ≡ false → Layable 0 p body room at
-  may_lay_plain g = rw g at may_lay
-
--- and the packet that is laid is written
-module _ (survey : Bool) (pad : ℕ) (p : Parts) (body out : List ℕ) (at : ℕ) (e : write_checks survey pad p body (length out) at ≡ accepted tt)
-    (left : List ℕ) (size : ℕ) (s : size ≡ size_for p (length body)) where
-  laid : left ≡ take at out ++ packet_words (pad_for survey pad p) p body ++ drop (at + size) out
-      → Meets on_paper (write_by survey pad p body out at) out (Ok size) left
+  pub laid : (out : List ℕ) (at : ℕ) → write_checks governed pad p body (length out) at ≡ accepted tt → (left : List ℕ) (size : ℕ)
+      → size ≡ size_for p (length body) → left ≡ take at out ++ packet_words pad p body ++ drop (at + size) out
+      → Meets on_paper (write_by governed pad p body out at) out (Ok size) left
   unfolding write_by write_checks
-  laid l = rw s (meets_ok (first_fine (write_list_by survey pad p body (length out) at) tt tt _ e) (rw s at l))
+  laid out at e left size s l =
+      rw s (meets_ok (first_fine (write_list_by governed pad p body (length out) at) tt tt _ e) (rw k.count (rw s at l)))
 
-  pub laid_governed : governs survey p ≡ true → left ≡ take at out ++ packet_words pad p body ++ drop (at + size) out
-      → Meets on_paper (write_by survey pad p body out at) out (Ok size) left
-  laid_governed g l = laid (rw g l)
+-- ---- the choice
 
-  pub laid_plain : governs survey p ≡ false → left ≡ take at out ++ packet_words 0 p body ++ drop (at + size) out
-      → Meets on_paper (write_by survey pad p body out at) out (Ok size) left
-  laid_plain g l = laid (rw g l)
+pub chosen_plain : (p : Parts) → Chosen false 0 p
+chosen_plain p = record { choice = refl; count = refl }
+
+pub chosen_governed : (pad : ℕ) (p : Parts) → p.kind ≡ 1 → Chosen true pad p
+chosen_governed pad p k = record { choice = eq-eqb p.kind 1 k; count = rw (eq-eqb p.kind 1 k) }
+
+-- of another type the pad count is not looked at
+pub written_plain : (pad : ℕ) (p : Parts) (body out left : List ℕ) (at : ℕ) (r : Result ℕ Refusal) → (p.kind ≡ 1 → ⊥)
+    → Meets on_paper (write_by false 0 p body out at) out r left → Meets on_paper (write_by true pad p body out at) out r left
+unfolding write_by pad_fits
+written_plain pad p body out left at r d m = rw (ne_eqb p.kind 1 d) m

@@ -7,15 +7,15 @@ ghost use Rattle.words.specs.Listed.{list_number, on_paper};
 ghost use Rattle.packet_survey.specs.Payload.{pad_bad};
 ghost use Rattle.packet.specs.Header.{type_of};
 ghost use Rattle.packet.specs.Read.{time_over};
-ghost use Rattle.packet_write.specs.Write.{header_word, size_for, class_first, class_word, codes_fit, flags_fit, class_fits, pad_fits};
+ghost use Rattle.packet_write.specs.Write.{header_word, size_for, class_first, class_word, codes_fit, flags_fit, class_fits, pad_fits, parts_fit};
 ghost use Rattle.packet_write.specs.inner.Steps.{plain_checks, content_checks, pad_checks, room_checks};
 ghost use Rattle.packet_write.specs.AsWords.{parts_in};
-ghost use Rattle.packet_write.specs.inner.Given.{Governed};
+ghost use Rattle.packet_write.specs.inner.Given.{Chosen, Governed};
 
 use crate::parts;
 use words::Refusal;
 
-// Whether TSI, TSF and the count fit their bits.
+// Whether TSI, TSF and the count fit their bits. By `&&` what is left to prove has names that the check makes up.
 fn codes_fit(tsi: u32, tsf: u32, count: u32) -> bool
     ensures { result ≡ codes_fit tsi tsf count }
 {
@@ -51,24 +51,25 @@ pub fn check_parts(q: &[u32]) -> Result<(), Refusal>
     if 5 < q[parts::KIND] {
         return Err(Refusal::Kind);
     }
-    let codes = codes_fit(q[parts::TSI], q[parts::TSF], q[parts::COUNT]);
-    let flags = flags_fit(
+    if !codes_fit(q[parts::TSI], q[parts::TSF], q[parts::COUNT]) {
+        return Err(Refusal::Value);
+    }
+    if !flags_fit(
         q[parts::KIND],
         q[parts::TRAILED] % 2 == 1,
         q[parts::TSM] % 2 == 1,
-    );
-    if !words::inner::both_of(codes, flags) {
+    ) {
         return Err(Refusal::Value);
     }
-    if class_fits(
+    if !class_fits(
         q[parts::CLASSED] % 2 == 1,
         q[parts::OUI],
         q[parts::INFORMATION],
         q[parts::CODE],
     ) {
-        return Ok(());
+        return Err(Refusal::Value);
     }
-    Err(Refusal::Value)
+    Ok(())
 }
 
 // Whether the fraction is TIME.
@@ -86,7 +87,7 @@ fn time_over(q: &[u32]) -> bool
 fn short_or_time(kind: u32, n: usize) -> Refusal
     ensures { list_number result ≡ pick (both (eqb kind 4) (eqb n 0)) SHORT TIME }
 {
-    if words::inner::both_of(kind == 4, n == 0) {
+    if kind == 4 && n == 0 {
         return Refusal::Short;
     }
     Refusal::Time
@@ -129,11 +130,14 @@ pub fn check_room(room: usize, at: usize, size: usize) -> Result<(), Refusal>
     Ok(())
 }
 
-// Whether the pad count fits its five bits, where there is a class.
-pub fn pad_fits(pad: u32, q: &[u32]) -> bool
-    requires { (length q.now ≡ 15) × ((parts_in q.now).kind ≡ 1) }
-    ensures { result ≡ pad_fits true pad (parts_in q.now) }
+// Whether the pad count fits its five bits, where 49A governs the packet and there is a class.
+pub fn pad_fits(governed: bool, pad: u32, q: &[u32]) -> bool
+    requires { (length q.now ≡ 15) × Chosen governed pad (parts_in q.now) }
+    ensures { result ≡ pad_fits governed pad (parts_in q.now) }
 {
+    if !governed {
+        return true;
+    }
     if q[parts::CLASSED] % 2 == 1 {
         return pad < 32;
     }
@@ -155,11 +159,15 @@ fn pad_bad(pad: u32, q: &[u32], n: usize) -> bool
     true
 }
 
-// PAD, of the parts and the body.
-pub fn check_pad(pad: u32, q: &[u32], body: &[u32]) -> Result<(), Refusal>
-    requires { (length q.now ≡ 15) × Governed pad (parts_in q.now) × (length body.now ≤ 65535) }
-    ensures { on_paper result ≡ pad_checks true pad (parts_in q.now) body.now }
+// PAD, of the parts and the body, where 49A governs the packet.
+pub fn check_pad(governed: bool, pad: u32, q: &[u32], body: &[u32]) -> Result<(), Refusal>
+    requires chosen { (length q.now ≡ 15) × Chosen governed pad (parts_in q.now) }
+    requires fitting { (parts_fit (parts_in q.now) ≡ true) × (pad_fits governed pad (parts_in q.now) ≡ true) × (length body.now ≤ 65535) }
+    ensures { on_paper result ≡ pad_checks governed pad (parts_in q.now) body.now }
 {
+    if !governed {
+        return Ok(());
+    }
     if pad_bad(pad, q, body.len()) {
         return Err(Refusal::Pad);
     }

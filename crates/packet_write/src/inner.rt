@@ -1,3 +1,2 @@
 // What the crates above use of writing.
-pub use crate::survey::write_survey_parts;
-pub use crate::writing::write_parts;
+pub use crate::writing::{write_parts, write_survey_parts};

@@ -105,6 +105,7 @@ fn lay_time(w: u32, q: &[u32], out: &mut [u32], at: usize) -> usize
 }
 
 // What stands before the body, from the start of a buffer.
+#[inline(always)]
 fn lay_prologue(w: u32, pad: u32, q: &[u32], out: &mut [u32]) -> usize
     requires { HeaderFor w q.now × (classed w ≡ true → pad < 32) × (length (prologue_words pad w (parts_in q.now)) ≤ length out.old) }
     ensures { Laid out.old 0 (prologue_words pad w (parts_in q.now)) result out.new }
@@ -118,7 +119,7 @@ fn lay_prologue(w: u32, pad: u32, q: &[u32], out: &mut [u32]) -> usize
 const BLOCK: usize = 2048;
 
 // A block of the body, n words, at the same place of a buffer. Through an array of its own it is copied at once; the compiled code has a call of memmove, and no
-// array.
+// array. By `copy_from_slice` it asks first whether the two overlap, and writing a small packet took 17 instructions more, a tenth.
 fn lay_block(body: &[u32], out: &mut [u32], at: usize, n: usize)
     requires { (n ≤ 2048) × (at + n ≤ length body.now) × (at + n ≤ length out.old) }
     ensures { out.new ≡ put at n (part at n body.now) out.old }
@@ -129,6 +130,7 @@ fn lay_block(body: &[u32], out: &mut [u32], at: usize, n: usize)
 }
 
 // The body, from the start of a buffer: what whole blocks leave, which is all of most bodies, and then the whole blocks.
+#[inline(always)]
 fn lay_body(body: &[u32], out: &mut [u32]) -> usize
     requires { length body.now ≤ length out.old }
     ensures { Laid out.old 0 body.now result out.new }
@@ -152,6 +154,7 @@ fn lay_trailer(w: u32, q: &[u32], out: &mut [u32]) -> usize
 }
 
 // The three in turn, each lent the part of the buffer that is left, from a place on.
+#[inline(always)]
 fn lay_parts(w: u32, pad: u32, q: &[u32], body: &[u32], out: &mut [u32], at: usize) -> usize
     requires header_given { HeaderFor w q.now × (classed w ≡ true → pad < 32) }
     requires room_left { at + (length (prologue_words pad w (parts_in q.now)) + length body.now + length (trailer_words w (parts_in q.now))) ≤ length out.old }
@@ -162,7 +165,8 @@ fn lay_parts(w: u32, pad: u32, q: &[u32], body: &[u32], out: &mut [u32], at: usi
     b + lay_trailer(w, q, &mut out[b..])
 }
 
-// A packet that nothing refuses, at its place; w is its header word but for its size.
+// A packet that nothing refuses, at its place; w is its header word but for its size. It is put in line, as the steps before it are (`write_chosen`).
+#[inline(always)]
 pub fn lay(w: u32, size: usize, pad: u32, q: &[u32], body: &[u32], out: &mut [u32], at: usize)
     requires parts_given { (length q.now ≡ 15) × Layable pad (parts_in q.now) body.now (length out.old) at }
     requires header_given { (w ≡ header_word (parts_in q.now) 0) × (size ≡ size_for (parts_in q.now) (length body.now)) }

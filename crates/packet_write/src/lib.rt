@@ -2,27 +2,18 @@
 #![tactic(auto)]
 
 mod fit;
-mod governed;
 pub mod inner;
 mod laying;
 mod parts;
-mod survey;
 mod writing;
 
 ghost use Rattle.std.specs.Prelude.{◌≡◌};
 ghost use Rattle.words.specs.Listed.{on_paper};
 ghost use Rattle.words.specs.Outcome.{Meets};
-ghost use Rattle.packet_write.specs.Write.{flag_bit, write_of, write_survey_of};
+ghost use Rattle.packet_write.specs.Write.{write_of, write_survey_of};
 ghost use Rattle.packet_write.specs.AsWords.{parts_in};
 
 use words::Refusal;
-
-// 1 for a flag that is set.
-fn bit_of(flag: bool) -> u32
-    ensures { result ≡ flag_bit flag }
-{
-    if flag { 1 } else { 0 }
-}
 
 // The parts as fifteen words.
 fn words_of(parts: packet::Parts) -> [u32; 15]
@@ -31,9 +22,9 @@ fn words_of(parts: packet::Parts) -> [u32; 15]
     let fraction = parts.fraction;
     [
         parts.kind,
-        bit_of(parts.classed),
-        bit_of(parts.trailed),
-        bit_of(parts.tsm),
+        u32::from(parts.classed),
+        u32::from(parts.trailed),
+        u32::from(parts.tsm),
         parts.tsi,
         parts.tsf,
         parts.count,
@@ -74,5 +65,5 @@ pub fn write_survey(
     ensures { Meets on_paper (write_survey_of pad parts body.now out.old at) out.old result out.new }
 {
     let q = words_of(parts);
-    survey::write_padded(pad, &q, body, out, at)
+    writing::write_padded(pad, &q, body, out, at)
 }

@@ -41,10 +41,24 @@ use Rattle.page.proofs.ContentsLaws.{pair_of, contents_of}
 
 -- ---- one pair: a is its offset, l its length, and w the words of the held indicator of its body; the bodies before it end at the place at
 
-pub pair_tests : (p : List ℕ) (s at a l w held : ℕ) (rest r : Bool) → at ≡ begins_at p s → a ≡ offset_at p s → l ≡ length_at p s → held ≡ get_or p (at + 1) 0
+pair_tests : (p : List ℕ) (s at a l w held : ℕ) (rest r : Bool) → at ≡ begins_at p s → a ≡ offset_at p s → l ≡ length_at p s → held ≡ get_or p (at + 1) 0
     → w ≡ page_body_words held → rest ≡ both (leb (at + l) (length p)) (eqb l w) → r ≡ both (eqb a at) rest → r ≡ pair_good p s
 unfolding pair_good
 pair_tests p s at a l w held rest r e f g h o i j = j ∙ rw (i, o, h, f, g, e)
+
+-- as a program asks: the offset, then the end, then the length
+module _ (p : List ℕ) (s at a : ℕ) (e : at ≡ begins_at p s) (f : a ≡ offset_at p s) where
+  pub pair_elsewhere : (a ≡ at → ⊥) → false ≡ pair_good p s
+  pair_elsewhere h = rw (ne_eqb a at h) at (pair_tests p s at a (length_at p s) _ _ _ _ e f refl refl refl refl refl)
+
+  module _ (o : a ≡ at) (l : ℕ) (g : l ≡ length_at p s) where
+    pub pair_outside : length p < at + l → leb (at + l) (length p) ≡ pair_good p s
+    pair_outside h =
+        rw (lt-leb (at + l) (length p) h)
+        (rw (eq-eqb a at o, lt-leb (at + l) (length p) h) at (pair_tests p s at a l _ _ _ _ e f g refl refl refl refl))
+
+    pub pair_inside : (held w : ℕ) → at + l ≤ length p → held ≡ get_or p (at + 1) 0 → w ≡ page_body_words held → eqb l w ≡ pair_good p s
+    pair_inside held w h i k = rw (eq-eqb a at o, le-leb (at + l) (length p) h) at (pair_tests p s at a l w held _ _ e f g i k refl refl)
 
 -- ---- the loop that tests the pairs, b being the answer to pair s
 
@@ -212,13 +226,21 @@ module _ (b : List ℕ) (l : length b ≡ page_body_words (held_of b)) where
       body_within = held_within (held_of b) (head_within b _ (sym e ∙ not-false head i))
 
       -- the walk begins one word before the held words; `state` is the answer to the state word
-      pub body_rules : (kept state r : Bool) → kept ≡ obeyed (bits_of 31 (held_of b)) (drop 1 (take (length b - (head_words - 1)) (drop (head_words - 1) b)))
+      body_rules : (kept state r : Bool) → kept ≡ obeyed (bits_of 31 (held_of b)) (drop 1 (take (length b - (head_words - 1)) (drop (head_words - 1) b)))
           → state ≡ state_good_in b → r ≡ both kept state → r ≡ record_good (record_of b)
       body_rules kept state r g f o =
           let d : drop 1 (take (length b - (head_words - 1)) (drop (head_words - 1) b)) ≡ drop head_words b = ap (drop 1) (rest_whole (head_words - 1) b)
           ∙ drop-drop 1 (head_words - 1) b in
           let ruled : kept ≡ all 31 (slot_ruled (record_of b)) = g ∙ rw d (rules_below 31 0 body_within (omega arith) (zero-add _)) in
           good_slots (record_of b) head head_same r (not-false head i) (o ∙ ap₂ both ruled (f ∙ state_in_lem) ∙ sym (slots_ruled (record_of b)))
+
+      -- the walk, and then the state word
+      module _ (kept : Bool) (g : kept ≡ obeyed (bits_of 31 (held_of b)) (drop 1 (take (length b - (head_words - 1)) (drop (head_words - 1) b)))) where
+        pub body_broken : kept ≡ false → kept ≡ record_good (record_of b)
+        body_broken h = body_rules kept (state_good_in b) kept g refl (rw h)
+
+        pub body_kept : (state : Bool) → kept ≡ true → state ≡ state_good_in b → state ≡ record_good (record_of b)
+        body_kept state h f = body_rules kept state state g f (rw h)
 
 -- ---- the state word of a body: w is the words of the held fields below 16, which stand behind it
 

@@ -80,13 +80,13 @@ pub record Squeezing (first past held at : ℕ) (slots before page : List ℕ) (
   pub sized : length slots ≡ slot_words
   pub laid : Laid before at (held_between first bit held slots) to page
 
-pub squeezing_start : (first past held at bit slot : ℕ) (slots page : List ℕ) → bit ≡ first → length slots ≡ slot_words → 9 ≤ past → past ≤ first → first ≤ 30
-    → slot ≡ slot_at first → Squeezing first past held at slots page page bit slot at
-squeezing_start first past held at bit slot slots page here s l m h e = rw here (record {
+pub squeezing_start : (first past held at slot : ℕ) (slots page : List ℕ) → length slots ≡ slot_words → 9 ≤ past → past ≤ first → first ≤ 30
+    → slot ≡ slot_at first → Squeezing first past held at slots page page first slot at
+squeezing_start first past held at slot slots page s l m h e = record {
   along = along_start first past slot l m h e;
   sized = s;
   laid = rw (between_none held slots first) (record { past = sym (add-zero at); kept = refl });
-})
+}
 
 -- a turn: n is the size of this bit's field
 module _ {first past held at bit slot to : ℕ} {slots before page : List ℕ} (p : Squeezing first past held at slots before page bit slot to)

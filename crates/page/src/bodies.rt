@@ -36,7 +36,8 @@ pub fn page_words(table: &[u32]) -> usize
 }
 
 // The held words of the slots of the bits from `first` down to the one above `past`, in field order, into a page from a place on. Gives the place past them.
-// The slots' own place runs along.
+// The slots' own place runs along. With a `for` over the bits
+// saving took a twentieth more.
 fn squeeze_between(
     page: &mut [u32],
     at: usize,
@@ -48,15 +49,17 @@ fn squeeze_between(
     requires { (length slots.now ≡ slot_words) × (9 ≤ past) × (past ≤ first) × (first ≤ 30) × (at + length (held_between first past held slots.now) ≤ length page.old) }
     ensures { Laid page.old at (held_between first past held slots.now) result page.new }
 {
+    let mut bit = first;
     let mut slot = record::inner::slot_at(first);
     let mut to = at;
-    for bit in (past + 1..first + 1).rev() {
+    while past < bit {
         let n = fields::inner::field_size(bit);
         if (held >> bit) % 2 == 1 {
             record::inner::copy_field(page, to, slots, slot, n);
             to += n;
         }
         slot += n;
+        bit -= 1;
     }
     to
 }

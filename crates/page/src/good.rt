@@ -14,12 +14,12 @@ fn pair_good(page: &[u32], s: usize, at: usize) -> bool
     requires { (at ≡ begins_at page.now s) × (at ≤ length page.now) × (s < 32) }
     ensures { result ≡ pair_good page.now s }
 {
-    let here = crate::contents::offset_in(page, s) == at;
+    if crate::contents::offset_in(page, s) != at {
+        return false;
+    }
     let length = crate::contents::length_in(page, s);
-    let inside = at + length <= page.len();
     let held = words::inner::word_at(page, at + 1);
-    let fits = length == crate::bodies::body_words(held);
-    words::inner::both_of(here, words::inner::both_of(inside, fits))
+    at + length <= page.len() && length == crate::bodies::body_words(held)
 }
 
 // Whether the pairs are right, and the last body ends where the page does.
@@ -97,8 +97,8 @@ fn body_good(body: &[u32]) -> bool
     if !record::inner::head_good(body) {
         return false;
     }
-    let kept = fields::inner::rules_kept(body[1], &body[record::inner::HEAD_WORDS - 1..]);
-    words::inner::both_of(kept, state_good_in(body))
+    fields::inner::rules_kept(body[1], &body[record::inner::HEAD_WORDS - 1..])
+        && state_good_in(body)
 }
 
 // Whether the record of body s is good.

@@ -101,10 +101,6 @@ module _ (r : List ℕ) where
       let m : k < 21 = omega (arith, f.many, l) in
       f.each k (omega (arith, h, m)) ∙ ap (λ (b : ℕ). record_shows b r) (sym (field_bit_lem k m)))
 
-pub all_lent : (t : List ℕ) (s at : ℕ) (ds : List FieldReading) → at ≡ base s
-    → map shown_in ds ≡ record_readings (take (at + record_words - at) (drop at t)) → map shown_in ds ≡ record_readings (record_at s t)
-all_lent t s at ds e h = h ∙ ap record_readings (lent_record t s at e)
-
 -- ---- a refusal in every entry, or the readings, one by one
 map_twice : {A B C : Type 0} (f : B → C) (g : A → B) (xs : List A) → map f (map g xs) ≡ map (λ x. f (g x)) xs
 map_twice f g [] = refl

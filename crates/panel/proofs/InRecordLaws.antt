@@ -44,28 +44,28 @@ module _ (r : List ℕ) (b at : ℕ) (l : length r ≡ record_words) (lo : 10 �
 
   module _ (h : Bool) (eh : h ≡ is_held b r) (n : not h ≡ false) (q : Bool) (e : q ≡ is_frequency b) (first : ℕ) (f : first ≡ get_or r (head_words + at) 0)
     where
-      shows_here : (s : Reading) → s ≡ (shown_of b (slot_of b r)) → s ≡ (record_shows b r)
+      shows_here : (s : Reading) → s ≡ shown_of b (slot_of b r) → s ≡ record_shows b r
       unfolding record_shows
       shows_here s p = rw (← eh, not-false h n) p
 
       pub here_frequency : (low : ℕ) (z hertz : ℤ) → q ≡ true → low ≡ get_or r (head_words + at + 1) 0 → first < 2 ^ 32 → low < 2 ^ 32 → z ≡ units_of first low
           → mag z < 2 ^ 63 → hertz ≡ floor_div (to_z w64 (of_z w64 z)) 1048576 → mag hertz < 2 ^ 63
-          → (frequency (to_z w64 (of_z w64 hertz)) (low % 1048576)) ≡ (record_shows b r)
+          → frequency (to_z w64 (of_z w64 hertz)) (low % 1048576) ≡ record_shows b r
       here_frequency low z hertz t g hf hl ez hz eh' hh =
           let two = frequency_words b hi (sym e ∙ t) in
           shows_here _ (shown_frequency b (slot_of b r) q e first low z hertz t (f ∙ slot_word_first) (g ∙ slot_word 1 (omega (arith, two))) hf hl ez hz eh' hh)
 
       module _ (m : q ≡ false) where
-        pub here_level : (x : Float) → b ≡ 24 → x ≡ over 7 (twos_complement 16 (first % 65536)) → (level x) ≡ (record_shows b r)
+        pub here_level : (x : Float) → b ≡ 24 → x ≡ over 7 (twos_complement 16 (first % 65536)) → level x ≡ record_shows b r
         here_level x i d = shows_here _ (shown_level b (slot_of b r) q e m first x (f ∙ slot_word_first) i d)
 
-        pub here_gain : (x y : Float) → (b ≡ 24 → ⊥) → b ≡ 23 → x ≡ over 7 (twos_complement 16 (first % 65536))
-            → y ≡ over 7 (twos_complement 16 (first / 65536 % 65536)) → (gain x y) ≡ (record_shows b r)
-        here_gain x y i j d u = shows_here _ (shown_gain b (slot_of b r) q e m first x y (f ∙ slot_word_first) i j d u)
+        pub here_gain : (x y : Float) → b ≡ 23 → x ≡ over 7 (twos_complement 16 (first % 65536))
+            → y ≡ over 7 (twos_complement 16 (first / 65536 % 65536)) → gain x y ≡ record_shows b r
+        here_gain x y j d u = shows_here _ (shown_gain b (slot_of b r) q e m first x y (f ∙ slot_word_first) j d u)
 
-        pub here_temperature : (x : Float) → (b ≡ 24 → ⊥) → (b ≡ 23 → ⊥) → b ≡ 18 → x ≡ over 6 (twos_complement 16 (first % 65536))
-            → (temperature x) ≡ (record_shows b r)
-        here_temperature x i j k d = shows_here _ (shown_temperature b (slot_of b r) q e m first x (f ∙ slot_word_first) i j k d)
+        pub here_temperature : (x : Float) → b ≡ 18 → x ≡ over 6 (twos_complement 16 (first % 65536))
+            → temperature x ≡ record_shows b r
+        here_temperature x k d = shows_here _ (shown_temperature b (slot_of b r) q e m first x (f ∙ slot_word_first) k d)
 
-        pub here_other : (b ≡ 24 → ⊥) → (b ≡ 23 → ⊥) → (b ≡ 18 → ⊥) → other ≡ (record_shows b r)
+        pub here_other : (b ≡ 24 → ⊥) → (b ≡ 23 → ⊥) → (b ≡ 18 → ⊥) → other ≡ record_shows b r
         here_other i j k = shows_here _ (shown_other b (slot_of b r) q e m i j k)

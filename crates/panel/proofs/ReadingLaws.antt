@@ -93,13 +93,6 @@ unfolding record_shows
 shows_absent r b h e i = rw (← e, not-true h i)
 
 module _ (r : List ℕ) (b at z : ℕ) (l : length r ≡ record_words) (lo : 10 ≤ b) (hi : b ≤ 30) (ea : at ≡ slot_at b) (ez : z ≡ field_size b) where
-  pub shows_held : (h : Bool) (d : FieldReading) → h ≡ is_held b r → not h ≡ false
-      → shown_in d ≡ shown_of b (take (head_words + at + z - (head_words + at)) (drop (head_words + at) r)) → shown_in d ≡ record_shows b r
-  unfolding record_shows
-  shows_held h d e i p =
-      rw (← e, not-false h i) (p ∙ ap (shown_of b)
-      (seen (head_words + at) (head_words + at + z) z r refl ∙ rw ez (sym (slot_is r b at z l lo hi ea ez))))
-
   module _ (n : ℕ) (h : Bool) (eh : h ≡ is_held b r) (en : n ≡ when h z) where
     pub copy_made : (out last : List ℕ) → n ≤ length out → last ≡ put 0 n (part (head_words + at) n r) out
         → Meets on_paper (copy_of (held_words_in b r) out) out (Ok n) last
@@ -119,11 +112,3 @@ copy_room r out b z n h l lo hi ez eh en o =
 pub lent_record : (t : List ℕ) (s at : ℕ) → at ≡ base s → take (at + record_words - at) (drop at t) ≡ record_at s t
 unfolding record_at
 lent_record t s at e = seen at (at + record_words) record_words t refl ∙ ap (λ (a : ℕ). part a record_words t) e
-
-module _ (t : List ℕ) (s b at : ℕ) (e : at ≡ base s) where
-  pub read_lent : (d : FieldReading) → shown_in d ≡ record_shows b (take (at + record_words - at) (drop at t)) → shown_in d ≡ record_shows b (record_at s t)
-  read_lent d h = h ∙ ap (record_shows b) (lent_record t s at e)
-
-  pub copy_lent : (out last : List ℕ) (r : Result ℕ Refusal) → Meets on_paper (copy_of (held_words_in b (take (at + record_words - at) (drop at t))) out) out r last
-      → Meets on_paper (copy_of (held_words_in b (record_at s t)) out) out r last
-  copy_lent out last r h = subst (λ (l : List ℕ). Meets on_paper (copy_of (held_words_in b l) out) out r last) (lent_record t s at e) h

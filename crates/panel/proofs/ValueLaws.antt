@@ -1,5 +1,5 @@
 -- Numbers out of held words. The idea: two's complement is `pos` below the sign bit's weight and `negsuc` from there on, so that a range, a remainder and a
--- machine number follow by cases; and what a division leaves below zero says that it stands 1 above rounding down.
+-- machine number follow by cases.
 use Rattle.words.proofs.Kit.{◌≡◌, refl, sym, ap, subst, ◌∙◌, true, false, ⊎_elim, ℕ, zero, suc, ◌+◌, ◌-◌, ◌*◌, ◌/◌, ◌%◌, ◌^◌, ◌≤◌, ◌<◌, arith, lt-ltb}
 use Rattle.words.proofs.Kit.{le-ltb, lt-leb}
 use native.Mathlib.Nat.{le_of_lt, lt_of_lt_of_le, lt_of_le_of_lt}
@@ -10,7 +10,8 @@ use lib.Dec.{T, lit≤, le→leb, lt→ltb}
 use lib.IntN.{ℤ, pos, negsuc, neg_ℤ, ◌+ℤ◌, ◌-ℤ◌, ◌*ℤ◌}
 use lib.Ieee.{Float, binary32, in_float, div, of_int}
 use lib.Pow.{pow_mono}
-use lib.Signed.{mag, lt_z, quot_z, rem_z, mag_rem}
+use Rattle.std.specs.Int.{int_div_euclid}
+use lib.Signed.{mag}
 use mir.Syntax.{w64}
 use mir.Val.{SFits, to_z, of_z}
 use mir.ValLaws.{to_z-of_z}
@@ -72,14 +73,6 @@ module _ (half : ℕ) (z : ℤ) (h : half < 65536) (b : mag z < 2 ^ 63) (e : z �
 
 -- ---- rounding down
 
--- whether a machine number is below zero
-module _ (z : ℤ) (b : mag z < 2 ^ 63) where
-  pub rounded_below : lt_z (to_z w64 (of_z w64 z)) (pos 0) ≡ true → pos 1 ≡ pick (lt_z z (pos 0)) (pos 1) (pos 0)
-  rounded_below h = rw (ap (λ (y : ℤ). lt_z y (pos 0)) (sym (back z b refl)) ∙ h)
-
-  pub rounded_not : lt_z (to_z w64 (of_z w64 z)) (pos 0) ≡ false → pos 0 ≡ pick (lt_z z (pos 0)) (pos 1) (pos 0)
-  rounded_not h = rw (ap (λ (y : ℤ). lt_z y (pos 0)) (sym (back z b refl)) ∙ h)
-
 -- -p + r
 sum_below : (p r n : ℕ) → p ≡ r + suc n → neg_ℤ (pos p) +ℤ pos r ≡ negsuc n
 sum_below zero r n e = absurd (omega arith)
@@ -90,41 +83,11 @@ pub hertz_and_parts : (z : ℤ) → (floor_div z 1048576 *ℤ pos 1048576 +ℤ p
 hertz_and_parts (pos n) = (ap pos (omega arith), omega arith)
 hertz_and_parts (negsuc n) = (sum_below (suc (n / 1048576) * 1048576) (1048576 - suc (n % 1048576)) n (omega arith), omega arith)
 
--- a division towards zero, less 1 where it left something below zero
-below_floor : (n q r : ℕ) → suc n ≡ q * 1048576 + r → r < 1048576
-    → neg_ℤ (pos q) -ℤ pick (lt_z (neg_ℤ (pos r)) (pos 0)) (pos 1) (pos 0) ≡ negsuc (n / 1048576)
-below_floor n zero zero e h = absurd (omega arith)
-below_floor n (suc q) zero e h = rw (lt-ltb 0 (suc q) (omega arith)) (ap negsuc (omega arith))
-below_floor n zero (suc r) e h = ap negsuc (omega arith)
-below_floor n (suc q) (suc r) e h = ap negsuc (omega arith)
+-- the machine's division rounds down: r is what it gives
+divided_down : (z : ℤ) → int_div_euclid z (pos 1048576) ≡ floor_div z 1048576
+divided_down (pos n) = refl
+divided_down (negsuc n) = refl
 
-floor_is : (z : ℤ) → quot_z z (pos 1048576) -ℤ pick (lt_z (rem_z z (pos 1048576)) (pos 0)) (pos 1) (pos 0) ≡ floor_div z 1048576
-floor_is (pos n) = rw (le-ltb (n % 1048576) 0 (omega arith)) (ap pos (omega arith))
-floor_is (negsuc n) = below_floor n (suc n / 1048576) (suc n % 1048576) (omega arith) (omega arith)
-
-quot_mag : (z : ℤ) → mag z < 2 ^ 63 → mag (quot_z z (pos 1048576)) < 2 ^ 63
-quot_mag (pos n) h = omega arith
-quot_mag (negsuc n) h = less (suc n / 1048576) (omega arith)
-  where
-    less : (q : ℕ) → q < 2 ^ 63 → mag (neg_ℤ (pos q)) < 2 ^ 63
-    less zero b = b
-    less (suc q) b = omega arith
-
-floor_mag : (z : ℤ) → mag z < 2 ^ 63 → mag (floor_div z 1048576) < 2 ^ 63
-floor_mag (pos n) h = omega arith
-floor_mag (negsuc n) h = omega arith
-
--- the same of the machine's numbers
-module _ (z : ℤ) (h : mag z < 2 ^ 63) where
-  pub quot_fits : SFits w64 (quot_z (to_z w64 (of_z w64 z)) (pos 1048576))
-  quot_fits = subst (λ (y : ℤ). SFits w64 (quot_z y (pos 1048576))) (sym (back z h refl)) (sfits_of (quot_mag z h))
-
-  module _ (up : ℤ) (b : mag up < 2 ^ 63)
-      (e : up ≡ pick (lt_z (to_z w64 (of_z w64 (rem_z (to_z w64 (of_z w64 z)) (pos 1048576)))) (pos 0)) (pos 1) (pos 0)) where
-    pub floored : to_z w64 (of_z w64 (quot_z (to_z w64 (of_z w64 z)) (pos 1048576))) -ℤ to_z w64 (of_z w64 up) ≡ floor_div z 1048576
-    floored =
-        let r : mag (rem_z z (pos 1048576)) < 2 ^ 63 = lt_of_le_of_lt (mag_rem z (pos 1048576)) h in
-        rw (back up b refl, e, back z h refl, back (quot_z z (pos 1048576)) (quot_mag z h) refl, back (rem_z z (pos 1048576)) r refl) (floor_is z)
-
-    pub floored_fits : SFits w64 (to_z w64 (of_z w64 (quot_z (to_z w64 (of_z w64 z)) (pos 1048576))) -ℤ to_z w64 (of_z w64 up))
-    floored_fits = subst (λ (y : ℤ). SFits w64 y) (sym floored) (sfits_of (floor_mag z h))
+pub floored : (z r : ℤ) → mag z < 2 ^ 63 → mag r < 2 ^ 63 → r ≡ int_div_euclid (to_z w64 (of_z w64 z)) (pos 1048576)
+    → to_z w64 (of_z w64 r) ≡ floor_div z 1048576
+floored z r h k e = back r k (e ∙ rw (back z h refl) (divided_down z))

@@ -12,17 +12,14 @@ ghost use Rattle.panel.specs.inner.Copied.{copy_of};
 use crate::FieldReading;
 use words::Refusal;
 
-// What the field of a bit shows in a record.
-fn read_record(rec: &[u32], bit: u32) -> FieldReading
-    requires { (length rec.now ≡ record_words) × (10 ≤ bit) × (bit ≤ 30) }
-    ensures { shown_in result ≡ record_shows bit rec.now }
+// The record of a stream.
+fn record_of(table: &[u32], stream: usize) -> &[u32]
+    requires { (stream < 32) × Has stream table.now }
+    ensures { (result.now ≡ record_at stream table.now) × (length result.now ≡ record_words) }
 {
-    if !record::inner::is_held(rec, bit) {
-        return FieldReading::Absent;
-    }
-    let at = record::inner::HEAD_WORDS + record::inner::slot_at(bit);
-    let end = at + fields::inner::field_size(bit);
-    crate::shows::show(bit, &rec[at..end])
+    let at = table::inner::record_at(stream);
+    let end = at + record::inner::RECORD_WORDS;
+    &table[at..end]
 }
 
 // What each field shows in a record: entry i is that of bit 30 - i. The place among the slots runs along.
@@ -32,12 +29,10 @@ fn read_all(rec: &[u32]) -> [FieldReading; 21]
 {
     let mut dials = [FieldReading::Absent; 21];
     let mut slot = 0;
-    let mut i = 0;
-    while i < 21 {
+    for i in 0..21 {
         let bit = 30 - i as u32;
         dials[i] = crate::shows::show_in(rec, bit, slot);
         slot += fields::inner::field_size(bit);
-        i += 1;
     }
     dials
 }
@@ -62,9 +57,7 @@ pub fn read_at(table: &[u32], stream: usize, bit: u32) -> FieldReading
     requires { (stream < 32) × Has stream table.now × (10 ≤ bit) × (bit ≤ 30) }
     ensures { shown_in result ≡ record_shows bit (record_at stream table.now) }
 {
-    let at = table::inner::record_at(stream);
-    let end = at + record::inner::RECORD_WORDS;
-    read_record(&table[at..end], bit)
+    crate::shows::show_in(record_of(table, stream), bit, record::inner::slot_at(bit))
 }
 
 // What the field of a bit, whose slot is at a place among the slots, shows in the record of a stream, for a loop over all fields.
@@ -72,9 +65,7 @@ pub fn show_at(table: &[u32], stream: usize, bit: u32, slot: usize) -> FieldRead
     requires { (stream < 32) × Has stream table.now × (10 ≤ bit) × (bit ≤ 30) × (slot ≡ slot_at bit) }
     ensures { shown_in result ≡ record_shows bit (record_at stream table.now) }
 {
-    let at = table::inner::record_at(stream);
-    let end = at + record::inner::RECORD_WORDS;
-    crate::shows::show_in(&table[at..end], bit, slot)
+    crate::shows::show_in(record_of(table, stream), bit, slot)
 }
 
 // What each field shows in the record of a stream.
@@ -82,9 +73,7 @@ pub fn read_all_at(table: &[u32], stream: usize) -> [FieldReading; 21]
     requires { (stream < 32) × Has stream table.now }
     ensures { map shown_in result ≡ record_readings (record_at stream table.now) }
 {
-    let at = table::inner::record_at(stream);
-    let end = at + record::inner::RECORD_WORDS;
-    read_all(&table[at..end])
+    read_all(record_of(table, stream))
 }
 
 // The words of a field that a stream holds, copied to the front of out.
@@ -92,7 +81,5 @@ pub fn copy_at(table: &[u32], stream: usize, bit: u32, out: &mut [u32]) -> Resul
     requires { (stream < 32) × Has stream table.now × (10 ≤ bit) × (bit ≤ 30) }
     ensures { Meets on_paper (copy_of (held_words_in bit (record_at stream table.now)) out.old) out.old result out.new }
 {
-    let at = table::inner::record_at(stream);
-    let end = at + record::inner::RECORD_WORDS;
-    copy_record(&table[at..end], bit, out)
+    copy_record(record_of(table, stream), bit, out)
 }

@@ -1,9 +1,7 @@
 // Numbers out of held words: signed numbers, whole hertz, and exact quotients as f32.
-ghost use Rattle.std.specs.Prelude.{◌≡◌, ◌≤◌, ◌<◌, ◌^◌, pos};
-ghost use Rattle.std.specs.Int.Signed.{lt_z};
+ghost use Rattle.std.specs.Prelude.{◌≡◌, ◌≤◌, ◌<◌, ◌^◌};
 ghost use Rattle.std.specs.Float.{binary32};
 ghost use Rattle.std.specs.Float.Ieee.{of_int, div};
-ghost use Rattle.words.specs.Tests.{pick};
 ghost use Rattle.words.specs.Signed.{twos_complement};
 ghost use Rattle.panel.specs.Values.{units_of, floor_div, over};
 
@@ -47,20 +45,9 @@ pub fn units(high: u32, low: u32) -> i64
     value_of(64, words::inner::high_first(high, low))
 }
 
-// What is to be taken off a quotient that was rounded towards zero, so that it is rounded down: 1 where the division left something below zero, and else 0.
-// -3 / 2 is -1 and leaves -1: rounded down it is -2.
-fn taken_off(left: i64) -> i64
-    ensures { result ≡ pick (lt_z left (pos 0)) (pos 1) (pos 0) }
-{
-    if left < 0 {
-        return 1;
-    }
-    0
-}
-
 // Whole hertz of units of 2^-20 hertz, rounded down.
 pub fn whole_hertz(z: i64) -> i64
     ensures { result ≡ floor_div z 1048576 }
 {
-    z / 0x10_0000 - taken_off(z % 0x10_0000)
+    z.div_euclid(0x10_0000)
 }

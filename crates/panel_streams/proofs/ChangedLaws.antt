@@ -1,12 +1,14 @@
 -- Fields that are not the same in two records. The idea: a word marked bit by bit has the bits whose tests hold, so a loop that marks one bit
 -- more goes from `marked k` to `marked (k + 1)`; and the held words of a field are parts of the two records at one place, of the same words where they are as
 -- many and none of them differs. The loop takes the place among the slots along, back from their end (`slot_back`).
-use Rattle.words.proofs.Kit.{◌≡◌, refl, sym, ap, ap₂, ◌∙◌, Bool, true, false, not, ⊎_elim, List, ℕ, ◌+◌, ◌-◌, ◌^◌, ◌≤◌, ◌<◌, arith}
+use Rattle.words.proofs.Kit.{◌≡◌, refl, sym, ap, ap₂, ◌∙◌, Bool, true, false, not, ⊎_elim, List, [], ◌∷◌, ℕ, ◌+◌, ◌-◌, ◌*◌, ◌^◌, ◌≤◌, ◌<◌, arith}
 use Rattle.words.proofs.Kit.{eq-eqb, ne_eqb, eqb-true, le-leb, lt-leb, not-true, not-false, eqb, leb, length, take, drop, get_or}
+use mathlib.Core.Bool.{◌&&◌}
 use borrow.Author.Tests.{leb-false}
 use native.Mathlib.Nat.{add-zero}
 use native.Mathlib.Numerals.{add-one}
 use lib.Seq.{ext_get_or}
+use lib.Pointwise.{pointwise}
 use lib.Pow.{pow_mono}
 use Rattle.words.specs.Numbers.{TABLE, STREAM}
 use Rattle.words.specs.Tests.{when, both, same_words}
@@ -109,36 +111,18 @@ module _ (word bit p : ℕ) (t : Bool) where
   pub bit_clear : t ≡ false → word ≡ word + when t (2 ^ bit)
   bit_clear e = rw (e, add-zero word)
 
--- ---- words that are the same in both, one after the other
-abbrev pub agree : ℕ → List ℕ → List ℕ → ℕ → Bool
-agree at a b i = eqb (get_or a (at + i) 0) (get_or b (at + i) 0)
+-- ---- words that are the same in both: what `==` answers of two lists
 
-module _ (a b : List ℕ) (at n : ℕ) (l : at + n ≤ length a) (m : at + n ≤ length b) where
-  parts_same : all n (agree at a b) ≡ same_words (part at n a) (part at n b)
-  parts_same =
-      same_test (all n (agree at a b)) (same_words (part at n a) (part at n b))
-      (λ h.
-      let e : part at n a ≡ part at n b =
-      ext_get_or 0 (part at n a) (part at n b) (part_length at n a l ∙ sym (part_length at n b m))
-      (λ i g.
-      let k : i < n = omega (arith, part_length at n a l) in
-      get_d_part at n i a k ∙ eqb-true _ _ (all_at (agree at a b) n i k h) ∙ sym (get_d_part at n i b k)) in
-      rw e (words_same (part at n b)))
-      (λ h.
-      let e = same_words_lem (part at n a) (part at n b) h in
-      all_intro (agree at a b) n
-      (λ i k. eq-eqb _ _ (sym (get_d_part at n i a k) ∙ ap (λ (ws : List ℕ). get_or ws i 0) e ∙ get_d_part at n i b k)))
-
-  module _ (i : ℕ) (p : Passing n (agree at a b) i) where
-    pub agree_end : n ≤ i → true ≡ same_words (part at n a) (part at n b)
-    agree_end h = passing_end p h ∙ parts_same
-
-    pub agree_fails : i < n → (get_or a (at + i) 0 ≡ get_or b (at + i) 0 → ⊥) → false ≡ same_words (part at n a) (part at n b)
-    agree_fails h x = sym (all_fails (agree at a b) n i h (ne_eqb _ _ x)) ∙ parts_same
-
-pub agree_turn : (a b : List ℕ) (at n i : ℕ) → Passing n (agree at a b) i → i < n → get_or a (at + i) 0 ≡ get_or b (at + i) 0
-    → Passing n (agree at a b) (i + 1)
-agree_turn a b at n i p h x = record { most = omega arith; before = all_more (agree at a b) i p.before (eq-eqb _ _ x) }
+equal_words : (xs ys : List ℕ) → pointwise eqb xs ys ≡ same_words xs ys
+unfolding same_words
+equal_words [] [] = refl
+equal_words [] (y ∷ ys) = refl
+equal_words (x ∷ xs) [] = refl
+equal_words (x ∷ xs) (y ∷ ys) = joined (eqb x y) (pointwise eqb xs ys) (same_words xs ys) (equal_words xs ys)
+  where
+    joined : (t s r : Bool) → s ≡ r → (t && s) ≡ both t r
+    joined true s r e = e
+    joined false s r e = refl
 
 -- ---- a field: h and g are whether the one record holds it and the other, n and m how many words they hold
 module _ (r q : List ℕ) (b z n m : ℕ) (h g : Bool) (l : length r ≡ record_words) (k : length q ≡ record_words) (lo : 10 ≤ b) (hi : b ≤ 30)
@@ -162,13 +146,31 @@ module _ (r q : List ℕ) (b z n m : ℕ) (h g : Bool) (l : length r ≡ record_
     pub field_fits : head_words + at < 2 ^ 64
     field_fits = omega (arith, l, field_inside)
 
+    pub field_offset : (head_words + at) * 4 < 2 ^ 64
+    field_offset = omega (arith, l, field_inside)
+
+    pub field_end : head_words + at + n < 2 ^ 64
+    field_end = omega (arith, l, field_inside)
+
     pub field_other : head_words + at + n ≤ length q
     field_other = held_most q b at z k lo hi ea ez n g eg (e ∙ em)
 
-    pub differs_words : (t : Bool) → t ≡ same_words (part (head_words + at) n r) (part (head_words + at) n q) → not t ≡ differs r q b
+    -- the n words that the program compares
+    abbrev there : List ℕ → List ℕ
+    there ws = take (head_words + at + n - (head_words + at)) (drop (head_words + at) ws)
+
+    pub differs_words : (t : Bool) → t ≡ not (pointwise eqb (there r) (there q)) → t ≡ differs r q b
     unfolding differs
     differs_words t f =
-        rw (slotted_all b lo (omega arith), held_part r b at z l lo hi ea ez n h eh en, held_part q b at z k lo hi ea ez n g eg (e ∙ em), f)
+        let place = head_words + at in
+        f ∙ rw (
+          equal_words (there r) (there q),
+          seen place (place + n) n r refl,
+          seen place (place + n) n q refl,
+          slotted_all b lo (omega arith),
+          held_part r b at z l lo hi ea ez n h eh en,
+          held_part q b at z k lo hi ea ez n g eg (e ∙ em),
+        )
 
 -- ---- records that are lent from their places on
 pub changed_lent : (t u : List ℕ) (s v at to word : ℕ) → at ≡ base s → to ≡ base v

@@ -1,5 +1,5 @@
--- Two outcomes that meet a public call's promise are equal. The idea: each `paper` has a left inverse. (Of `own_table` it is `on_paper_meets_once`, of `changed`
--- `on_paper_once`.)
+-- Two outcomes that meet a public call's promise are equal. The idea: each `paper` has a left inverse. (Of `own_table` it is `on_paper_meets_once`, of
+-- `changed` `on_paper_once`.)
 use Rattle.std.specs.Prelude.{Option, None, Some, Result}
 use Rattle.words.proofs.Kit.{◌≡◌, refl, List, ℕ}
 use Rattle.words.specs.declared.refusals.Refusal.{Refusal}

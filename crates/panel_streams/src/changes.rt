@@ -16,34 +16,13 @@ use words::Refusal;
 pub fn check(before: &[u32], stream: usize, after: &[u32], other: usize) -> Result<(), Refusal>
     ensures { on_paper result ≡ changed_checks before.now stream after.now other }
 {
-    if !table::well_made(before) {
+    if !table::well_made(before) || !table::well_made(after) {
         return Err(Refusal::Table);
     }
-    if !table::well_made(after) {
-        return Err(Refusal::Table);
-    }
-    if table::inner::streams(before) <= stream {
-        return Err(Refusal::Stream);
-    }
-    if table::inner::streams(after) <= other {
+    if table::inner::streams(before) <= stream || table::inner::streams(after) <= other {
         return Err(Refusal::Stream);
     }
     Ok(())
-}
-
-// Whether the n words from a place on are the same in both.
-fn same_part(one: &[u32], other: &[u32], at: usize, n: usize) -> bool
-    requires { (at + n ≤ length one.now) × (at + n ≤ length other.now) }
-    ensures { result ≡ same_words (part at n one.now) (part at n other.now) }
-{
-    let mut i = 0;
-    while i < n {
-        if one[at + i] != other[at + i] {
-            return false;
-        }
-        i += 1;
-    }
-    true
 }
 
 // Whether the words that two records hold for the field of a bit, whose slot is at a place among the slots and has so many words, are not the same.
@@ -57,7 +36,8 @@ fn field_differs(one: &[u32], other: &[u32], bit: u32, slot: usize, size: usize)
         return true;
     }
     let at = record::inner::HEAD_WORDS + slot;
-    !same_part(one, other, at, n)
+    let end = at + n;
+    one[at..end] != other[at..end]
 }
 
 // A word below the weight of a bit, with that bit set where a test holds.
@@ -78,12 +58,10 @@ fn changed_fields(one: &[u32], other: &[u32]) -> u32
 {
     let mut word = 0;
     let mut slot = record::inner::SLOT_WORDS;
-    let mut bit = 10;
-    while bit < 31 {
+    for bit in 10..31 {
         let size = fields::inner::field_size(bit);
         slot -= size;
         word = mark(word, bit, field_differs(one, other, bit, slot, size));
-        bit += 1;
     }
     word
 }

@@ -44,19 +44,7 @@ pub fn identity_at(table: &[u32], stream: usize) -> Identity
 fn is_counted(kind: u32) -> bool
     ensures { result ≡ among kind counted_types }
 {
-    if kind == 1 {
-        return true;
-    }
-    if kind == 3 {
-        return true;
-    }
-    if kind == 4 {
-        return true;
-    }
-    if kind == 5 {
-        return true;
-    }
-    false
+    matches!(kind, 1 | 3 | 4 | 5)
 }
 
 // The count of a type in the record of a stream; nothing where none of it came.

@@ -4,31 +4,18 @@ ghost use Rattle.std.specs.Prelude.{◌≤◌, ◌<◌};
 use std::io;
 use std::io::Write;
 
-// A magnitude in 128ths, where it is a whole number of them.
-#[derive(Clone, Copy)]
-enum Parts {
-    Exact(u32),
-    Inexact,
-}
-
-// The 128ths of a float by its pattern without the sign. The fields stand for (2^23 + fraction) * 2^(exponent - 150), and zero has zero fields.
-fn parts_of(pattern: u32) -> Parts {
+// The 128ths of a float by its pattern without the sign, where it is a whole number of them. The fields stand for (2^23 + fraction) * 2^(exponent - 150), and
+// zero has zero fields.
+fn parts_of(pattern: u32) -> Option<u32> {
     if pattern == 0 {
-        return Parts::Exact(0);
+        return Some(0);
     }
-    let exponent = pattern / 0x80_0000;
-    if 143 < exponent {
-        return Parts::Inexact;
-    }
-    let dropped = 143 - exponent;
-    if 23 < dropped {
-        return Parts::Inexact;
-    }
+    let dropped = 143u32.checked_sub(pattern / 0x80_0000)?;
     let significand = 0x80_0000 + pattern % 0x80_0000;
-    if significand.trailing_zeros() < dropped {
-        return Parts::Inexact;
+    if 23 < dropped || significand.trailing_zeros() < dropped {
+        return None;
     }
-    Parts::Exact(significand >> dropped)
+    Some(significand >> dropped)
 }
 
 // The digit of n that counts p.
@@ -74,9 +61,8 @@ pub fn print(output: &mut impl Write, x: f32, places: usize) -> io::Result<()>
         return lines::inner::text(output, b"nan");
     }
     let pattern = x.to_bits();
-    let parts = parts_of(pattern % 0x8000_0000);
-    match parts {
-        Parts::Exact(n) => print_parts(output, 0x8000_0000 <= pattern, n, places),
-        Parts::Inexact => lines::inner::text(output, b"inexact"),
+    match parts_of(pattern % 0x8000_0000) {
+        Some(n) => print_parts(output, 0x8000_0000 <= pattern, n, places),
+        None => lines::inner::text(output, b"inexact"),
     }
 }

@@ -152,3 +152,6 @@ module _ (first second n : ℕ) where
   pub needed_accepted : (m : ℕ) → accepted tt ≡ items_check first second n → m ≡ words_for first n → accepted m ≡ needed_of first second n
   unfolding needed_of items_check
   needed_accepted m fine w = ap accepted w ∙ sym (first_fine (needed_list first second n) tt tt _ (sym fine))
+
+-- for `words_for`
+pub ruleset sizes = (carry_some, carry_most, field_most)

@@ -1,9 +1,9 @@
 -- A group of items, multiplied out in either order. The idea: a size is 1 to 2 ^ 16, and a sample has one component or two, so every product on the way is
 -- above 0, and 64 bits hold it.
-use Rattle.words.proofs.Kit.{◌≡◌, ℕ, ◌*◌, ◌^◌, ◌≤◌, ◌<◌, arith}
+use Rattle.words.proofs.Kit.{◌≡◌, ℕ, ◌*◌, ◌^◌, ◌≤◌, ◌<◌, ◌%◌, true, not, eqb, le-ltb, lt-ltb, arith}
 use native.Mathlib.Nat.{mul-le-mul, mul-pos, mul_right_comm}
 use Rattle.payload_format.specs.Format.{vector_size, repeat_size, component_count}
-use Rattle.payload_format.specs.Count.{group_of}
+use Rattle.payload_format.specs.Count.{group_of, count_bad}
 
 -- ---- the factors
 pub record Factor (x : ℕ) : Type 0 where
@@ -51,3 +51,21 @@ module _ (first second v r c : ℕ) (a : v ≡ vector_size second) (b : r ≡ re
   group_once z =
       let h = rw z at group_turned in
       omega arith
+
+pub ruleset products = (two_fit, three_fit, three_some, group_made)
+
+-- ---- COUNT of n items, by either division
+module _ (first second v r c : ℕ) (a : v ≡ vector_size second) (b : r ≡ repeat_size second) (e : c ≡ component_count first) (n : ℕ) where
+  pub count_over : 2097120 < n → true ≡ count_bad first second n
+  unfolding count_bad
+  count_over h = rw (lt-ltb 2097120 n h)
+
+  pub count_items : n ≤ 2097120 → not (eqb (n % (v * c * r)) 0) ≡ count_bad first second n
+  unfolding count_bad
+  count_items few = rw (group_turned first second v r c a b e, le-ltb 2097120 n few)
+
+  pub count_once : n ≤ 2097120 → r ≡ 1 → not (eqb (n % (v * c)) 0) ≡ count_bad first second n
+  unfolding count_bad
+  count_once few z = rw (group_once first second v r c a b e z, le-ltb 2097120 n few)
+
+pub ruleset count_laws = (two_some, two_fit, three_some, three_fit, count_over, count_once)

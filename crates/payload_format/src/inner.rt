@@ -10,7 +10,8 @@ ghost use Rattle.payload_format.specs.inner.Checked.{items_check};
 use fields::inner::{channel_size, event_size, format_ok, item_size, packing_size, real_complex};
 use words::Refusal;
 
-// The sizes of a packing, in bits: how many of each word carry fields, and those of a field and its parts.
+// The sizes of a packing, in bits: how many of each word carry fields, and those of a field and its parts. They are those of any format, refused or not, so the
+// type has no invariant; what is known of a format that is not refused is `Legal`, a clause of those that need it.
 #[derive(Clone, Copy)]
 pub struct Packing {
     pub carry: usize,
@@ -49,6 +50,7 @@ pub fn vector_size(second: u32) -> u32
 }
 
 // How many components a sample has.
+#[tactic(auto, unfolding(crate::specs::Format::component_count))]
 pub fn component_count(first: u32) -> u32
     ensures { (result ≡ component_count first) × (0 < result) × (result ≤ 2) }
 {
@@ -59,6 +61,7 @@ pub fn component_count(first: u32) -> u32
 }
 
 // Whether a format is processing-efficient with a field of 33 to 63 bits.
+#[tactic(auto, unfolding(crate::specs::Format::wide_processing))]
 fn wide_processing(first: u32) -> bool
     ensures { result ≡ wide_processing first }
 {
@@ -70,16 +73,15 @@ fn wide_processing(first: u32) -> bool
 }
 
 // Whether a format is refused.
+#[tactic(auto, unfolding(crate::specs::Format::format_bad))]
 fn format_bad(first: u32) -> bool
     ensures { result ≡ format_bad first }
 {
-    if !format_ok(first) {
-        return true;
-    }
-    wide_processing(first)
+    !format_ok(first) || wide_processing(first)
 }
 
 // How many bits of each word carry packing fields.
+#[tactic(auto, unfolding(crate::specs::Format::carried_bits))]
 fn carry(first: u32) -> usize
     ensures { (result ≡ carried_bits first) × (result ≤ 32) }
 {
@@ -94,6 +96,7 @@ fn carry(first: u32) -> usize
 }
 
 // The sizes that a format gives.
+#[tactic(auto, unfolding(crate::specs::Format::packing_of))]
 pub fn packing_of(first: u32) -> Packing
     ensures { result ≡ packing_of first }
 {
@@ -107,6 +110,7 @@ pub fn packing_of(first: u32) -> Packing
 }
 
 // The group of items that the number of items is a multiple of: up to 2 ^ 33 items, which 64 bits hold.
+#[tactic(auto, using(crate::proofs::GroupLaws::factors, crate::proofs::GroupLaws::products))]
 pub fn group(first: u32, second: u32) -> usize
     ensures { (result ≡ group_of first second) × (0 < result) }
 {
@@ -116,6 +120,7 @@ pub fn group(first: u32, second: u32) -> usize
 
 // Whether a number of items is refused. A format that repeats nothing, as most do, has a division of its own: its group is small, and the compiler divides in
 // 32 bits.
+#[tactic(auto, using(crate::proofs::GroupLaws::factors, crate::proofs::GroupLaws::count_laws))]
 fn count_bad(first: u32, second: u32, n: usize) -> bool
     ensures { result ≡ count_bad first second n }
 {
@@ -140,6 +145,7 @@ pub fn words_of(c: usize, f: usize, n: usize) -> usize
 }
 
 // The words that n items take under a format.
+#[tactic(auto, using(crate::proofs::FormatLaws::sizes, crate::proofs::FormatLaws::words_for_lem), unfolding(crate::specs::Format::packing_of))]
 pub fn words_for(first: u32, n: usize) -> usize
     requires { n ≤ 2097120 }
     ensures { result ≡ words_for first n }

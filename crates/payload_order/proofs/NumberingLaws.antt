@@ -1,5 +1,5 @@
 -- The answers of the two calls, by what `items_check` found of the format and n; what is let through is small enough for the sums of the code.
-use Rattle.words.proofs.Kit.{◌≡◌, refl, sym, ◌∙◌, ap, Bool, true, false, [], ◌∷◌, ℕ, ◌/◌, ◌^◌, ◌≤◌, ◌<◌, arith, eqb, leb, le-leb, lt-leb}
+use Rattle.words.proofs.Kit.{◌≡◌, refl, sym, ◌∙◌, Bool, true, false, [], ◌∷◌, ℕ, ◌/◌, ◌≤◌, ◌<◌, arith, eqb, leb, le-leb, lt-leb}
 use native.Mathlib.Nat.{div-le_self}
 use borrow.Author.Tests.{leb-false}
 use Rattle.words.specs.Tests.{pick}
@@ -99,3 +99,8 @@ module _ (first second n : ℕ) where
         pub item_found : (item : ℕ) → item ≡ item_under first second at → accepted item ≡ item_of first second n at
         unfolding item_of
         item_found item is = rw (asked_first (outside first second n at), ← fine, ← o, h, is)
+
+-- for `coordinates_of`, and for `item_at`
+pub ruleset from_item = (coordinates_asked, no_item, coordinates_found)
+
+pub ruleset back = (item_asked, none_there, time_small, channel_small, component_small, repeat_small, item_found)

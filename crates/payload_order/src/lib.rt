@@ -21,7 +21,7 @@ pub struct Coordinates {
 }
 
 // The coordinates of an item among n; FORMAT and COUNT as in packing, then VALUE for an item that is not below n.
-#[tactic(auto, using(crate::proofs::NumberingLaws::coordinates_asked, crate::proofs::NumberingLaws::no_item, crate::proofs::NumberingLaws::coordinates_found))]
+#[tactic(auto, using(crate::proofs::NumberingLaws::from_item))]
 pub fn coordinates_of(
     first: u32,
     second: u32,
@@ -38,7 +38,7 @@ pub fn coordinates_of(
 }
 
 // The item among n that has these coordinates; FORMAT and COUNT as in packing, then VALUE for a coordinate outside its range.
-#[tactic(auto, using(crate::proofs::NumberingLaws::item_asked, crate::proofs::NumberingLaws::none_there, crate::proofs::NumberingLaws::time_small, crate::proofs::NumberingLaws::channel_small, crate::proofs::NumberingLaws::component_small, crate::proofs::NumberingLaws::repeat_small, crate::proofs::NumberingLaws::item_found))]
+#[tactic(auto, using(crate::proofs::NumberingLaws::back))]
 pub fn item_at(first: u32, second: u32, n: usize, at: Coordinates) -> Result<usize, Refusal>
     ensures { on_paper result ≡ item_of first second n at }
 {

@@ -6,6 +6,7 @@ use crate::Coordinates;
 use payload_format::inner::{component_count, component_repeat, group, repeat_size, vector_size};
 
 // The coordinates of an item, which 32 bits hold.
+#[tactic(auto, unfolding(crate::specs::Order::item_coordinates))]
 pub fn coordinates_under(first: u32, second: u32, item: u32) -> Coordinates
     ensures { result ≡ coordinates_under first second item }
 {
@@ -31,6 +32,7 @@ pub fn coordinates_under(first: u32, second: u32, item: u32) -> Coordinates
 }
 
 // Whether a coordinate is outside its range, among n items.
+#[tactic(auto, unfolding(crate::specs::Numbering::outside))]
 pub fn is_outside(first: u32, second: u32, n: usize, at: Coordinates) -> bool
     ensures { result ≡ outside first second n at }
 {
@@ -47,6 +49,7 @@ pub fn is_outside(first: u32, second: u32, n: usize, at: Coordinates) -> bool
 }
 
 // The item of coordinates.
+#[tactic(auto, unfolding(crate::specs::Order::item_number))]
 pub fn item_under(first: u32, second: u32, at: Coordinates) -> usize
     requires { (at.time < 2097120) × (at.channel < 65536) × (at.component < 2) × (at.repeat < 65536) }
     ensures { result ≡ item_under first second at }

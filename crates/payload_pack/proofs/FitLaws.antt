@@ -1,5 +1,5 @@
 -- Numbers that fit, tested all at once. The idea: a number is at most the bits that any of them has, so all are below a power of two where those are.
-use Rattle.words.proofs.Kit.{◌≡◌, refl, sym, ap, ◌∙◌, Bool, true, ⊎_elim, List, ℕ, zero, suc, ◌+◌, ◌^◌, ◌≤◌, ◌<◌, arith, get_or, length, take, ltb, lt-ltb, le-ltb}
+use Rattle.words.proofs.Kit.{◌≡◌, refl, sym, ap, ◌∙◌, Bool, true, ⊎_elim, List, ℕ, zero, suc, ◌^◌, ◌≤◌, ◌<◌, arith, get_or, length, take, ltb, lt-ltb, le-ltb}
 use native.Mathlib.Numerals.{add-one}
 use Rattle.std.specs.List.{fold}
 use Rattle.std.proofs.lemmas.List.{take_all}

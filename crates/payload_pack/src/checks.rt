@@ -7,7 +7,8 @@ ghost use Rattle.payload_pack.specs.inner.Packable.{pack_check};
 use payload_format::inner::{items_check, words_for};
 use words::Refusal;
 
-// Whether all items fit w bits, by the bits that any of them has.
+// Whether all items fit w bits, by the bits that any of them has. The numbers of the three lists differ in their type, and each list is joined in its own, many
+// numbers in an instruction; a type parameter would have no number that `fitting` could speak of.
 fn items_fit(w: usize, items: &[u64]) -> bool
     requires { (1 ≤ w) × (w ≤ 64) }
     ensures { result ≡ fitting w items.now }
@@ -32,6 +33,7 @@ fn channels_fit(w: usize, channels: &[u16]) -> bool
 }
 
 // Whether an item or a tag does not fit its size.
+#[tactic(auto, unfolding(crate::specs::Pack::value_bad))]
 fn value_bad(first: u32, items: &[u64], events: &[u8], channels: &[u16]) -> bool
     ensures { result ≡ value_bad first items.now events.now channels.now }
 {

@@ -1,4 +1,4 @@
-// The words of packing fields.
+// The words of packing fields. The lists stay parameters on the way down, as `pack` is lent them: `pack_items` takes one of them, and a loop reads each by itself.
 ghost use Rattle.std.specs.Prelude.{◌≡◌, ◌-◌, ◌*◌, ◌^◌, ◌<◌, length, get_or};
 ghost use Rattle.bitstream.specs.Carried.{needed, word_of};
 ghost use Rattle.bitstream.specs.Filled.{filled};

@@ -1,8 +1,7 @@
 -- The parts of fields in three buffers. The idea: a loop that writes the parts of one field after the other fills the three alike (`Parts`), however it
 -- comes by the field.
 use Rattle.words.proofs.Kit.{◌≡◌, ap, ◌∙◌, List, ℕ, ◌+◌, ◌-◌, ◌/◌, ◌^◌, ◌≤◌, ◌<◌, length, set}
-use Rattle.bitstream.specs.Filled.{filled}
-use Rattle.bitstream.proofs.FilledLaws.{Fills, fills_none, fills_start, fills_turn, fills_end, fills_all, filled_twice}
+use Rattle.bitstream.proofs.FilledLaws.{Fills, fills_none, fills_turn, fills_all, filled_twice}
 use Rattle.payload_format.specs.declared.inner.Packing.{Packing}
 use Rattle.payload_format.specs.Field.{field_in, item_in, event_in, channel_in}
 use Rattle.payload_unpack.specs.Unpack.{buffers, unpacked}
@@ -13,10 +12,6 @@ pub record Parts (p : Packing) (ws : List ℕ) (a n k : ℕ) (items events chann
   pub item : Fills a n k (λ j. item_in p (field_in p ws j)) items items'
   pub event : Fills a n k (λ j. event_in p (field_in p ws j)) events events'
   pub channel : Fills a n k (λ j. channel_in p (field_in p ws j)) channels channels'
-
-module _ (p : Packing) (ws : List ℕ) (a n : ℕ) (items events channels : List ℕ) where
-  pub parts_start : a ≤ n → n ≤ length items → n ≤ length events → n ≤ length channels → Parts p ws a n a items events channels items events channels
-  parts_start q i e c = record { item = fills_start a n _ items q i; event = fills_start a n _ events q e; channel = fills_start a n _ channels q c }
 
 module _ (p : Packing) (ws : List ℕ) (n : ℕ) (items events channels : List ℕ) where
   pub parts_none : n ≤ length items → n ≤ length events → n ≤ length channels → Parts p ws 0 n 0 items events channels items events channels
@@ -32,9 +27,6 @@ module _ {p : Packing} {ws : List ℕ} {a n k : ℕ} {items events channels item
     event = fills_turn f.event q (y ∙ ap (event_in p) x);
     channel = fills_turn f.channel q (z ∙ ap (channel_in p) x);
   }
-
-  pub parts_end : n ≤ k → UnpackedOn p a n ws (buffers items events channels) (buffers items' events' channels')
-  parts_end q = record { items = fills_end f.item q; events = fills_end f.event q; channels = fills_end f.channel q }
 
 module _ {p : Packing} {ws : List ℕ} {n k : ℕ} {items events channels items' events' channels' : List ℕ}
     (f : Parts p ws 0 n k items events channels items' events' channels') where

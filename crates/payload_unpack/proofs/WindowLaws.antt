@@ -1,7 +1,7 @@
 -- Fields read by their places. The idea: n bits from bit o of a word on are those of the words that hold n bits, without their first o, and then the
 -- first o bits of the next word (`window`); a field is the front of such bits, and its item is the front of the field (`item_here`, `field_here`).
 use Rattle.words.proofs.Kit.{◌≡◌, refl, sym, ap, ap₂, ◌∙◌, subst, List, ℕ, ◌+◌, ◌-◌, ◌*◌, ◌/◌, ◌%◌, ◌^◌, ◌≤◌, ◌<◌, arith, get_or, length, set}
-use native.Mathlib.Nat.{div-one, zero-div, add-zero, div-add-mod', mod-eq_of_lt, add-mul, mul_comm, mod-lt, mul-le-mul_left, mul-le-mul_right, lt_of_mul-lt-mul_right}
+use native.Mathlib.Nat.{div-one, zero-div, add-zero, div-add-mod', mod-eq_of_lt, add-mul, mul_comm, mod-lt, mul-le-mul_left, mul-le-mul_right}
 use lib.ListN.{get_or-eq_default}
 use lib.Pow.{shr_le, shr_lt, shr-shr}
 use Rattle.words.proofs.Kit.{⊎_elim}
@@ -202,10 +202,6 @@ module _ {p : Packing} {n room : ℕ} {ws : List ℕ} (u : Placed p n ws room) w
 
       pub item_last : v / 2 ^ (32 - p.item) ≡ item_in p (field_in p ws k)
       item_last = item_here k v in_last
-
-  -- the same with places for the items that are another list, as long
-  pub placed_still : {other : ℕ} → other ≡ room → Placed p n ws other
-  placed_still e = rw e u
 
 -- ---- fields of more than 32 bits
 module _ {p : Packing} {n room : ℕ} {ws : List ℕ} (u : Unpackable p n ws room) (wide : 32 < p.field) where

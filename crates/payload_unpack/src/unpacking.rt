@@ -1,4 +1,5 @@
-// Unpacking: items and their tags from words.
+// Unpacking: items and their tags from words. The buffers stay parameters on the way down, as `unpack` is lent them: each loop writes one or all three of them
+// by themselves, so a struct of them would be made only to be taken apart.
 ghost use Rattle.std.specs.Prelude.{◌≡◌, ◌≤◌, length};
 ghost use Rattle.words.specs.Listed.{on_paper};
 ghost use Rattle.words.specs.Outcome.{Meets};

@@ -25,7 +25,7 @@ fn join(high: u32, low: u32, o: usize) -> u32
     (high << o) + ((low >> 1) >> (31 - o))
 }
 
-// The same of two words and the next.
+// The same of two words and the next. The two stay apart: `join` is compiled to one instruction, which takes its bits from two words of 32 bits.
 fn join_wide(high: u64, low: u32, o: usize) -> u64
     requires { o < 32 }
     ensures { result ≡ high * 2 ^ o % 2 ^ 64 + low / 2 ^ (32 - o) }
@@ -58,7 +58,7 @@ pub fn bits_last(word: u32, b: usize) -> u32
     word << (b % 32)
 }
 
-// The 64 bits from bit b on.
+// The 64 bits from bit b on, of three words where `bits` takes two.
 pub fn bits_wide(payload: &[u32], b: usize) -> u64
     requires { b + 64 < length payload.now * 32 }
     ensures { result ≡ span 32 (stream_bits 32 payload.now) b 64 }

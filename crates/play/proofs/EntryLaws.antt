@@ -1,6 +1,6 @@
 -- The entry of one packet. The idea: what is refused or heard of a packet, as an entry's numbers, is `entry_of` of what play says; and it says no less, since a
 -- refusal has a number (`read_listed`), and a walk goes on behind a packet that was read, which has a word (`Whole`, `step_whole`).
-use Rattle.std.specs.Prelude.{Result, Err}
+use Rattle.std.specs.Prelude.{Result, Err, Option, Some, None}
 use Rattle.words.proofs.Kit.{◌≡◌, refl, sym, ap, subst, ◌∙◌, Bool, true, false, not, ⊎_elim, List, ℕ, ◌+◌, ◌-◌, ◌^◌, ◌<◌, arith, rules, eq-eqb, ne_eqb}
 use Rattle.words.proofs.Kit.{eqb-true, eqb, length, take, drop, get_or}
 use native.Mathlib.Nat.{mod-lt}
@@ -9,7 +9,7 @@ use Rattle.words.specs.declared.RefusedAt.{RefusedAt}
 use Rattle.words.specs.declared.Where.{Where}
 use Rattle.words.specs.declared.Where.TheVariants.{Nowhere, Word}
 use Rattle.words.specs.Numbers.{STREAM}
-use Rattle.words.specs.Tests.{when}
+use Rattle.words.specs.Tests.{pick, when}
 use Rattle.words.specs.Outcome.{Outcome, refused, accepted, onward, Done, said_of, left_of, Meets}
 use Rattle.words.specs.Listed.{IsListed}
 use Rattle.words.specs.Told.{Told, told, told_paper, refusal, place_word, place_bit}
@@ -28,6 +28,7 @@ use Rattle.packet.proofs.InsideLaws.{PlaceTold, placeable, place_told, stream_to
 use Rattle.table.specs.Well.{well_made}
 use Rattle.play.specs.declared.Heard.{Heard}
 use Rattle.play.specs.declared.run.Entry.{Entry}
+use Rattle.play.specs.declared.step.Happened.{Happened}
 use Rattle.play.specs.Play.{heard_of, table_after, chosen, step_of, play_of, play_told}
 use Rattle.play.specs.inner.Steps.{sought_of}
 use Rattle.play.specs.Run.{goes_on, said_at, left_at, next_of, Stepped, entry_of, entry_at, words_of_entry}
@@ -260,7 +261,30 @@ module _ (t ws : List ℕ) where
   unfolding said_at left_at
   play_made x r left w y i = record { answer = i ∙ said_by_lem w y; buffer = y.table }
 
-pub entered_stepped : (t ws left : List ℕ) (at : ℕ) (x : Entry) (answer : Result Heard RefusedAt) → well_made t ≡ true → Entered t ws at x left
-    → told_paper answer ≡ said_by x
-    → Stepped t ws at (record { answer = answer; continues = not (eqb x.size 0); next = at + x.size }) left
-entered_stepped t ws left at x answer w y i = record { answer = i ∙ said_by_lem w y; on = size_on w y; next = size_next w y; table = y.table }
+module _ (t ws left : List ℕ) (at : ℕ) (x : Entry) (answer : Result Heard RefusedAt) (w : well_made t ≡ true) (y : Entered t ws at x left)
+    (i : told_paper answer ≡ said_by x) where
+  pub stepped_on : (x.size ≡ 0 → ⊥) → Stepped t ws at (record { answer = answer; next = Some (at + x.size) }) left
+  stepped_on z = record {
+    answer = i ∙ said_by_lem w y;
+    next = rw (← size_on w y, ne_eqb x.size 0 z, size_next w y);
+    table = y.table;
+  }
+
+  pub stepped_last : x.size ≡ 0 → Stepped t ws at (record { answer = answer; next = None }) left
+  stepped_last z = record { answer = i ∙ said_by_lem w y; next = rw (← size_on w y, z); table = y.table }
+
+-- what a step's next place tells: whether the walk goes on
+some_picked : (b : Bool) (n m : ℕ) → ◌≡◌ {A = Option ℕ} (Some n) (pick b (Some m) None) → (b ≡ true) × (n ≡ m)
+some_picked true n m e = (refl, cc)
+some_picked false n m e = let z : ◌≡◌ {A = ℕ} 0 1 = cc in absurd (omega arith)
+
+none_picked : (b : Bool) (m : ℕ) → ◌≡◌ {A = Option ℕ} None (pick b (Some m) None) → b ≡ false
+none_picked true m e = let z : ◌≡◌ {A = ℕ} 0 1 = cc in absurd (omega arith)
+none_picked false m e = refl
+
+module _ {t ws left : List ℕ} {at : ℕ} {s : Happened} (k : Stepped t ws at s left) where
+  pub step_goes : (n : ℕ) → s.next ≡ Some n → (goes_on (said_at t ws at) ≡ true) × (n ≡ next_of t ws at)
+  step_goes n e = some_picked (goes_on (said_at t ws at)) n (next_of t ws at) (sym e ∙ k.next)
+
+  pub step_stops : s.next ≡ None → goes_on (said_at t ws at) ≡ false
+  step_stops e = none_picked (goes_on (said_at t ws at)) (next_of t ws at) (sym e ∙ k.next)

@@ -1,7 +1,7 @@
 -- A run of packets. The idea: after n turns of the run the entries so far, then the walk that is left, are the whole walk (`Running`), and a turn takes one
 -- packet of it (`turned`, `stopped`). A run with room for one entry has that of the packet at its place, and EMPTY's where no word is left (`one_entered`).
 use Rattle.std.specs.Prelude.{Ok, Err}
-use Rattle.words.proofs.Kit.{◌≡◌, refl, sym, ap, ◌∙◌, Bool, true, false, ⊎_elim, List, [], ◌∷◌, ◌++◌, ℕ, zero, suc, ◌+◌, ◌-◌, ◌*◌, ◌/◌, ◌≤◌, ◌<◌}
+use Rattle.words.proofs.Kit.{◌≡◌, refl, sym, ap, subst, ◌∙◌, Bool, true, false, ⊎_elim, List, [], ◌∷◌, ◌++◌, ℕ, zero, suc, ◌+◌, ◌-◌, ◌*◌, ◌/◌, ◌≤◌, ◌<◌}
 use Rattle.words.proofs.Kit.{arith, ne_eqb, le-leb, lt-leb, length, take, drop, get_or, set}
 use mathlib.Core.List.{append_assoc, append-nil}
 use native.Mathlib.Nat.{zero-add, add-zero}
@@ -130,6 +130,14 @@ running_end {most} {from} {at} {n} {ws} {t₀} {buffer₀} {t} {buffer} p room =
       table = ap (λ (w : Walk). w.table) (sym e);
       answers = p.wrote ∙ ap (λ (m : ℕ). p.entries ++ drop m buffer₀) (sym p.size) ∙ ap (λ (w : Walk). answers_of w buffer₀) (sym e);
     }
+
+-- where the answers are full
+pub running_all : {most from at n : ℕ} {ws t₀ buffer₀ t buffer : List ℕ} → Running most ws from t₀ buffer₀ t buffer n (walk_of (most - n) ws at t) → most ≤ n
+    → most ≡ length buffer₀ / entry_words → WalkDone (whole_walk t₀ ws from buffer₀) buffer₀ (record { packets = most; next = at }) t buffer
+running_all {most} {from} {at} {n} {ws} {t₀} {buffer₀} {t} {buffer} p h room =
+    let e : n ≡ most = omega (arith, p.few) in
+    let P : ℕ → Type 0 = λ m. WalkDone (whole_walk t₀ ws from buffer₀) buffer₀ (record { packets = m; next = at }) t buffer in
+    subst P e (running_end (running_full p h) room)
 
 -- ---- a turn of the run, from what its calls ensure
 

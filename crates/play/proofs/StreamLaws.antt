@@ -30,10 +30,8 @@ use Rattle.play.specs.inner.Entered.{declared_of, Sized, Headed, sought_in, chos
 
 -- ---- the stream of an identifier
 
--- streams 0 to s - 1 of the n have another identifier
-pub record Seeking (t : List ℕ) (identifier n s : ℕ) : Type 0 where
-  pub below : s < n
-  pub streams : n ≡ streams_of t
+-- streams 0 to s - 1 have another identifier
+pub record Seeking (t : List ℕ) (identifier s : ℕ) : Type 0 where
   pub others : (i : ℕ) → i < s → eqb (declared t i) identifier ≡ false
 
 -- a table that is well made has a word, the number of its streams
@@ -44,34 +42,30 @@ module _ (t : List ℕ) (w : well_made t ≡ true) where
   pub table_few : get_or t 0 0 < 2 ^ 64
   table_few = omega (arith, well_few t w)
 
-pub seeking_start : (t : List ℕ) (identifier n : ℕ) → well_made t ≡ true → n ≡ streams_of t → Seeking t identifier n 0
-seeking_start t identifier n w e = record { below = omega (arith, (well_of t w).list.some); streams = e; others = λ i h. absurd (omega arith) }
+pub seeking_start : (t : List ℕ) (identifier : ℕ) → Seeking t identifier 0
+seeking_start t identifier = record { others = λ i h. absurd (omega arith) }
 
-pub seeking_small : (t : List ℕ) (identifier n s : ℕ) → Seeking t identifier n s → well_made t ≡ true → s < 2 ^ 32
-seeking_small t identifier n s p w = omega (arith, p.below, p.streams, well_few t w)
+pub seeking_small : (t : List ℕ) (s : ℕ) → well_made t ≡ true → s < get_or t 0 0 → s < 2 ^ 32
+seeking_small t s w b = omega (arith, well_few t w)
 
-module _ (t : List ℕ) (identifier n s at : ℕ) (p : Seeking t identifier n s) (e : at ≡ base s) where
+module _ (t : List ℕ) (identifier s at : ℕ) (p : Seeking t identifier s) (b : s < get_or t 0 0) (e : at ≡ base s) where
   pub seeking_inside : well_made t ≡ true → at < length t
-  seeking_inside w = omega (arith, p.below, p.streams, well_whole t w)
+  seeking_inside w = omega (arith, well_whole t w)
 
   pub seeking_found : get_or t at 0 ≡ identifier → accepted s ≡ declared_of identifier t
   seeking_found i =
-      let f : s ≡ stream_of identifier t = stream_found t identifier s n p.streams p.others p.below (rw e at i) in
-      let g : stream_of identifier t < streams_of t = omega (arith, p.below, p.streams) in
+      let f : s ≡ stream_of identifier t = stream_found t identifier s (get_or t 0 0) refl p.others b (rw e at i) in
+      let g : stream_of identifier t < streams_of t = omega arith in
       rw (lt-leb (streams_of t) (stream_of identifier t) g, f)
 
-  module _ (o : get_or t at 0 ≡ identifier → ⊥) where
-    others_too : (i : ℕ) → i < s + 1 → eqb (declared t i) identifier ≡ false
-    others_too = none_more t identifier s p.others (ne_eqb (declared t s) identifier (rw e at o))
+  pub seeking_turn : (get_or t at 0 ≡ identifier → ⊥) → Seeking t identifier (s + 1)
+  seeking_turn o = record { others = none_more t identifier s p.others (ne_eqb (declared t s) identifier (rw e at o)) }
 
-    pub seeking_turn : (s + 1 ≡ n → ⊥) → Seeking t identifier n (s + 1)
-    seeking_turn m = record { below = omega (arith, p.below); streams = p.streams; others = others_too }
-
-    pub seeking_none : s + 1 ≡ n → refused STREAM ≡ declared_of identifier t
-    seeking_none m =
-        let f : n ≡ stream_of identifier t = stream_none t identifier (s + 1) n p.streams others_too m in
-        let g : streams_of t ≤ stream_of identifier t = omega (arith, p.streams) in
-        rw (le-leb (streams_of t) (stream_of identifier t) g)
+pub seeking_none : (t : List ℕ) (identifier s : ℕ) → Seeking t identifier s → s ≡ get_or t 0 0 → refused STREAM ≡ declared_of identifier t
+seeking_none t identifier s p m =
+    let f : streams_of t ≡ stream_of identifier t = stream_none t identifier s (streams_of t) refl p.others m in
+    let g : streams_of t ≤ stream_of identifier t = omega arith in
+    rw (le-leb (streams_of t) (stream_of identifier t) g)
 
 -- ---- the stream by the type
 

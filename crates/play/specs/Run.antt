@@ -1,6 +1,6 @@
 -- The walk over a recording. Document 01, of `vrtplay`: it "stops when no word is left"; "STREAM goes on by the size, any other ends at W". What a walk does is
 -- what play does, packet by packet.
-use Rattle.std.specs.Prelude.{◌≡◌, ℕ, zero, suc, ◌+◌, ◌/◌, Bool, true, List, [], ◌∷◌, ◌++◌, eqb, leb, length, drop, get_or}
+use Rattle.std.specs.Prelude.{◌≡◌, ℕ, zero, suc, ◌+◌, ◌/◌, Bool, true, List, [], ◌∷◌, ◌++◌, eqb, leb, length, drop, get_or, Option, Some, None}
 use Rattle.words.specs.Numbers.{STREAM}
 use Rattle.words.specs.Tests.{pick, when}
 use Rattle.words.specs.Outcome.{Outcome, refused, accepted, Done, said_of, left_of}
@@ -31,11 +31,14 @@ left_at t ws at = left_of (play_told t (drop at ws)) t
 unfoldable pub next_of : List ℕ → List ℕ → ℕ → ℕ
 next_of t ws at = at + when (goes_on (said_at t ws at)) (size_of (get_or ws at 0))
 
+-- the same as a walk's step tells it: nothing where the walk stops
+abbrev pub next_told : List ℕ → List ℕ → ℕ → Option ℕ
+next_told t ws at = pick (goes_on (said_at t ws at)) (Some (next_of t ws at)) None
+
 -- a step's answer r, and the table afterwards
 pub record Stepped (t ws : List ℕ) (at : ℕ) (r : Happened) (left : List ℕ) : Type 0 where
   pub answer : told_paper r.answer ≡ said_at t ws at
-  pub on : r.continues ≡ goes_on (said_at t ws at)
-  pub next : r.next ≡ next_of t ws at
+  pub next : r.next ≡ next_told t ws at
   pub table : left ≡ left_at t ws at
 
 -- ---- the words that are written of a packet

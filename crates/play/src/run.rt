@@ -72,8 +72,7 @@ pub fn run_on(table: &mut [u32], recording: &[u32], from: usize, answers: &mut [
 {
     let most = answers.len() / ENTRY_WORDS;
     let mut at = from;
-    let mut n = 0;
-    while n < most {
+    for n in 0..most {
         if recording.len() <= at {
             return Reached {
                 packets: n,
@@ -90,11 +89,10 @@ pub fn run_on(table: &mut [u32], recording: &[u32], from: usize, answers: &mut [
             };
         }
         write_entry(answers, ENTRY_WORDS * n, e);
-        n += 1;
         at += e.size;
     }
     Reached {
-        packets: n,
+        packets: most,
         next: at,
     }
 }

@@ -15,17 +15,12 @@ fn seek_stream(table: &[u32], identifier: u32) -> Option<usize>
     requires { well_made table.now ≡ true }
     ensures { sought_paper result ≡ declared_of identifier table.now }
 {
-    let n = table[0] as usize;
-    let mut s = 0;
-    loop {
+    for s in 0..table[0] as usize {
         if table[table::inner::record_at(s)] == identifier {
             return Some(s);
         }
-        s += 1;
-        if s == n {
-            return None;
-        }
     }
+    None
 }
 
 // STREAM: a packet may have no identifier, and one that it has may not be declared.

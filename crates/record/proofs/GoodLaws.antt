@@ -3,7 +3,6 @@
 use Rattle.words.proofs.Kit.{◌≡◌, refl, sym, ap, ◌∙◌, Bool, true, false, not, ⊎_elim, List, [], ◌∷◌, ℕ, zero, suc, ◌+◌, ◌-◌, ◌*◌, ◌/◌, ◌%◌, ◌^◌, ◌≤◌, ◌<◌}
 use Rattle.words.proofs.Kit.{arith, eq-eqb, ne_eqb, le-leb, lt-leb, eqb-true, not-true, not-false, eqb, length, take, drop, get_or}
 use Rattle.std.proofs.Common.{replicate, lt_of_le_of_lt, add-zero, add_assoc, add-suc, ext_get_or, leb-true}
-use mathlib.Core.Logic.{◌↔◌}
 use native.Mathlib.Nat.{zero-div}
 use lib.Bits.{bit_and, and_le_r, or_lt}
 use lib.ListN.{length-replicate}
@@ -34,6 +33,7 @@ use Rattle.record.specs.inner.Head.{head_good}
 use Rattle.record.specs.inner.Between.{good_between}
 use Rattle.record.proofs.SlotLaws.{slotted_not, slotted_low, slotted_high, slotted_all, held_small}
 use Rattle.record.proofs.StateLaws.{state_ruled, state_none, state_stays_good}
+use Rattle.record.proofs.CopyLaws.{size_slotted, size_eleven}
 use Rattle.record.proofs.HoldLaws.{slot_inside, within_bits, within_mask, Along, along_start, along_slotted, along_fits, along_next}
 use Rattle.record.proofs.AfterLaws.{hold_slot, hold_held, hold_choice, hold_count, held_bit, count_count, count_other, count_slot, count_held}
 use Rattle.record.proofs.AfterLaws.{count_choice}
@@ -60,19 +60,28 @@ pub record Passing (n : ℕ) (f : ℕ → Bool) (i : ℕ) : Type 0 where
 pub passing_start : (n : ℕ) (f : ℕ → Bool) → Passing n f 0
 passing_start n f = record { most = omega arith; before = all_none f }
 
-pub passing_end : {n i : ℕ} {f : ℕ → Bool} → Passing n f i → n ≤ i → true ≡ all n f
-passing_end {n} {i} {f} p h = sym (all_end f n i (omega (arith, p.most)) p.before)
+module _ {n i : ℕ} {f : ℕ → Bool} (p : Passing n f i) where
+  pub passing_end : n ≤ i → true ≡ all n f
+  passing_end h = sym (all_end f n i (omega (arith, p.most)) p.before)
 
--- the counts of a record, each where it begins: those before k pass
-module _ (r : List ℕ) (k : ℕ) (at : ℕ) (e : at ≡ count_at k) (t : Bool) (c : t ≡ count_good (get_or r at 0) (get_or r (at + 1) 0) (get_or r (at + 2) 0)) where
+  module _ (h : i < n) (t : Bool) (e : t ≡ f i) where
+    passing_fails : not t ≡ true → false ≡ all n f
+    passing_fails o = sym (all_fails f n i h (sym e ∙ not-true t o))
+
+    passing_turn : not t ≡ false → Passing n f (i + 1)
+    passing_turn o = record { most = omega arith; before = all_more f i p.before (sym e ∙ not-false t o) }
+
+-- the counts of a record, each where it begins
+module _ (r : List ℕ) (k : ℕ) (p : Passing 4 (count_good_at r) k) (h : k < 4) (at : ℕ) (e : at ≡ count_at k) (t : Bool)
+    (c : t ≡ count_good (get_or r at 0) (get_or r (at + 1) 0) (get_or r (at + 2) 0)) where
   count_tested : t ≡ count_good_at r k
   count_tested = c ∙ rw e (sym (counts_at r k))
 
-  pub counts_fail : not t ≡ true → k < 4 → false ≡ all 4 (count_good_at r)
-  counts_fail o h = sym (all_fails (count_good_at r) 4 k h (sym count_tested ∙ not-true t o))
+  pub counts_fail : not t ≡ true → false ≡ all 4 (count_good_at r)
+  counts_fail o = passing_fails p h t count_tested o
 
-  pub counts_turn : not t ≡ false → all k (count_good_at r) ≡ true → all (k + 1) (count_good_at r) ≡ true
-  counts_turn o a = all_more (count_good_at r) k a (sym count_tested ∙ not-false t o)
+  pub counts_turn : not t ≡ false → Passing 4 (count_good_at r) (k + 1)
+  counts_turn o = passing_turn p h t count_tested o
 
 -- ---- a choice
 
@@ -123,6 +132,9 @@ module _ (r : List ℕ) (b at n : ℕ) (l : length r ≡ record_words) (o : slot
   pub slot_fits : at + n < 2 ^ 64
   slot_fits = omega (arith, slot_end)
 
+  pub slot_word : at < length r
+  slot_word = omega (arith, slot_end, size_some b (slotted_low b o) (slotted_high b o))
+
   pub slot_bytes : at * 4 < 2 ^ 64
   slot_bytes = omega (arith, slot_end)
 
@@ -136,6 +148,10 @@ module _ (r : List ℕ) (b at n : ℕ) (l : length r ≡ record_words) (o : slot
   -- the slot has a word
   pub slot_there : 0 < length (take (at + n - at) (drop at r))
   slot_there = omega (arith, ap length slot_seen, slot_length b r l o, size_some b (slotted_low b o) (slotted_high b o))
+
+  -- and 1, 2, 11 or 13 of them
+  pub slot_few : among (length (take (at + n - at) (drop at r))) (1 ∷ 2 ∷ 11 ∷ 13 ∷ []) ≡ true
+  slot_few = size_slotted b _ o (ap length slot_seen ∙ slot_length b r l o)
 
   -- it is held, or not
   module _ (t : Bool) where
@@ -154,6 +170,10 @@ module _ (b : ℕ) (ws : List ℕ) (below : Bool) (f : below ≡ first_ok b (get
   unfolding held_rule
   held_broken over = rw (← (rule_broken_lem b ws below f h over))
 
+  pub held_only : 17 < b → below ≡ held_rule b ws
+  unfolding held_rule
+  held_only g = rule_only b ws below f h g ∙ rw (ne_eqb b 16 (λ e. omega arith)) (sym (both_yes (rule_of b ws)))
+
   pub held_more : below ≡ true → (b ≡ 16 → ⊥) → (v : ℕ) (more : Bool) → v ≡ get_or ws 1 0 → more ≡ more_ok b (get_or ws 0 0) v → more ≡ held_rule b ws
   unfolding held_rule
   held_more under n v more e m = rule_more b ws below f h under v more e m ∙ rw (ne_eqb b 16 n) (sym (both_yes (rule_of b ws)))
@@ -168,14 +188,37 @@ held_state b ws t e f =
     ruled true y = both_true _ _ (state_ruled (get_or ws 0 0) y ws refl) refl
     ruled false y = both_no (rule_of 16 ws)
 
+-- ---- the slot of a bit above 17, whose rule is the limit of its first word, and of one from 14 down, which has none
+
+module _ (r : List ℕ) (b at n : ℕ) (l : length r ≡ record_words) (o : slotted b ≡ true) (ea : at ≡ head_words + slot_at b) (en : n ≡ field_size b)
+    (held : held_of r / 2 ^ b % 2 ≡ 1) where
+  first_there : get_or (slot_of b r) 0 0 ≡ get_or r at 0
+  unfolding slot_of slot_in slots_of
+  first_there =
+      let some : 0 < field_size b = size_some b (slotted_low b o) (slotted_high b o) in
+      get_d_part (slot_at b) (field_size b) 0 (part head_words slot_words r) some
+      ∙ get_d_part head_words slot_words (slot_at b + 0) r (omega (arith, slot_inside b o)) ∙ ap (λ (i : ℕ). get_or r i 0) (omega arith)
+
+  pub slot_limited : 17 < b → (t : Bool) → (t ≡ first_ok b (get_or r at 0)) × (get_or r at 0 < 2 ^ 32) → t ≡ slot_good r b
+  unfolding slot_good
+  slot_limited g t e =
+      rw (o, eq-eqb (held_of r / 2 ^ b % 2) 1 held)
+      (held_only b (slot_of b r) t (e.0 ∙ ap (first_ok b) (sym first_there)) (rw first_there e.1) g)
+
+  pub slot_free : b ≤ 14 → true ≡ slot_good r b
+  unfolding slot_good held_rule
+  slot_free g =
+      let obeys : true ≡ rule_of b (slot_of b r) = unruled_kept b (slot_of b r) false (sym (unruled_low b (slotted_low b o) g)) refl in
+      rw (o, eq-eqb (held_of r / 2 ^ b % 2) 1 held, ← obeys, ne_eqb b 16 (λ e. omega arith))
+
 -- ---- the slots, as a program tests them from bit `first` down to the one above `past`: those of the bits above b are good
 
 pub record Testing (r : List ℕ) (first past b slot : ℕ) : Type 0 where
   pub along : Along first past b slot
   pub good : (x : ℕ) → b < x → x ≤ first → slot_good r x ≡ true
 
-pub testing_start : (r : List ℕ) (first past b slot : ℕ) → b ≡ first → 9 ≤ past → past ≤ first → first ≤ 30 → slot ≡ slot_at first → Testing r first past b slot
-testing_start r first past b slot i m l t e = rw i (record { along = along_start first past slot m l t e; good = λ x g k. absurd (omega arith) })
+pub testing_start : (r : List ℕ) (first past slot : ℕ) → 9 ≤ past → past ≤ first → first ≤ 30 → slot ≡ slot_at first → Testing r first past first slot
+testing_start r first past slot b l t e = record { along = along_start first past slot b l t e; good = λ x g k. absurd (omega arith) }
 
 module _ (r : List ℕ) (first past b slot : ℕ) (p : Testing r first past b slot) where
   pub testing_end : b ≤ past → true ≡ good_between first past r
@@ -284,14 +327,66 @@ module _ (r : List ℕ) where
       (all_only stated 31 16 (omega arith) (λ i n. rw (ne_eqb i 16 n, both_no (has (held_of r) i), both_no (slotted i)))
       ∙ rw (slotted_all 16 (omega arith) (omega arith), both_yes (has (held_of r) 16)))
 
--- ---- the tests as facts
+-- ---- words that are zero, piece by piece
 
--- zero words, as a program tests them
-pub zeros_told : (ws : List ℕ) (t : Bool) → (t ≡ true) ↔ ((k : ℕ) → k < length ws → get_or ws k 0 ≡ 0) → t ≡ zeros ws
+all_join : (f : ℕ → Bool) (n m : ℕ) → both (all n f) (all m (λ i. f (n + i))) ≡ all (n + m) f
+unfolding all
+all_join f n zero = both_yes (all n f) ∙ ap (λ (k : ℕ). all k f) (sym (add-zero n))
+all_join f n (suc m) =
+    sym (both_assoc (all n f) (all m (λ i. f (n + i))) (f (n + m)))
+    ∙ ap (λ (t : Bool). both t (f (n + m))) (all_join f n m) ∙ ap (λ (k : ℕ). all k f) (sym (add-suc n m))
+
+zeros_part : (a n : ℕ) (ws : List ℕ) → a + n ≤ length ws → zeros (part a n ws) ≡ all n (λ i. eqb (get_or ws (a + i) 0) 0)
 unfolding zeros
-zeros_told ws t e =
-    same_test t (all (length ws) (λ i. eqb (get_or ws i 0) 0)) (λ h. all_intro _ (length ws) (λ i g. eq-eqb (get_or ws i 0) 0 (e.0 h i g)))
-    (λ h. e.1 (λ i g. eqb-true (get_or ws i 0) 0 (all_at (λ j. eqb (get_or ws j 0) 0) (length ws) i g h)))
+zeros_part a n ws h = rw (part_length a n ws h) (all_same _ _ n (λ i g. ap (λ (x : ℕ). eqb x 0) (get_d_part a n i ws g)))
+
+-- one word
+zeros_one : (a : ℕ) (ws : List ℕ) → a + 1 ≤ length ws → eqb (get_or ws a 0) 0 ≡ zeros (part a 1 ws)
+unfolding all
+zeros_one a ws h = ap (λ (i : ℕ). eqb (get_or ws i 0) 0) (sym (add-zero a)) ∙ sym (zeros_part a 1 ws h)
+
+-- n words, and m behind them
+zeros_then : (n m a : ℕ) (ws : List ℕ) (s t : Bool) → a + (n + m) ≤ length ws → s ≡ zeros (part a n ws) → t ≡ zeros (part (a + n) m ws)
+    → both s t ≡ zeros (part a (n + m) ws)
+zeros_then n m a ws s t h e f =
+    rw (e, f, zeros_part a n ws (omega arith), zeros_part (a + n) m ws (omega arith))
+    (ap (both (all n (λ i. eqb (get_or ws (a + i) 0) 0))) (all_same _ _ m (λ i g. ap (λ (k : ℕ). eqb (get_or ws k 0) 0) (add_assoc a n i)))
+    ∙ all_join (λ i. eqb (get_or ws (a + i) 0) 0) n m ∙ sym (zeros_part a (n + m) ws h))
+
+-- two words, four and eleven, as a program joins them
+module _ (a : ℕ) (ws : List ℕ) (r : Bool) where
+  pub zeros_two : a + 2 ≤ length ws → r ≡ both (eqb (get_or ws a 0) 0) (eqb (get_or ws (a + 1) 0) 0) → r ≡ zeros (part a 2 ws)
+  zeros_two h e = e ∙ zeros_then 1 1 a ws _ _ h (zeros_one a ws (omega arith)) (zeros_one (a + 1) ws (omega arith))
+
+  pub zeros_four : (s t : Bool) → a + 4 ≤ length ws → s ≡ zeros (part a 2 ws) → t ≡ zeros (part (a + 2) 2 ws) → r ≡ both s t → r ≡ zeros (part a 4 ws)
+  zeros_four s t h f g e = e ∙ zeros_then 2 2 a ws s t h f g
+
+pub zeros_eleven : (ws : List ℕ) (four more eight two ten r : Bool) → 11 ≤ length ws → four ≡ zeros (part 0 4 ws) → more ≡ zeros (part 4 4 ws)
+    → two ≡ zeros (part 8 2 ws) → eight ≡ both four more → ten ≡ both eight two → r ≡ both ten (eqb (get_or ws 10 0) 0) → r ≡ zeros (part 0 11 ws)
+zeros_eleven ws four more eight two ten r h f m t e g i =
+    let eighth = e ∙ zeros_then 4 4 0 ws four more (omega arith) f m in
+    let tenth = g ∙ zeros_then 8 2 0 ws eight two (omega arith) eighth t in
+    i ∙ zeros_then 10 1 0 ws ten _ h tenth (zeros_one 10 ws h)
+
+-- all words of a slot, of 1, 2, 11 or 13
+module _ (ws : List ℕ) (t : Bool) where
+  zeros_all : (n : ℕ) → length ws ≡ n → t ≡ zeros (part 0 n ws) → t ≡ zeros ws
+  zeros_all n l e = e ∙ ap zeros (rw l at (part_whole ws))
+
+  pub one_zero : length ws ≡ 1 → t ≡ eqb (get_or ws 0 0) 0 → t ≡ zeros ws
+  one_zero l e = zeros_all 1 l (e ∙ zeros_one 0 ws (omega arith))
+
+  pub pair_zero : length ws ≡ 2 → t ≡ zeros (part 0 2 ws) → t ≡ zeros ws
+  pair_zero l e = zeros_all 2 l e
+
+  pub longer_zero : (eleven two : Bool) → length ws ≡ 13 → eleven ≡ zeros (part 0 11 ws) → two ≡ zeros (part 11 2 ws) → t ≡ both eleven two → t ≡ zeros ws
+  longer_zero eleven two l e f i = zeros_all 13 l (i ∙ zeros_then 11 2 0 ws eleven two (omega arith) e f)
+
+  pub long_zero : among (length ws) (1 ∷ 2 ∷ 11 ∷ 13 ∷ []) ≡ true → (length ws ≡ 1 → ⊥) → (length ws ≡ 2 → ⊥) → (length ws ≡ 13 → ⊥)
+      → t ≡ zeros (part 0 11 ws) → t ≡ zeros ws
+  long_zero a p q r e = zeros_all 11 (size_eleven (length ws) a p q r) e
+
+-- ---- the tests as facts
 
 -- zero words
 pub zero_at : (n i : ℕ) → get_or {A = ℕ} (replicate n 0) i 0 ≡ 0

@@ -177,15 +177,15 @@ pub record Holding (first past bits at : ℕ) (ws slots₀ slots : List ℕ) (bi
   pub inside : InsideBetween first past bits at ws
   pub passed : Filled first bit bits at ws slots₀ slots
 
-pub holding_start : (first past bits at bit slot : ℕ) (ws slots : List ℕ) → bit ≡ first → length slots ≡ slot_words → 9 ≤ past → past ≤ first → first ≤ 30
-    → InsideBetween first past bits at ws → slot ≡ slot_at first → Holding first past bits at ws slots slots bit slot at
-holding_start first past bits at bit slot ws slots here l b m t i e = rw here (record {
+pub holding_start : (first past bits at slot : ℕ) (ws slots : List ℕ) → length slots ≡ slot_words → 9 ≤ past → past ≤ first → first ≤ 30
+    → InsideBetween first past bits at ws → slot ≡ slot_at first → Holding first past bits at ws slots slots first slot at
+holding_start first past bits at slot ws slots l b m t i e = record {
   along = along_start first past slot b m t e;
   there = omega (arith, placed_first first bits);
   sized = l;
   inside = i;
   passed = record { same = refl; filled = λ x g h. absurd (omega arith); higher = λ x o h. refl; lower = λ x o h. refl };
-})
+}
 
 module _ {first past bits at bit slot from : ℕ} {ws slots₀ slots : List ℕ} (p : Holding first past bits at ws slots₀ slots bit slot from) (more : past < bit)
     (n : ℕ) (en : n ≡ field_size bit) where

@@ -143,43 +143,48 @@ module _ (ids choices : List ℕ) (many : length choices ≡ length ids) where
 
 -- ---- the answers
 
--- l is the answer to the identifiers, c that to the choices, b that to both; and m the words of the layout
-module _ (ids choices t : List ℕ) (l c b : Bool) (el : l ≡ list_good (length ids) (spaced 0 1 ids)) (ec : c ≡ choices_good (length ids) choices)
-    (eb : b ≡ both l c) where
-  listed_both : b ≡ both (list_good (length ids) (listed ids)) (choices_good (length ids) choices)
-  listed_both = eb ∙ ap₂ both (el ∙ list_next ids) ec
+-- l is the answer to the identifiers, c that to the choices; and m the words of the layout
+module _ (ids choices t : List ℕ) (l : Bool) (el : l ≡ list_good (length ids) (spaced 0 1 ids)) where
+  listed_next : l ≡ list_good (length ids) (listed ids)
+  listed_next = el ∙ list_next ids
 
-  pub start_list_lem : not b ≡ true → Meets on_paper (start_of ids choices t) t (Err refusals.List) t
+  pub start_unlisted : not l ≡ true → Meets on_paper (start_of ids choices t) t (Err refusals.List) t
   unfolding start_of
-  start_list_lem o = meets_err (rw (← listed_both, not-true b o))
+  start_unlisted o = meets_err (rw (← listed_next, not-true l o))
 
-  module _ (o : not b ≡ false) where
-    passed : both l c ≡ true
-    passed = sym eb ∙ not-false b o
+  pub start_unchosen : not l ≡ false → (c : Bool) → c ≡ choices_good (length ids) choices → not c ≡ true
+      → Meets on_paper (start_of ids choices t) t (Err refusals.List) t
+  unfolding start_of
+  start_unchosen o c ec i = meets_err (rw (← listed_next, not-false l o, ← ec, not-true c i))
 
+  module _ (o : not l ≡ false) where
     pub start_few : length ids ≤ 32
-    start_few = (list_of (length ids) (spaced 0 1 ids) (sym el ∙ both_left l c passed)).few
+    start_few = (list_of (length ids) (spaced 0 1 ids) (sym el ∙ not-false l o)).few
 
     pub start_small : length ids < 2 ^ 32
     start_small = omega (arith, start_few)
 
-    pub start_many : length choices ≡ length ids
-    start_many = choices_many (length ids) choices (sym ec ∙ both_right l c passed)
+    module _ (c : Bool) (ec : c ≡ choices_good (length ids) choices) (i : not c ≡ false) where
+      passed : both (list_good (length ids) (listed ids)) (choices_good (length ids) choices) ≡ true
+      passed = rw (← listed_next, ← ec, not-false l o, not-false c i)
 
-    module _ (m : ℕ) (f : m ≡ layout_words (length ids)) where
-      pub start_room : length t < m → Meets on_paper (start_of ids choices t) t (Err refusals.Room) t
-      unfolding start_of
-      start_room h = meets_err (rw (← listed_both, not-false b o, ← f, lt-ltb _ _ h))
+      pub start_many : length choices ≡ length ids
+      start_many = choices_many (length ids) choices (sym ec ∙ not-false c i)
 
-      pub start_made : (last : List ℕ) → m ≤ length t
-          → last ≡ take 1 (set t 0 (length ids)) ++ (fresh_records ids choices ++ drop (base (length ids)) (set t 0 (length ids)))
-          → Meets on_paper (start_of ids choices t) t (Ok m) last
-      unfolding start_of fresh_table
-      start_made last h e =
-          let i : 0 < length t = omega arith in
-          let j : 0 < layout_words (length ids) = omega arith in
-          meets_ok {left = fresh_table ids choices t} (rw (← listed_both, not-false b o, ← f, le-ltb _ _ h))
-          (e ∙ rw (take-suc-set t 0 (length ids) i, drop-set-lt (layout_words (length ids)) t 0 (length ids) j))
+      module _ (m : ℕ) (f : m ≡ layout_words (length ids)) where
+        pub start_room : length t < m → Meets on_paper (start_of ids choices t) t (Err refusals.Room) t
+        unfolding start_of
+        start_room h = meets_err (rw (passed, ← f, lt-ltb _ _ h))
+
+        pub start_made : (last : List ℕ) → m ≤ length t
+            → last ≡ take 1 (set t 0 (length ids)) ++ (fresh_records ids choices ++ drop (base (length ids)) (set t 0 (length ids)))
+            → Meets on_paper (start_of ids choices t) t (Ok m) last
+        unfolding start_of fresh_table
+        start_made last h e =
+            let k : 0 < length t = omega arith in
+            let j : 0 < layout_words (length ids) = omega arith in
+            meets_ok {left = fresh_table ids choices t} (rw (passed, ← f, le-ltb _ _ h))
+            (e ∙ rw (take-suc-set t 0 (length ids) k, drop-set-lt (layout_words (length ids)) t 0 (length ids) j))
 
 -- ---- a fresh table is well made
 

@@ -21,9 +21,10 @@ pub fn start(ids: &[u32], choices: &[u32], table: &mut [u32]) -> Result<usize, R
     ensures { Meets on_paper (start_of ids.now choices.now table.old) table.old result table.new }
 {
     let n = ids.len();
-    let listed = identifiers::list_good(ids, 0, 1, n);
-    let chosen = identifiers::choices_good(choices, n);
-    if !words::inner::both_of(listed, chosen) {
+    if !identifiers::list_good(ids, 0, 1, n) {
+        return Err(Refusal::List);
+    }
+    if !identifiers::choices_good(choices, n) {
         return Err(Refusal::List);
     }
     let length = layout::layout_words(n);

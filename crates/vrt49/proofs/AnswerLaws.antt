@@ -62,7 +62,8 @@ module _ {A L W R : Type 0} (values : A → W) (paper : R → Outcome A) (want :
 
 -- the same of a result
 module _ {A L W : Type 0} (values : A → W) (want : Outcome (Done A L)) (before after : L) (old : W) where
-  pub err_beside : (r : Refusal) (k : ℕ) → Meets on_paper want before (Err r) after → k ≡ list_number r → Tells (beside values) want (before, old) k (after, old)
+  pub err_beside : (r : Refusal) (k : ℕ) → Meets on_paper want before (Err r) after → k ≡ list_number r
+      → Tells (beside values) want (before, old) k (after, old)
   err_beside r k m e = rw e (beside_refused values on_paper want before after old (Err r) m (list_number r) refl)
 
   pub ok_beside : (a : A) (new : W) → Meets on_paper want before (Ok a) after → new ≡ values a → Tells (beside values) want (before, old) 0 (after, new)

@@ -10,7 +10,7 @@ ghost use Rattle.vrt49.specs.Answers.{Tells, refusal_parts, refusal_widths, numb
 pub fn flag(set: bool) -> u32
     ensures { result ≡ when set 1 }
 {
-    if set { 1 } else { 0 }
+    u32::from(set)
 }
 
 // The number that is given of a refusal that is told where: its own in bits 7-0, the field's bit in 15-8, the word in 31-16.

@@ -8,7 +8,7 @@ ghost use Rattle.panel.specs.HeldWords.{held_words_of};
 ghost use Rattle.vrt49.specs.Answers.{Tells, plain, beside};
 ghost use Rattle.vrt49.specs.Readings.{levelled_of, numbers_of, reading_values, readings_values};
 
-// A reading as numbers. A frequency has its parts and its whole hertz; a level and a temperature have `first`; a gain has its two stages, `first` and `second`. The
+// A reading as numbers, as the interface for C has it. A frequency has its parts and its whole hertz; a level and a temperature have `first`; a gain has its two stages, `first` and `second`. The
 // numbers that a kind of reading has not are zero.
 #[derive(Clone, Copy)]
 pub struct Values {
@@ -53,7 +53,7 @@ fn numbers_of(dial: panel::FieldReading) -> Values
 }
 
 // Seven rows of the columns, those from entry 7 * part on, where the rows before them are there and the others are those of absent fields. Each field is read
-// and its numbers are stored where the caller wants them, since arrays would be copied on their way. The place among the slots runs along; gives that of the
+// and its numbers are stored where the caller wants them, the five columns of the interface for C, since arrays would be copied on their way. The place among the slots runs along; gives that of the
 // next part.
 fn rows_of(
     table: &[u32],
@@ -69,10 +69,8 @@ fn rows_of(
     requires { (stream < 32) × Has stream table.now × (part < 3) × (slot ≡ slot_at (30 - 7 * part)) × ((kinds.old, parts.old, hertz.old, first.old, second.old) ≡ readings_values (take (7 * part) (record_readings (record_at stream table.now)) ++ replicate (21 - 7 * part) absent)) }
     ensures { (result ≡ slot_at (30 - 7 * (part + 1))) × ((kinds.new, parts.new, hertz.new, first.new, second.new) ≡ readings_values (take (7 * (part + 1)) (record_readings (record_at stream table.now)) ++ replicate (21 - 7 * (part + 1)) absent)) }
 {
-    let past = 7 * part + 7;
     let mut next = slot;
-    let mut i = 7 * part;
-    while i < past {
+    for i in 7 * part..7 * part + 7 {
         let bit = 30 - i as u32;
         let v = numbers_of(panel::inner::show_at(table, stream, bit, next));
         next += fields::inner::field_size(bit);
@@ -82,7 +80,6 @@ fn rows_of(
         hertz[i] = whole;
         first[i] = v.first;
         second[i] = v.second;
-        i += 1;
     }
     next
 }
@@ -107,12 +104,10 @@ fn columns_of(
     *first = [0.0; 21];
     *second = [0.0; 21];
     let mut slot = 0;
-    let mut part = 0;
-    while part < 3 {
+    for part in 0..3 {
         slot = rows_of(
             table, stream, part, slot, kinds, parts, hertz, first, second,
         );
-        part += 1;
     }
 }
 

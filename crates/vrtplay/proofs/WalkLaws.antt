@@ -1,6 +1,6 @@
 -- Why a walk ends. The idea: reading does not refuse with STREAM, so a step that goes on behind a refusal goes on behind STREAM, of a packet that was read;
 -- and a packet that was read has at least its header.
-use Rattle.std.specs.Prelude.{Ok}
+use Rattle.std.specs.Prelude.{Ok, Some}
 use Rattle.words.proofs.Kit.{◌≡◌, refl, sym, ap, ◌∙◌, Bool, true, List, ℕ, ◌≤◌, ◌<◌, arith, eqb-true, length, drop, get_or}
 use native.Mathlib.Nat.{add-zero}
 use lib.Seq.{get_or-drop}
@@ -22,6 +22,7 @@ use Rattle.play.specs.declared.step.Happened.{Happened}
 use Rattle.play.specs.Play.{chosen, step_of, play_of, play_told}
 use Rattle.play.specs.Run.{goes_on, said_at, left_at, next_of, Stepped}
 use Rattle.play.proofs.PlayLaws.{step_read, play_step}
+use Rattle.play.proofs.EntryLaws.{step_goes}
 use Rattle.play.proofs.KeepLaws.{play_keeps}
 
 -- ---- a step that goes on
@@ -54,8 +55,8 @@ module _ (t ws left : List ℕ) (at : ℕ) (r : Happened) (w : well_made t ≡ t
   unfolding left_at
   turn_kept = let k = play_keeps t (drop at ws) in (ap length m.table ∙ k.whole, ap well_made m.table ∙ k.well w)
 
-  pub turn_on : r.continues ≡ true → at < r.next
-  turn_on e = rw m.next (next_on t ws at w (sym m.on ∙ e))
+  pub turn_on : (n : ℕ) → r.next ≡ Some n → at < n
+  turn_on n e = let g = step_goes m n e in rw g.1 (next_on t ws at w g.0)
 
 -- ---- a table that has started
 

@@ -76,10 +76,10 @@ fn walk(output: &mut impl Write, table: &mut [u32], ws: &[u32], from: usize) -> 
         let s = play::inner::step(table, ws, at);
         let answer = s.answer;
         show_played(output, at, answer)?;
-        at = s.next;
-        if !s.continues {
+        let Some(next) = s.next else {
             return Ok(at);
-        }
+        };
+        at = next;
     }
     Ok(at)
 }

@@ -38,8 +38,8 @@ IsListed n = (k : Refusal) × (list_number k ≡ n)
 abbrev pub Listed : ℕ → Result Refusal Unlisted → Type 0
 Listed n r = MatchResult r (λ k. list_number k ≡ n) (λ e. (e.0 ≡ n) × ((k : Refusal) → list_number k ≡ n → ⊥))
 
--- document 01: "Where an answer is an enum, a definition gives this paper's number and values for each of its cases": an answer that is refused with a number of
--- the list, or accepted with its value
+-- document 01: "Where an answer is an enum, a definition gives this paper's number and values for each of its cases": an answer that is refused with a number
+-- of the list, or accepted with its value
 abbrev pub on_paper : {A : Type 0} → Result A Refusal → Outcome A
 on_paper (Ok a) = accepted a
 on_paper (Err r) = refused (list_number r)

@@ -5,7 +5,7 @@ mod powers;
 mod reads;
 mod tests;
 
-pub use copies::copy_part;
+pub use copies::{copy_eleven, copy_one, copy_part, copy_two};
 pub use places::{place_bit, place_word};
 pub use powers::{low, ones, power};
 pub use reads::{high_first, word_at, word_inside};

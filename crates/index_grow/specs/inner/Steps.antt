@@ -1,5 +1,5 @@
 -- What the functions inside promise of a packet that is taken in, on a table and an index that are known to be well made.
-use Rattle.std.specs.Prelude.{◌≡◌, ℕ, ◌+◌, ◌*◌, ◌^◌, Bool, true, false, not, List, ltb, leb, length, take, Result, Ok, Err}
+use Rattle.std.specs.Prelude.{◌≡◌, ℕ, ◌+◌, ◌*◌, ◌^◌, Bool, true, false, not, List, ltb, leb, length, take, Result, Ok, Err, Option, Some, None}
 use Rattle.words.specs.declared.RefusedAt.{RefusedAt}
 use Rattle.words.specs.Tests.{pick, both}
 use Rattle.words.specs.Outcome.{refused, accepted, said_of, left_of}
@@ -26,11 +26,11 @@ pub record GrownOn (t ws ix : List ℕ) (r : Result Taken RefusedAt) (left leftI
   pub table : left ≡ table_taken t ws
   pub index : leftIndex ≡ (left_of (grow_told t ws ix) (t, ix)).1
 
--- what growing answers, by what play says and whether the recording goes on
-abbrev pub answer_by : Told Heard → Bool → ℕ → Told Taken
-answer_by (accepted h) continues size = accepted (Declared h)
-answer_by (refused r) true size = accepted (taken_as (refused r) size)
-answer_by (refused r) false size = refused r
+-- what growing answers, by what play says and the size of the packet that the recording goes on behind
+abbrev pub answer_by : Told Heard → Option ℕ → Told Taken
+answer_by (accepted h) next = accepted (Declared h)
+answer_by (refused r) (Some size) = accepted (taken_as (refused r) size)
+answer_by (refused r) None = refused r
 
 -- the index with a packet of so many words counted
 unfoldable pub counted_in : ℕ → List ℕ → List ℕ

@@ -1,7 +1,6 @@
 -- `pack` meets its promise: a refusal of `pack_check` is given on (`pack_refused`), and what it lets through is packed (`pack_accepted`).
-use Rattle.words.proofs.Kit.{rules}
 use Rattle.std.proofs.lemmas.Result.{err_from_is_err_and}
-use Rattle.payload_pack.proofs.PackLaws.{few_items, ready, pack_refused, pack_accepted}
+use Rattle.payload_pack.proofs.PackLaws.{ready, pack_refused, pack_accepted}
 use Rattle.payload_pack.proofs.pack.Goals as goal
 
 pub returns-in_err-pack_check : goal.returns-in_err-pack_check

@@ -2,11 +2,14 @@
 use Rattle.words.proofs.Kit.{◌∙◌, rules}
 use lib.ListN.{length-set}
 use Rattle.table.proofs.WellLaws.{layout_there}
-use Rattle.table.proofs.StartLaws.{start_list_lem, start_few, start_small, start_many, start_room, start_made}
+use Rattle.table.proofs.StartLaws.{start_unlisted, start_unchosen, start_few, start_small, start_many, start_room, start_made}
 use Rattle.table.proofs.start.Goals as goal
 
-pub returns-then-not-both_of : goal.returns-then-not-both_of
-returns-then-not-both_of c = search start_list_lem
+pub returns-then-not-list_good : goal.returns-then-not-list_good
+returns-then-not-list_good c = search start_unlisted
+
+pub returns-then-not-choices_good : goal.returns-then-not-choices_good
+returns-then-not-choices_good c = search start_unchosen
 
 pub layout_words-length-requires : goal.layout_words-length-requires
 layout_words-length-requires c = search start_small

@@ -4,8 +4,8 @@ use Rattle.index_grow.proofs.PacketLaws.{next_small}
 use Rattle.index_grow.proofs.GrowLaws.{grown_unread, step_ready, grown_full, grown_entry}
 use Rattle.index_grow.proofs.boundary.grow_played.Goals as goal
 
-pub returns-then-not-s : goal.returns-then-not-s
-returns-then-not-s c = search grown_unread
+pub returns-in_default : goal.returns-in_default
+returns-in_default c = search grown_unread
 
 pub take_entry-requires : goal.take_entry-requires
 take_entry-requires c = search (step_ready, next_small)

@@ -1,22 +1,27 @@
--- `pad_fits` meets its promise: the five bits are asked where there is a class.
-use Rattle.words.proofs.Kit.{◌≡◌, true, false, ℕ, eq-eqb, ne_eqb, ltb, rules}
+-- `pad_fits` meets its promise: the five bits are asked where 49A governs the packet and there is a class.
+use Rattle.words.proofs.Kit.{◌≡◌, Bool, true, false, not, ℕ, eq-eqb, ne_eqb, not-true, not-false, ltb, rules}
 use Rattle.packet.specs.declared.Parts.{Parts}
 use Rattle.packet_write.specs.Write.{pad_fits}
 use Rattle.packet_write.specs.AsWords.{parts_in}
+use Rattle.packet_write.specs.inner.Given.{Chosen}
 use Rattle.packet_write.proofs.fit.pad_fits.Goals as goal
 
-module _ (pad : ℕ) (p : Parts) (k : p.kind ≡ 1) where
-  bits_asked : p.classed ≡ true → ltb pad 32 ≡ pad_fits true pad p
+module _ (governed : Bool) (pad : ℕ) (p : Parts) (k : Chosen governed pad p) where
+  other : not governed ≡ true → true ≡ pad_fits governed pad p
   unfolding pad_fits
-  bits_asked on = rw (k, on)
+  other n = rw (k.choice, not-true governed n)
 
-  not_asked : p.classed ≡ false → true ≡ pad_fits true pad p
+  bits_asked : not governed ≡ false → p.classed ≡ true → ltb pad 32 ≡ pad_fits governed pad p
   unfolding pad_fits
-  not_asked off = rw (k, off)
+  bits_asked n on = rw (k.choice, not-false governed n, on)
 
-pub bounds-q-1 : goal.bounds-q-1
+  not_asked : not governed ≡ false → p.classed ≡ false → true ≡ pad_fits governed pad p
+  unfolding pad_fits
+  not_asked n off = rw (k.choice, not-false governed n, off)
+
+pub returns-then-not-governed : goal.returns-then-not-governed
 unfolding parts_in
-bounds-q-1 c = search rules
+returns-then-not-governed c = search other
 
 pub returns-then-q-eq1 : goal.returns-then-q-eq1
 unfolding parts_in

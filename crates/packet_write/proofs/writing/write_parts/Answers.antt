@@ -1,47 +1,6 @@
--- `write_parts` meets its promise, step by step: without 49A there is no pad count, and no PAD.
-use Rattle.words.proofs.Kit.{◌≡◌, refl, false, length, rules}
-use Rattle.words.specs.Outcome.{accepted}
-use Rattle.words.proofs.PassedLaws.{passed}
-use Rattle.packet_write.specs.inner.Given.{Layable}
-use Rattle.packet_write.specs.inner.Steps.{write_checks}
-use Rattle.packet_write.specs.AsWords.{parts_in}
-use Rattle.packet_write.proofs.FitLaws.{any_count, no_payload}
-use Rattle.packet_write.proofs.WriteLaws.{parts_refused, kind_small, numbers_fit, parts_typed, content_refused, room_refused, passes}
-use Rattle.packet_write.proofs.WriteLaws.{may_lay_plain, laid_plain}
-use Rattle.packet_write.proofs.writing.write_parts.Goals.{In_ok-check_room}
+-- `write_parts` meets its promise: without 49A there is no pad count.
+use Rattle.packet_write.proofs.WriteLaws.{chosen_plain}
 use Rattle.packet_write.proofs.writing.write_parts.Goals as goal
 
--- nothing is refused
-nothing : (c : In_ok-check_room) → write_checks false 0 (parts_in c.args.q.now) c.args.body.now (length c.args.out.now) c.args.at ≡ accepted tt
-nothing c = search (passes, any_count, no_payload, c.in_ok-check_parts.ensures, c.in_ok-check_content.ensures, c.in_ok-check_room.ensures)
-
-may-be-laid : (c : In_ok-check_room) → Layable 0 (parts_in c.args.q.now) c.args.body.now (length c.args.out.now) c.args.at
-may-be-laid c = may_lay_plain false 0 _ _ _ _ (nothing c) refl
-
-pub returns-in_err-check_parts : goal.returns-in_err-check_parts
-returns-in_err-check_parts c = rw (passed _ c.from_residual.ensures.1) (search (parts_refused, c.in_err-check_parts.ensures))
-
-pub header_word-w-requires : goal.header_word-w-requires
-header_word-w-requires c = search (kind_small, numbers_fit, c.in_ok-check_parts.ensures)
-
-pub size_for-size-requires : goal.size_for-size-requires
-size_for-size-requires c = search (rules, kind_small, numbers_fit, c.in_ok-check_parts.ensures)
-
-pub check_content-requires : goal.check_content-requires
-check_content-requires c = search (rules, parts_typed, c.in_ok-check_parts.ensures)
-
-pub returns-in_err-check_content : goal.returns-in_err-check_content
-returns-in_err-check_content c =
-    rw (passed _ c.from_residual-in_err-check_content.ensures.1)
-    (search (content_refused, any_count, c.in_ok-check_parts.ensures, c.in_err-check_content.ensures))
-
-pub returns-in_err-check_room : goal.returns-in_err-check_room
-returns-in_err-check_room c =
-    rw (passed _ c.from_residual-in_err-check_room.ensures.1)
-    (search (room_refused, any_count, no_payload, c.in_ok-check_parts.ensures, c.in_ok-check_content.ensures, c.in_err-check_room.ensures))
-
-pub lay-requires : goal.lay-requires
-lay-requires c = record { parts_given = (search, search (may-be-laid ((goal.at.lay-requires c).In_ok-check_room))); header_given = (search, search) }
-
-pub returns : goal.returns
-returns c = search (laid_plain, nothing ((goal.at.returns c).In_ok-check_room))
+pub write_chosen-requires : goal.write_chosen-requires
+write_chosen-requires c = search chosen_plain

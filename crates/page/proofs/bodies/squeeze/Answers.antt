@@ -14,12 +14,23 @@ parts-room c =
     omega (arith, c.requires.2, held_parts_length c.args.held c.args.slots.now c.requires.1 21 14 (omega arith) (omega arith) (omega arith) c.requires.0)
 
 pub squeeze_between-middle-requires : goal.squeeze_between-middle-requires
-squeeze_between-middle-requires c = (search rules, omega arith, omega arith, omega arith, omega (arith, parts-room ((goal.at.squeeze_between-middle-requires c).Start)))
+squeeze_between-middle-requires c =
+    (search rules, omega arith, omega arith, omega arith, omega (arith, parts-room ((goal.at.squeeze_between-middle-requires c).Start)))
 
 pub squeeze_between-low-requires : goal.squeeze_between-low-requires
 squeeze_between-low-requires c =
-    let first = c.squeeze_between-middle.ensures in
-    (search rules, omega arith, omega arith, omega arith, omega (arith, parts-room ((goal.at.squeeze_between-low-requires c).Start), first.past, laid_length first))
+    let first = c.squeeze_between-middle.ensures in (
+      search rules,
+      omega arith,
+      omega arith,
+      omega arith,
+      omega (
+        arith,
+        parts-room ((goal.at.squeeze_between-low-requires c).Start),
+        first.past,
+        laid_length first,
+      ),
+    )
 
 pub squeeze_between-requires : goal.squeeze_between-requires
 squeeze_between-requires c =

@@ -1,8 +1,8 @@
--- `body_good` meets its promise: first words that are not good end it, and else the walk over the held words and the state word answer (`body_rules`).
+-- `body_good` meets its promise: first words that are not good end it, and else the walk over the held words and the state word answer (`body_kept`).
 use Rattle.words.proofs.Kit.{◌≤◌, arith, length, rules}
 use Rattle.record.specs.Layout.{head_words}
 use Rattle.page.proofs.BodyLaws.{body_some}
-use Rattle.page.proofs.GoodLaws.{body_ill, body_rules}
+use Rattle.page.proofs.GoodLaws.{body_ill, body_broken, body_kept}
 use Rattle.page.proofs.good.body_good.Goals.{Start}
 use Rattle.page.proofs.good.body_good.Goals as goal
 
@@ -25,5 +25,8 @@ slice_bounds-rules_kept-count c = omega (arith, first-words ((goal.at.slice_boun
 pub slice_bounds-rules_kept-start : goal.slice_bounds-rules_kept-start
 slice_bounds-rules_kept-start c = omega (arith, first-words ((goal.at.slice_bounds-rules_kept-start c).Start))
 
-pub returns : goal.returns
-returns c = search body_rules
+pub returns-then-rules_kept : goal.returns-then-rules_kept
+returns-then-rules_kept c = search body_kept
+
+pub returns-else-rules_kept : goal.returns-else-rules_kept
+returns-else-rules_kept c = search body_broken

@@ -7,6 +7,3 @@ use Rattle.panel.proofs.records.read_all.Given as goal
 
 abbrev pub invariant-loop-i : goal.invariant-loop-i
 invariant-loop-i l = Showing l.rec l.i l.dials × (l.slot ≡ slot_at (30 - l.i))
-
-abbrev pub decreases-loop-i : goal.decreases-loop-i
-decreases-loop-i l = 21 - l.i

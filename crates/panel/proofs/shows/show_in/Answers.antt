@@ -16,14 +16,14 @@ overflow_add-at-then-is_frequency c = search (rules, later_fits)
 pub returns-then-is_frequency : goal.returns-then-is_frequency
 returns-then-is_frequency c = search here_frequency
 
-pub returns-then-bit-eq24 : goal.returns-then-bit-eq24
-returns-then-bit-eq24 c = search here_level
+pub returns-in-24 : goal.returns-in-24
+returns-in-24 c = search here_level
 
-pub returns-then-bit-eq23 : goal.returns-then-bit-eq23
-returns-then-bit-eq23 c = search here_gain
+pub returns-in-23 : goal.returns-in-23
+returns-in-23 c = search here_gain
 
-pub returns-then-bit-eq18 : goal.returns-then-bit-eq18
-returns-then-bit-eq18 c = search here_temperature
+pub returns-in-18 : goal.returns-in-18
+returns-in-18 c = search here_temperature
 
-pub returns : goal.returns
-returns c = search here_other
+pub returns-in_default : goal.returns-in_default
+returns-in_default c = search here_other

@@ -9,6 +9,3 @@ use Rattle.panel_streams.proofs.changes.changed_fields.Given as goal
 
 abbrev pub invariant-loop-bit : goal.invariant-loop-bit
 invariant-loop-bit l = (10 ≤ l.bit) × (l.bit ≤ 31) × (l.word ≡ marked l.bit (differs l.one l.other)) × (l.slot ≡ slot_at (l.bit - 1))
-
-abbrev pub decreases-loop-bit : goal.decreases-loop-bit
-decreases-loop-bit l = 31 - l.bit

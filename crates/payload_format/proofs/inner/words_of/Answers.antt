@@ -1,6 +1,6 @@
 -- `words_of` meets its promise: the product stays small, so that 32 bits hold it.
 use Rattle.bitstream.specs.Carried.{needed}
-use Rattle.words.proofs.Kit.{ℕ, ◌/◌, arith, refl, rules}
+use Rattle.words.proofs.Kit.{ℕ, ◌/◌, arith, refl}
 use mir.Syntax.{w32, w64}
 use mir.Val.{Fits}
 use native.Mathlib.Nat.{mul-le-mul_right, div-le_self}

@@ -1,5 +1,5 @@
 -- `signed` meets its promise: the refusals are lines of the definition, and `sign_zero` and `sign_one` say the value by the sign bit.
-use Rattle.words.proofs.Kit.{◌≡◌, ℕ, ◌+◌, ◌-◌, ◌^◌, ◌≤◌, ◌<◌, arith, lt-ltb, le-ltb, le-leb, rules}
+use Rattle.words.proofs.Kit.{◌≡◌, ℕ, ◌+◌, ◌-◌, ◌^◌, ◌≤◌, ◌<◌, arith, lt-ltb, le-ltb, le-leb}
 use Rattle.words.specs.Numbers.{FORMAT, VALUE}
 use Rattle.words.specs.Outcome.{refused, accepted}
 use Rattle.words.proofs.PowerLaws.{halves}

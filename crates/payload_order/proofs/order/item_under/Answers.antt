@@ -1,10 +1,7 @@
 -- `item_under` meets its promise: each return is the definition, by what bit 23 is, and stays far below 2 ^ 64, since each factor is bounded.
-use Rattle.words.proofs.Kit.{◌≡◌, ℕ, ◌+◌, ◌*◌, ◌^◌, ◌≤◌, ◌<◌, Bool, true, false, arith, rules}
+use Rattle.words.proofs.Kit.{◌≡◌, ℕ, ◌+◌, ◌*◌, ◌^◌, ◌≤◌, ◌<◌, arith}
 use native.Mathlib.Nat.{mul-le-mul}
-use Rattle.payload_format.specs.Format.{component_repeat, vector_size, repeat_size, component_count}
-use Rattle.payload_order.specs.declared.Coordinates.{Coordinates}
-use Rattle.payload_order.specs.Order.{item_number}
-use Rattle.payload_order.specs.Numbering.{item_under}
+use Rattle.payload_format.specs.Format.{vector_size, repeat_size}
 use Rattle.payload_order.proofs.order.item_under.Goals as goal
 
 -- ---- sums that fit
@@ -70,17 +67,6 @@ module _ (second x r c i j : ℕ) (less : x < 2 ^ 38) (l : r ≡ repeat_size sec
   beside_sum : (x * r + j) * c + i < 2 ^ 64
   beside_sum = omega (arith, times_components (x * r + j) samples_most)
 
--- ---- the returns
-module _ (first second v r c : ℕ) (apart : Bool) (s : apart ≡ component_repeat first) (k : v ≡ vector_size second) (l : r ≡ repeat_size second)
-    (m : c ≡ component_count first) (at : Coordinates) where
-  apart_is : apart ≡ true → ((at.time * v + at.channel) * c + at.component) * r + at.repeat ≡ item_under first second at
-  unfolding item_number
-  apart_is e = rw (← s, e, k, l, m)
-
-  beside_is : apart ≡ false → ((at.time * v + at.channel) * r + at.repeat) * c + at.component ≡ item_under first second at
-  unfolding item_number
-  beside_is e = rw (← s, e, k, l, m)
-
 pub overflow_mul-before : goal.overflow_mul-before
 overflow_mul-before c = search groups_fit
 
@@ -99,9 +85,6 @@ overflow_mul-result-then-component_repeat c = search (apart_fits, before_most)
 pub overflow_add-result-then-component_repeat : goal.overflow_add-result-then-component_repeat
 overflow_add-result-then-component_repeat c = search (apart_sum, before_most)
 
-pub returns-then-component_repeat : goal.returns-then-component_repeat
-returns-then-component_repeat c = search apart_is
-
 pub overflow_mul-result-2 : goal.overflow_mul-result-2
 overflow_mul-result-2 c = search (samples_fit, before_most)
 
@@ -113,6 +96,3 @@ overflow_mul-result-3 c = search (beside_fits, before_most)
 
 pub overflow_add-result-3 : goal.overflow_add-result-3
 overflow_add-result-3 c = search (beside_sum, before_most)
-
-pub returns : goal.returns
-returns c = search beside_is

@@ -1,5 +1,5 @@
 -- `make` meets its promise: no shift loses a bit (`made_exact`), and the field fits (`made_below`).
-use Rattle.words.proofs.Kit.{ℕ, ◌+◌, ◌-◌, ◌*◌, ◌%◌, ◌^◌, ◌<◌, arith, rules}
+use Rattle.words.proofs.Kit.{ℕ, ◌+◌, ◌-◌, ◌*◌, ◌%◌, ◌^◌, ◌<◌, arith}
 use Rattle.payload_format.specs.declared.inner.Packing.{Packing}
 use Rattle.payload_format.specs.inner.Legal.{Legal}
 use Rattle.payload_format.proofs.FieldLaws.{made_below, made_exact, made_fits, tags_fit}

@@ -1,6 +1,6 @@
 -- `pack_fields` meets its promise: where both tags have size zero, `untagged` says that the fields hold items alone.
 use Rattle.payload_pack.proofs.PackLaws.{untagged}
-use Rattle.words.proofs.Kit.{◌∙◌, rules}
+use Rattle.words.proofs.Kit.{◌∙◌}
 use Rattle.payload_pack.proofs.making.pack_fields.Goals as goal
 
 pub returns-then-p-eq0 : goal.returns-then-p-eq0

@@ -1,7 +1,6 @@
 -- `pack_items` meets its promise. The invariant: k fields are put (`Writing`); `writing_next` carries the turn, `writing_done` the end.
-use Rattle.payload_pack.proofs.WritingLaws.{Writing, writing_start, writing_length, writing_can, writing_last, writing_done, writing_next}
-use Rattle.payload_format.proofs.FieldLaws.{item_alone, item_below, items_blank}
-use Rattle.words.proofs.Kit.{get_or, ◌∙◌, ◌-◌, ◌*◌, ◌^◌, ◌≤◌, arith, rules}
+use Rattle.payload_pack.proofs.WritingLaws.{Writing}
+use Rattle.words.proofs.Kit.{get_or, ◌*◌, ◌^◌}
 use Rattle.payload_pack.proofs.making.pack_items.Given as goal
 
 abbrev pub invariant-loop-k : goal.invariant-loop-k

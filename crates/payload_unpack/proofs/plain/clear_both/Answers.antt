@@ -1,5 +1,4 @@
 -- `clear_both` meets its promise: a turn clears one place more of both.
-use Rattle.words.proofs.Kit.{rules}
 use Rattle.bitstream.proofs.FilledLaws.{fills_turn, fills_all}
 use Rattle.payload_unpack.proofs.plain.clear_both.Goals as goal
 

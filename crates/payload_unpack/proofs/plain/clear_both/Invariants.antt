@@ -1,6 +1,5 @@
 -- `clear_both` meets its promise. The invariant: the first k places of both are filled.
-use Rattle.words.proofs.Kit.{◌-◌, rules}
-use Rattle.bitstream.proofs.FilledLaws.{Fills, fills_none, fills_turn, fills_all}
+use Rattle.bitstream.proofs.FilledLaws.{Fills}
 use Rattle.payload_unpack.proofs.plain.clear_both.Given as goal
 
 abbrev pub invariant-loop-k : goal.invariant-loop-k

@@ -1,5 +1,4 @@
 -- `clear_events` meets its promise: a turn clears one place more.
-use Rattle.words.proofs.Kit.{rules}
 use Rattle.bitstream.proofs.FilledLaws.{fills_turn, fills_all}
 use Rattle.payload_unpack.proofs.plain.clear_events.Goals as goal
 

@@ -1,5 +1,5 @@
 -- `unpack_items` meets its promise: a turn takes the next item (`reading_item`), and leaves the same of the rest (`reading_next`).
-use Rattle.words.proofs.Kit.{◌≡◌, ◌≤◌, ◌<◌, arith, length, take, rules}
+use Rattle.words.proofs.Kit.{◌≤◌, ◌<◌, arith, length, take}
 use Rattle.std.proofs.lemmas.List.{length-take}
 use Rattle.bitstream.proofs.FilledLaws.{fills_none, fills_turn, fills_all, filled_part}
 use Rattle.payload_unpack.proofs.ReadingLaws.{reading_start, item_some, reading_can, reading_item, reading_next}

@@ -1,5 +1,5 @@
 -- `unpack_plain` meets its promise: `plain_words` and `plain_pairs` say what items of 32 and 64 bits without tags are.
-use Rattle.words.proofs.Kit.{ℕ, ◌<◌, ◌^◌, arith, get_or, rules}
+use Rattle.words.proofs.Kit.{ℕ, ◌<◌, ◌^◌, arith, get_or}
 use Rattle.payload_unpack.proofs.UnpackLaws.{words_there, plain_words, pairs_there, plain_pairs}
 use Rattle.payload_unpack.proofs.plain.unpack_plain.Goals as goal
 

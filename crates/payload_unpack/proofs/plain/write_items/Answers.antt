@@ -1,5 +1,4 @@
 -- A turn fills one place more, with what the call gave.
-use Rattle.words.proofs.Kit.{rules}
 use Rattle.bitstream.proofs.FilledLaws.{fills_turn}
 use Rattle.payload_unpack.proofs.plain.write_items.Goals as goal
 

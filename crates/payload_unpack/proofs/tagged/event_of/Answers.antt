@@ -1,5 +1,5 @@
 -- `event_of` meets its promise: at most 7 bits fit the cast.
-use Rattle.words.proofs.Kit.{arith, rules}
+use Rattle.words.proofs.Kit.{arith}
 use lib.Pow.{pow_mono}
 use Rattle.payload_unpack.proofs.tagged.event_of.Goals as goal
 

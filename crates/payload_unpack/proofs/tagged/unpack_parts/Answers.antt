@@ -1,7 +1,6 @@
 -- `unpack_parts` meets its promise. The invariant: k fields are taken (`Reading`), and their parts stand in their places (`Parts`).
-use Rattle.words.proofs.Kit.{◌-◌, rules}
-use Rattle.payload_unpack.proofs.ReadingLaws.{Reading, reading_start, field_can, reading_field, reading_next}
-use Rattle.payload_unpack.proofs.BuffersLaws.{Parts, parts_none, parts_turn, parts_all}
+use Rattle.payload_unpack.proofs.ReadingLaws.{reading_start, field_can, reading_field, reading_next}
+use Rattle.payload_unpack.proofs.BuffersLaws.{parts_none, parts_turn, parts_all}
 use Rattle.payload_unpack.proofs.tagged.unpack_parts.Goals as goal
 
 pub loop-k-init : goal.loop-k-init

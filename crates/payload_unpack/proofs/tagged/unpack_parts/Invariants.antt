@@ -1,8 +1,9 @@
 -- `unpack_parts` meets its promise. The invariant: k fields are taken (`Reading`), and their parts stand in their places (`Parts`).
-use Rattle.words.proofs.Kit.{◌-◌, rules}
-use Rattle.payload_unpack.proofs.ReadingLaws.{Reading, reading_start, field_can, reading_field, reading_next}
-use Rattle.payload_unpack.proofs.BuffersLaws.{Parts, parts_none, parts_turn, parts_all}
+use Rattle.payload_unpack.proofs.ReadingLaws.{Reading}
+use Rattle.payload_unpack.proofs.BuffersLaws.{Parts}
 use Rattle.payload_unpack.proofs.tagged.unpack_parts.Given as goal
 
 abbrev pub invariant-loop-k : goal.invariant-loop-k
-invariant-loop-k l = Parts l.p l.payload 0 l.n l.k l.initial.items l.initial.events l.initial.channels l.items l.events l.channels × Reading l.p.carry l.p.field 0 l.payload l.s l.k
+invariant-loop-k l =
+    Parts l.p l.payload 0 l.n l.k l.initial.items l.initial.events l.initial.channels l.items l.events l.channels
+    × Reading l.p.carry l.p.field 0 l.payload l.s l.k

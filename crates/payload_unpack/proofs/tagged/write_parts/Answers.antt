@@ -1,6 +1,5 @@
 -- A turn writes the parts of one field more.
-use Rattle.words.proofs.Kit.{rules}
-use Rattle.payload_unpack.proofs.BuffersLaws.{parts_start, parts_turn, parts_end}
+use Rattle.payload_unpack.proofs.BuffersLaws.{parts_turn}
 use Rattle.payload_unpack.proofs.tagged.write_parts.Goals as goal
 
 pub loop-k-preserved : goal.loop-k-preserved

@@ -1,4 +1,5 @@
--- `unpack` meets its promise: a refusal of either check is given on (`unpack_asked`, `unpack_unfit`), and what both let through is unpacked (`unpack_accepted`).
+-- `unpack` meets its promise: a refusal of either check is given on (`unpack_asked`, `unpack_unfit`), and what both let through is unpacked
+-- (`unpack_accepted`).
 use Rattle.std.proofs.lemmas.Result.{err_from_is_err_and}
 use Rattle.payload_format.proofs.FormatLaws.{items_legal, items_few}
 use Rattle.payload_unpack.proofs.UnpackLaws.{unpack_asked, unpack_unfit, lent_rightly, unpack_accepted}

@@ -1,5 +1,4 @@
 -- `unpack_fields` meets its promise: no field leaves all as it is (`unpacked_none`), and tags of size zero read as 0 (`unpacked_plain`).
-use Rattle.words.proofs.Kit.{rules}
 use Rattle.payload_unpack.proofs.UnpackLaws.{unpacked_none, unpacked_plain}
 use Rattle.payload_unpack.proofs.unpacking.unpack_fields.Goals as goal
 

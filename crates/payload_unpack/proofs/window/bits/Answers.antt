@@ -1,5 +1,5 @@
 -- `bits` meets its promise: `bits_are` says what a word and the next hold.
-use Rattle.words.proofs.Kit.{ℕ, ◌^◌, ◌<◌, arith, get_or, rules}
+use Rattle.words.proofs.Kit.{ℕ, ◌^◌, ◌<◌, arith, get_or}
 use Rattle.payload_unpack.proofs.WindowLaws.{bits_are}
 use Rattle.payload_unpack.proofs.window.bits.Goals as goal
 

@@ -1,5 +1,5 @@
 -- `bits_wide` meets its promise: `bits_wide_are` says what two words and the next hold.
-use Rattle.words.proofs.Kit.{ℕ, ◌^◌, ◌<◌, arith, get_or, rules}
+use Rattle.words.proofs.Kit.{ℕ, ◌^◌, ◌<◌, arith, get_or}
 use Rattle.payload_unpack.proofs.WindowLaws.{bits_wide_are}
 use Rattle.payload_unpack.proofs.window.bits_wide.Goals as goal
 

@@ -1,5 +1,5 @@
 -- `bits_wide_last` meets its promise, as `bits_wide` does: a word past the last reads as 0.
-use Rattle.words.proofs.Kit.{ℕ, ◌^◌, ◌<◌, arith, get_or, rules}
+use Rattle.words.proofs.Kit.{ℕ, ◌^◌, ◌<◌, arith, get_or}
 use Rattle.payload_unpack.proofs.WindowLaws.{bits_wide_are}
 use Rattle.payload_unpack.proofs.window.bits_wide_last.Goals as goal
 

@@ -1,5 +1,4 @@
 -- `join` meets its promise: two shifts do what one by 32 at most does (`join_is`).
-use borrow.Author.Rules.{rules}
 use Rattle.payload_unpack.proofs.WindowLaws.{join_below, join_is}
 use Rattle.payload_unpack.proofs.window.join.Goals as goal
 

@@ -1,5 +1,4 @@
 -- `join_wide` meets its promise: the bits of the next word fit behind the others (`join_wide_below`).
-use borrow.Author.Rules.{rules}
 use Rattle.payload_unpack.proofs.WindowLaws.{join_wide_below}
 use Rattle.payload_unpack.proofs.window.join_wide.Goals as goal
 

@@ -13,7 +13,8 @@ check_prologue-prologue-requires c = (sized_parts _ _ c.requires.1, sized_whole 
 pub returns-in_default-prologue : goal.returns-in_default-prologue
 returns-in_default-prologue c =
     let r = c.requires in
-    noted_unread _ _ r.0 _ _ (unread_plain _ _ _ r.1 r.2 _ c.in_default.ensures _ (rw c.unwrap_err.ensures at c.check_prologue-prologue.ensures)) c.note_unread.ensures
+    noted_unread _ _ r.0 _ _ (unread_plain _ _ _ r.1 r.2 _ c.in_default.ensures _ (rw c.unwrap_err.ensures at c.check_prologue-prologue.ensures))
+    c.note_unread.ensures
 
 pub returns-in_default : goal.returns-in_default
 returns-in_default c =
@@ -36,7 +37,8 @@ check_prologue-prologue-requires-2 c = (sized_parts _ _ c.requires.1, sized_whol
 pub returns-in_default-prologue-2 : goal.returns-in_default-prologue-2
 returns-in_default-prologue-2 c =
     let r = c.requires in
-    let read = unread_data _ _ _ r.1 r.2 _ c.in-Some.ensures _ c.is_survey.ensures c.if-is_survey.false _ (rw c.unwrap_err-in_default-prologue-2.ensures at c.check_prologue-prologue-2.ensures) in
+    let read = unread_data _ _ _ r.1 r.2 _ c.in-Some.ensures _ c.is_survey.ensures c.if-is_survey.false _
+    (rw c.unwrap_err-in_default-prologue-2.ensures at c.check_prologue-prologue-2.ensures) in
     noted_unread _ _ r.0 _ _ read c.note_unread-in_default-prologue-2.ensures
 
 pub hear_data-missing-requires : goal.hear_data-missing-requires

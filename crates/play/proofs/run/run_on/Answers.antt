@@ -2,7 +2,7 @@
 use Rattle.words.proofs.Kit.{◌≡◌, ◌-◌, ◌/◌, arith, length, rules}
 use Rattle.play.specs.Run.{entry_words, walk_of}
 use Rattle.play.proofs.EntryLaws.{noted_small, unread_small}
-use Rattle.play.proofs.RunLaws.{Running, running_start, running_over, running_full, running_end}
+use Rattle.play.proofs.RunLaws.{Running, running_start, running_over, running_all, running_end}
 use Rattle.play.proofs.RunLaws.{written_long, stopped_placeable, turned, stopped_same, stopped_done}
 use Rattle.play.proofs.run.run_on.Goals as goal
 
@@ -37,4 +37,4 @@ pub loop-n-preserved : goal.loop-n-preserved
 loop-n-preserved c = search turned
 
 pub returns : goal.returns
-returns c = search (running_end, running_full)
+returns c = running_all c.loop-n.invariant.1 c.loop-n-test.false c.loop-n.invariant.0

@@ -10,6 +10,3 @@ abbrev pub invariant-loop-n : goal.invariant-loop-n
 invariant-loop-n l =
     (l.most ≡ length l.initial.answers / entry_words)
     × Running l.most l.recording l.from l.initial.table l.initial.answers l.table l.answers l.n (walk_of (l.most - l.n) l.recording l.at l.table)
-
-abbrev pub decreases-loop-n : goal.decreases-loop-n
-decreases-loop-n l = l.most - l.n

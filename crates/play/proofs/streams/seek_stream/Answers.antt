@@ -1,5 +1,5 @@
 -- `seek_stream` meets its promise. The invariant `Seeking` says that none of the identifiers passed is the one looked for; its laws carry the turn.
-use Rattle.words.proofs.Kit.{◌-◌, rules}
+use Rattle.words.proofs.Kit.{arith, rules}
 use Rattle.play.proofs.StreamLaws.{table_there, table_few, Seeking, seeking_start, seeking_small, seeking_inside, seeking_found}
 use Rattle.play.proofs.StreamLaws.{seeking_turn, seeking_none}
 use Rattle.play.proofs.streams.seek_stream.Goals as goal
@@ -7,11 +7,8 @@ use Rattle.play.proofs.streams.seek_stream.Goals as goal
 pub bounds-table-0 : goal.bounds-table-0
 bounds-table-0 c = search table_there
 
-pub overflow_cast-n : goal.overflow_cast-n
-overflow_cast-n c = search table_few
-
-pub loop-identifier-init : goal.loop-identifier-init
-loop-identifier-init c = search seeking_start
+pub loop-s-init : goal.loop-s-init
+loop-s-init c = search seeking_start
 
 pub record_at-requires : goal.record_at-requires
 record_at-requires c = search seeking_small
@@ -22,8 +19,8 @@ bounds-table-record_at c = search seeking_inside
 pub returns-then-table-record_at : goal.returns-then-table-record_at
 returns-then-table-record_at c = search seeking_found
 
-pub returns-then-s-n : goal.returns-then-s-n
-returns-then-s-n c = search seeking_none
+pub loop-s-preserved : goal.loop-s-preserved
+loop-s-preserved c = search seeking_turn
 
-pub loop-identifier-preserved : goal.loop-identifier-preserved
-loop-identifier-preserved c = search seeking_turn
+pub returns : goal.returns
+returns c = seeking_none _ _ _ c.loop-s.invariant (omega arith)

@@ -9,7 +9,5 @@ use Rattle.vrt49.proofs.ColumnLaws.{shown_to, shown_all, columns_none}
 use Rattle.vrt49.proofs.readings.columns_of.Given as goal
 
 abbrev pub invariant-loop-part : goal.invariant-loop-part
-invariant-loop-part l = ((l.kinds, l.parts, l.hertz, l.first, l.second) ≡ readings_values (shown_to (7 * l.part) (record_at l.stream l.table))) × (l.slot ≡ slot_at (30 - 7 * l.part))
-
-abbrev pub decreases-loop-part : goal.decreases-loop-part
-decreases-loop-part l = 3 - l.part
+invariant-loop-part l = ((l.kinds, l.parts, l.hertz, l.first, l.second) ≡ readings_values (shown_to (7 * l.part) (record_at l.stream l.table))) ×
+    (l.slot ≡ slot_at (30 - 7 * l.part))

@@ -13,7 +13,7 @@ use Rattle.vrt49.proofs.readings.rows_of.Goals as goal
 
 pub loop-i-init : goal.loop-i-init
 loop-i-init c =
-    (c.requires.4, c.requires.3, omega arith)
+    (c.requires.4, c.requires.3)
 
 pub overflow_add-next : goal.overflow_add-next
 overflow_add-next c =
@@ -27,7 +27,6 @@ loop-i-preserved c =
           c.numbers_of-v.result _ inside c.loop-i.invariant.0 c.show_at.ensures c.numbers_of-v.ensures
           (to_z-of_z {w = w64} (search rules)),
       search (slot_along_next, inside),
-      omega arith,
     )
 
 pub returns : goal.returns

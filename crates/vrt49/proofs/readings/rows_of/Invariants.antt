@@ -12,7 +12,5 @@ use Rattle.vrt49.proofs.ColumnLaws.{shown_to, columns_turn}
 use Rattle.vrt49.proofs.readings.rows_of.Given as goal
 
 abbrev pub invariant-loop-i : goal.invariant-loop-i
-invariant-loop-i l = ((l.kinds, l.parts, l.hertz, l.first, l.second) ≡ readings_values (shown_to l.i (record_at l.stream l.table))) × (l.next ≡ slot_at (30 - l.i)) × (l.i ≤ l.past)
-
-abbrev pub decreases-loop-i : goal.decreases-loop-i
-decreases-loop-i l = l.past - l.i
+invariant-loop-i l = ((l.kinds, l.parts, l.hertz, l.first, l.second) ≡ readings_values (shown_to l.i (record_at l.stream l.table))) ×
+    (l.next ≡ slot_at (30 - l.i))

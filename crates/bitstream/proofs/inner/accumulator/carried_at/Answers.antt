@@ -1,5 +1,5 @@
 -- `carried_at` meets its promise: a word is below 2 ^ 32, so the bits that it carries are below 2 ^ c (`carried_below`).
-use Rattle.words.proofs.Kit.{refl, rules}
+use Rattle.words.proofs.Kit.{refl}
 use Rattle.bitstream.specs.Carried.{stream_bits}
 use Rattle.bitstream.proofs.CarriedLaws.{carried_below}
 use Rattle.bitstream.proofs.inner.accumulator.carried_at.Goals as goal

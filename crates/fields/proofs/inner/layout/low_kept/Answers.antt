@@ -1,5 +1,5 @@
--- `low_kept` meets its promise. The invariant `Walking` says what is left: the fields of the bits that are left, the first of the words that are left, decide; its
--- laws carry the turn.
+-- `low_kept` meets its promise. The invariant `Walking` says what is left: the fields of the bits that are left, the first of the words that are left, decide;
+-- its laws carry the turn.
 use Rattle.fields.proofs.WalkLaws.{walking_start, walking_bit, walking_turn, walking_broken, walking_end}
 use Rattle.fields.proofs.inner.layout.low_kept.Goals as goal
 

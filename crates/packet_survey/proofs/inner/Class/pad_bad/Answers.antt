@@ -29,12 +29,14 @@ pub payload_whole-requires : goal.payload_whole-requires
 payload_whole-requires c = (class_low_lem c.args.self.high c.args.self.low (sym c.if-class_known.ensures), c.requires)
 
 pub returns-then-class_known : goal.returns-then-class_known
-returns-then-class_known c = payload_asked _ _ _ _ _ c.if-classed.true c.if-trailed.true (sym c.if-class_known.ensures) c.payload_whole.result c.payload_whole.ensures
+returns-then-class_known c =
+    payload_asked _ _ _ _ _ c.if-classed.true c.if-trailed.true (sym c.if-class_known.ensures) c.payload_whole.result c.payload_whole.ensures
 
 pub returns : goal.returns
 returns c =
     elim c.else-classed.branch [
-      | else-classed-via-then-classed+then-trailed+else-class_known w ↦ no_table _ _ _ _ _ w.if-classed.true w.if-trailed.true (sym w.class_known.ensures ∙ w.if-class_known.false)
+      | else-classed-via-then-classed+then-trailed+else-class_known w ↦
+          no_table _ _ _ _ _ w.if-classed.true w.if-trailed.true (sym w.class_known.ensures ∙ w.if-class_known.false)
       | else-classed-via-then-classed+else-trailed w ↦ no_trailer _ _ _ _ _ w.if-classed.true w.if-trailed.false
       | else-classed-via-else-classed w ↦ no_class _ _ _ _ _ w.if-classed.false
     ]

@@ -1,7 +1,7 @@
 -- `slot_good` meets its promise: the slot is lent to the test that its held bit asks for.
 use Rattle.words.proofs.Kit.{arith, rules}
 use Rattle.record.proofs.SlotLaws.{slotted_high}
-use Rattle.record.proofs.GoodLaws.{slot_end, slot_fits, slot_bytes, slot_there, slot_ruled_lem, slot_zeroed}
+use Rattle.record.proofs.GoodLaws.{slot_end, slot_fits, slot_bytes, slot_there, slot_few, slot_ruled_lem, slot_zeroed}
 use Rattle.record.proofs.inner.good.slot_good.Goals as goal
 
 pub overflow_add-end : goal.overflow_add-end
@@ -24,6 +24,9 @@ offset_bounds-rec-at-else-held-bit-eq1 c = search slot_bytes
 
 pub slice_bounds-slot_zero-end : goal.slice_bounds-slot_zero-end
 slice_bounds-slot_zero-end c = search slot_end
+
+pub slot_zero-requires : goal.slot_zero-requires
+slot_zero-requires c = search slot_few
 
 pub returns-then-held-bit-eq1 : goal.returns-then-held-bit-eq1
 returns-then-held-bit-eq1 c = search slot_ruled_lem

@@ -1,5 +1,5 @@
 -- `push` meets its promise: `pushed_more` where no word is filled, and else `pushed_word`.
-use Rattle.words.proofs.Kit.{◌<◌, arith, length, rules}
+use Rattle.words.proofs.Kit.{◌<◌, arith, length}
 use Rattle.bitstream.proofs.WriteLaws.{joint_below, place_there, pushed_more, pushed_word}
 use Rattle.bitstream.proofs.inner.accumulator.Accumulator.push.Goals.{Else-have-c}
 use Rattle.bitstream.proofs.inner.accumulator.Accumulator.push.Goals as goal

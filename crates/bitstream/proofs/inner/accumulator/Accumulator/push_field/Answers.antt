@@ -1,6 +1,5 @@
 -- `push_field` meets its promise: one `push`, or two that `pushed_wide` joins.
 use Rattle.bitstream.proofs.WriteLaws.{narrow_pushable, front_pushable, back_pushable, pushed_wide}
-use borrow.Author.Rules.{rules}
 use Rattle.bitstream.proofs.inner.accumulator.Accumulator.push_field.Goals as goal
 
 pub push-requires : goal.push-requires

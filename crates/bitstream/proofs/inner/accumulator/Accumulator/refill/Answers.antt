@@ -1,5 +1,5 @@
 -- `refill` meets its promise: what is counted serves (`refilled_same`), or `refilled` says what a word more gives.
-use Rattle.words.proofs.Kit.{◌<◌, arith, length, rules}
+use Rattle.words.proofs.Kit.{◌<◌, arith, length}
 use Rattle.bitstream.proofs.ReadLaws.{next_there, refill_below, refilled, refilled_same}
 use Rattle.bitstream.proofs.inner.accumulator.Accumulator.refill.Goals as goal
 

@@ -1,7 +1,0 @@
--- `read_at` meets its promise: the record of the stream is lent to `read_record`.
-use Rattle.panel.proofs.ReadingLaws.{read_lent}
-use borrow.Author.Rules.{rules}
-use Rattle.panel.proofs.records.read_at.Goals as goal
-
-pub returns : goal.returns
-returns c = search read_lent
