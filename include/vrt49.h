@@ -17,8 +17,8 @@
 
    Calls are reentrant: nothing is kept between them, nothing is shared, and nothing is allocated;
    threads may call at once, where none writes what another has handed over.
-   The stack that a call takes is fixed: 12824 bytes for vrt49_jump and 12168 for vrt49_grow, which
-   hold a table of 32 streams, 536 for vrt49_put_back, and less than 500 for every other (`make
+   The stack that a call takes is fixed: 12800 bytes for vrt49_jump and 12072 for vrt49_grow, which
+   hold a table of 32 streams, 512 for vrt49_put_back, and less than 400 for every other (`make
    stack`). memcpy, memmove and memset are all that is asked of the C library.
 
    What a call costs in S, the number of streams: vrt49_play, vrt49_well_made, vrt49_page_length,
