@@ -35,6 +35,7 @@ unfolding read_by read_survey_of read_told survey_told play_told where_of pad_fi
     grow_told jump_of reading_of pack_of unpack_of signed_of coordinates_of item_of context_of needed_of trailer_word_of run_of length_of readings_of
     held_words_of identity_of type_counts_of own_table_of changed_of
 in_order_lem = record {
+  listed = refl;
   read = λ ws. record { order = refl; first = told_first (where_of ws) (read_list (get_or ws 0 0) ws) _ };
   write = λ p body out at. record { order = refl; first = refl };
   read_survey = λ ws. record { order = refl; first = told_first (where_of ws) (list_by true (get_or ws 0 0) ws) _ };

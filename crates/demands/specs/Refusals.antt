@@ -1,8 +1,11 @@
 -- Document 01, 'Numbers given back': "The first that applies is given, in these orders." For each call the numbers in the document's order, and that the call
 -- gives the first of its list that applies. The list of a call, each number with the test that says when it is given, stands with the call's definition.
-use Rattle.std.specs.Prelude.{◌≡◌, ℕ, true, List, [], ◌∷◌, ◌++◌, length, get_or, drop}
+use Rattle.std.specs.Prelude.{◌≡◌, ℕ, true, List, [], ◌∷◌, ◌++◌, length, get_or, drop, map}
 use Rattle.words.specs.Numbers.{TYPE, SHORT, TIME, INDICATOR, LAYOUT, FIELD}
 use Rattle.words.specs.Numbers.{STREAM, LIST, ROOM, VALUE, SIZE, FORMAT, COUNT, TABLE, PAGE, PAD, PLACE}
+use Rattle.words.specs.declared.refusals.Refusal.{Refusal}
+use Rattle.words.specs.declared.refusals.Refusal.TheVariants as refusals
+use Rattle.words.specs.Listed.{list_number}
 use Rattle.words.specs.Word.{join}
 use Rattle.words.specs.Outcome.{Reply, accepted}
 use Rattle.words.specs.Refusals.{RefusalsOf, first_given, given_in}
@@ -59,8 +62,18 @@ write_order = TYPE ∷ VALUE ∷ SHORT ∷ SIZE ∷ TIME ∷ INDICATOR ∷ LAYOU
 abbrev pub write_survey_order : List ℕ
 write_survey_order = TYPE ∷ VALUE ∷ SHORT ∷ SIZE ∷ TIME ∷ INDICATOR ∷ LAYOUT ∷ FIELD ∷ PAD ∷ ROOM ∷ []
 
+-- the refusals of code, in the order of document 01's table 'Numbers given back' (TYPE is `Kind` there), and then those that document 02 adds
+abbrev pub every_refusal : List Refusal
+every_refusal =
+    refusals.Empty ∷ refusals.Kind ∷ refusals.Bits ∷ refusals.Short ∷ refusals.Cut ∷ refusals.Class ∷ refusals.Time ∷ refusals.Indicator ∷ refusals.Layout
+    ∷ refusals.Field ∷ refusals.Stream ∷ refusals.List ∷ refusals.Room ∷ refusals.Value ∷ refusals.Size ∷ refusals.Format ∷ refusals.Count ∷ refusals.Table
+    ∷ refusals.Page ∷ refusals.Pad ∷ refusals.Place ∷ []
+
 -- of the public calls, those that are not here never refuse
 pub record InOrder : Type 0 where
+  -- their numbers, as both documents print them
+  pub listed : map list_number every_refusal
+      ≡ 1 ∷ 2 ∷ 3 ∷ 4 ∷ 5 ∷ 6 ∷ 7 ∷ 8 ∷ 9 ∷ 10 ∷ 11 ∷ 12 ∷ 13 ∷ 14 ∷ 15 ∷ 16 ∷ 17 ∷ 18 ∷ 19 ∷ 20 ∷ 21 ∷ []
   -- "Read: 1 to 10 as listed"; document 02, C-15: each with its place
   pub read : (ws : List ℕ) → let w = get_or ws 0 0 in Ordered (read_told ws) (read_given w ws) (told_list (where_of ws) (read_list w ws)) (packet_of w ws)
   pub write : (p : Parts) (body out : List ℕ) (at : ℕ)
