@@ -1,4 +1,6 @@
 // A line that is gathered in a buffer and written at once. A buffer that is full is written, and the line goes on from its front.
+ghost use Rattle.std.specs.Prelude.{◌≡◌, []};
+
 use arrayvec::ArrayVec;
 use std::io;
 use std::io::Write;
@@ -12,7 +14,9 @@ pub struct Line<'a, W> {
 
 impl<'a, W: Write> Line<'a, W> {
     // A line with nothing on it.
-    pub fn new(output: &'a mut W) -> Line<'a, W> {
+    pub fn new(output: &'a mut W) -> Line<'a, W>
+        ensures { result.bytes.items ≡ [] }
+    {
         Line {
             output,
             bytes: ArrayVec::new(),

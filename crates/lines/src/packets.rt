@@ -3,12 +3,11 @@ use crate::output::{named, named_flag, text};
 use packet::{Packet, Parts, Survey};
 use std::io;
 use std::io::Write;
-use words::{RefusedAt, Where};
+use words::Where;
 
 // Writes a refusal: its number, and the word and the field's bit where they are told.
-pub fn show_refusal(output: &mut impl Write, r: RefusedAt) -> io::Result<()> {
-    named(output, b"refused", u32::from(r.refusal) as u64)?;
-    let place = r.place;
+pub fn show_refusal(output: &mut impl Write, number: u32, place: Where) -> io::Result<()> {
+    named(output, b"refused", number as u64)?;
     match place {
         Where::Nowhere => Ok(()),
         Where::Word(at) => named(output, b"place", at as u64),

@@ -33,7 +33,7 @@ fn broken_at(w: u32, ws: &[u32]) -> Where
 }
 
 // Where the words are refused; with FIELD, of a packet whose header and size are right.
-pub fn where_of(refusal: Refusal, ws: &[u32]) -> Where
+pub fn where_refused(refusal: Refusal, ws: &[u32]) -> Where
     requires { FieldFits (list_number refusal) ws.now }
     ensures { result ≡ where_of ws.now (list_number refusal) }
 {
@@ -63,6 +63,17 @@ pub fn where_of(refusal: Refusal, ws: &[u32]) -> Where
     }
 }
 
+// Where the words are refused with a number; with FIELD, of a packet whose header and size are right. A number that is not in the list has no place.
+pub fn where_of(number: u32, ws: &[u32]) -> Where
+    requires { FieldFits number ws.now }
+    ensures { result ≡ where_of ws.now number }
+{
+    match Refusal::try_from(number) {
+        Ok(refusal) => where_refused(refusal, ws),
+        Err(_) => Where::Nowhere,
+    }
+}
+
 // The refusal of the words, and where.
 pub fn refusal_of(refusal: Refusal, ws: &[u32]) -> RefusedAt
     requires { FieldFits (list_number refusal) ws.now }
@@ -70,6 +81,6 @@ pub fn refusal_of(refusal: Refusal, ws: &[u32]) -> RefusedAt
 {
     RefusedAt {
         refusal,
-        place: where_of(refusal, ws),
+        place: where_refused(refusal, ws),
     }
 }

@@ -8,8 +8,7 @@ ghost use Rattle.words.specs.Listed.{list_number};
 ghost use Rattle.words.specs.Outcome.{accepted};
 ghost use Rattle.words.specs.Told.{told_paper};
 ghost use Rattle.packet.specs.Header.{type_of, size_of};
-ghost use Rattle.packet.specs.Told.{where_of};
-ghost use Rattle.packet.specs.inner.Steps.{FieldFits, Placeable};
+ghost use Rattle.packet.specs.inner.Steps.{Placeable};
 ghost use Rattle.table.specs.Well.{well_made};
 ghost use Rattle.play.specs.inner.Entered.{Sized, sought_in, chosen_at, Noted, Sayable, said_by, unread_note, unread_entry, undeclared_entry};
 
@@ -116,23 +115,12 @@ fn enter_context(table: &mut [u32], given: &[u32], w: u32) -> Entry
     entry_heard(w, s, missing)
 }
 
-// Where words are refused with a number.
-fn where_numbered(number: u32, given: &[u32]) -> Where
-    requires { FieldFits number given.now }
-    ensures { result ≡ where_of given.now number }
-{
-    match Refusal::try_from(number) {
-        Ok(refusal) => packet::inner::where_of(refusal, given),
-        Err(_) => Where::Nowhere,
-    }
-}
-
 // The entry of words that reading refuses with a number: the number, and where. It is made once, where a run ends, and so away from the packets that are heard.
 pub fn entry_unread(number: u32, given: &[u32]) -> Entry
     requires { Placeable number given.now }
     ensures { result ≡ unread_entry number given.now }
 {
-    let place = where_numbered(number, given);
+    let place = packet::inner::where_of(number, given);
     Entry {
         number,
         size: 0,

@@ -42,7 +42,7 @@ fn show_played(
             lines::inner::named(output, b"missing", h.missing as u64)?;
             lines::inner::named(output, b"size", h.size as u64)?;
         }
-        Err(r) => lines::inner::show_refusal(output, r)?,
+        Err(r) => lines::inner::show_refusal(output, u32::from(r.refusal), r.place)?,
     }
     lines::inner::text(output, b"\n")
 }

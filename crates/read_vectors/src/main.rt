@@ -43,7 +43,7 @@ fn show_context(output: &mut impl Write, p: Packet, ws: &[u32]) -> io::Result<()
 
 // The line of a refusal.
 fn show_refused(output: &mut impl Write, r: words::RefusedAt) -> io::Result<()> {
-    lines::inner::show_refusal(output, r)?;
+    lines::inner::show_refusal(output, u32::from(r.refusal), r.place)?;
     lines::inner::text(output, b"\n")
 }
 

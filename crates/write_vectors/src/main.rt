@@ -205,7 +205,7 @@ fn write_again(
 
 // The line of words that reading refuses.
 fn show_unread(output: &mut impl Write, r: words::RefusedAt) -> io::Result<()> {
-    lines::inner::show_refusal(output, r)?;
+    lines::inner::show_refusal(output, u32::from(r.refusal), r.place)?;
     lines::inner::text(output, b"\n")
 }
 
